@@ -3,8 +3,7 @@ ghost use Rattle.std.specs.Prelude.{◌≡◌, filter};
 ghost use Rattle.std.specs.Iterator.{YieldsFirstRef, item_count};
 ghost use Rattle.farm_pick.specs.Test.{passes, is_candidate};
 
-use crate::fit;
-use crate::free::Free;
+use crate::fit::{self, Free};
 use farm_types::{BoardRow, TypeRow, Want};
 use std::marker::Model;
 

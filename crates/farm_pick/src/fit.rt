@@ -6,8 +6,16 @@ ghost use Rattle.farm_types.specs.Words.{name_tag};
 ghost use Rattle.farm_types.specs.Pick.{fits, check_of, serves, is_free};
 ghost use Rattle.farm_pick.specs.Test.{carries, passes, is_candidate};
 
-use crate::free::Free;
 use farm_types::{BoardRow, Check, Health, Holder, Name, Tag, TypeRow, Want};
+
+/// Which boards may be picked.
+#[derive(Clone, Copy, PartialEq, Eq)]
+pub enum Free {
+    /// Those that serve and that nobody holds.
+    ServingIdle,
+    /// Those that are not Retired, whoever holds them.
+    NotRetired,
+}
 
 fn is_of_kind(board: &BoardRow, kind: &Option<Name>) -> bool
     ensures { result ≡ option_map_or (λ k. bytes_eq board.now.kind k) kind.now true }

@@ -61,11 +61,8 @@ pub fn take_row(rows: &mut VecDeque<IdleRow>, name: &Name)
     requires { IsStrictlySortedBy idle_cmp rows.old.items }
     ensures { rows.new.items ≡ filter (λ r. not (bytes_eq r.name name.now)) rows.old.items }
 {
-    match row_at(rows, name) {
-        Ok(at) => {
-            let _row = rows.remove(at);
-        }
-        Err(_gap) => {}
+    if let Ok(at) = row_at(rows, name) {
+        let _row = rows.remove(at);
     }
 }
 
@@ -74,11 +71,4 @@ pub fn is_open(rows: &VecDeque<IdleRow>, queue: usize) -> bool
     ensures { result ≡ queue_open rows.now.items queue }
 {
     rows.iter().any(|row| queue == 0 || row.queue == queue)
-}
-
-/// Whether a board's type is that of a queue; 0 stands for any.
-pub fn is_in(row: &IdleRow, queue: usize) -> bool
-    ensures { result ≡ ((queue == 0) || (row.now.queue == queue)) }
-{
-    queue == 0 || row.queue == queue
 }

@@ -12,9 +12,9 @@ ghost use Rattle.farm_pick.specs.Kept.{AreIdle, shown_idle};
 ghost use Rattle.farm_pick.specs.Least.{boards_at};
 ghost use Rattle.farm_pick.specs.Queued.{idle_board};
 
-use crate::idle::{self, IdleRow};
+use crate::idle::IdleRow;
 use crate::picked::Picked;
-use crate::{choose, fit, kind};
+use crate::{fit, kind, search};
 use farm_sound::seek;
 use farm_types::{BoardRow, Name, TypeRow, Want};
 use std::collections::VecDeque;
@@ -60,7 +60,7 @@ fn fitting_place(
     ensures none { IfNone result (((queue == 0) || (row.now.queue == queue)) ≡ true
         → (p : ℕ) → named_at boards.now row.now.name want.now p ≡ false) }
 {
-    if !idle::is_in(row, queue) {
+    if queue != 0 && row.queue != queue {
         return None;
     }
     let place = place_of(boards, &row.name, *behind)?;
@@ -101,9 +101,8 @@ fn shortlist(
         if found.len() >= limit {
             break;
         }
-        match fitting_place(&rows[at], queue, boards, want, &mut behind) {
-            Some(place) => found = found.with(place),
-            None => {}
+        if let Some(place) = fitting_place(&rows[at], queue, boards, want, &mut behind) {
+            found = found.with(place);
         }
     }
     found
@@ -137,5 +136,5 @@ pub fn least_of(
         }
         lists[i] = places;
     }
-    choose::choose(&lists[..wants.len()], Picked::new())
+    search::choose(&lists[..wants.len()], Picked::new())
 }

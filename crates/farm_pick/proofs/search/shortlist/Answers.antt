@@ -2,8 +2,8 @@ use Rattle.std.proofs.Common.{arith, ◌<◌, ◌∙◌, length, sym}
 use Rattle.farm_pick.specs.Test.{passes}
 use Rattle.farm_pick.proofs.Choices.{shortlist_with, shortlist_past, shortlist_full, shortlist_whole}
 use Rattle.farm_pick.proofs.Places.{candidate_is, candidate_within}
-use Rattle.farm_pick.proofs.choose.shortlist.Goals as goal
-use Rattle.farm_pick.proofs.choose.shortlist.Goals.{then-is_candidate, else-is_candidate}
+use Rattle.farm_pick.proofs.search.shortlist.Goals as goal
+use Rattle.farm_pick.proofs.search.shortlist.Goals.{then-is_candidate, else-is_candidate}
 
 pub loop-place-preserved : goal.loop-place-preserved
 loop-place-preserved c =

@@ -1,7 +1,7 @@
 use Rattle.farm_pick.specs.Test.{passes}
 use Rattle.farm_pick.specs.Choice.{candidate_at}
 use Rattle.farm_pick.proofs.Choices.{IsShortlistBelow}
-use Rattle.farm_pick.proofs.choose.shortlist.Given as goal
+use Rattle.farm_pick.proofs.search.shortlist.Given as goal
 
 -- the places that were looked at have their short list
 abbrev pub invariant-loop-place : goal.invariant-loop-place

@@ -1,7 +1,7 @@
 use Rattle.std.proofs.Common.{rules, arith, ◌≡◌, ℕ, List, ◌∷◌, get_or, false, ◌∙◌, ap, sym}
 use Rattle.farm_pick.specs.Choice.{has}
 use Rattle.farm_pick.proofs.Choices.{found_from, none_from}
-use Rattle.farm_pick.proofs.choose.+choose.Goals as goal
+use Rattle.farm_pick.proofs.search.+choose.Goals as goal
 
 pub returns-in-Some-choose-clause-found : goal.returns-in-Some-choose-clause-found
 returns-in-Some-choose-clause-found t c =
