@@ -1,6 +1,6 @@
 //! The claims of the queues, lent one after the other: the first one of each queue, or all in the
 //! order of the whole queue.
-ghost use Rattle.std.specs.Prelude.{◌≡◌, ◌≤◌, ◌+◌, IfOk, length, option_map};
+ghost use Rattle.std.specs.Prelude.{◌≡◌, ◌≤◌, ◌||◌, ◌+◌, IfOk, length, option_map};
 ghost use Rattle.std.specs.Iterator.{YieldsFirstRef, item_count};
 ghost use Rattle.std.specs.Option.{option_copied};
 ghost use Rattle.farm_pick.specs.Heads.{AreHeads, head_in, queue_open};
@@ -36,24 +36,23 @@ fn step<'a>(mut rest: Range<'a, Spot, Claim>, queue: usize) -> Option<Cursor<'a>
 }
 
 /// Where a walk begins in the queue of a spot: at its first claim after the spot.
-pub fn cursor_after<'a>(claims: &'a BTreeMap<Spot, Claim>, last: Spot) -> Option<Cursor<'a>>
+fn cursor_after<'a>(claims: &'a BTreeMap<Spot, Claim>, last: Spot) -> Option<Cursor<'a>>
     ensures { StandsIn claims.now.entries last result }
 {
-    step(
-        claims.range((Bound::Excluded(last), Bound::Unbounded)),
-        last.queue,
-    )
+    let behind = claims.range((Bound::Excluded(last), Bound::Unbounded));
+    step(behind, last.queue)
 }
 
-/// Where a walk begins in the queue of a spot: in a closed one at no claim.
-fn open_cursor(kept: &Kept, last: Spot) -> Option<Cursor<'_>>
-    ensures { IsCursor kept.now.claims.entries (queue_open kept.now.idle.items) last result }
+/// Where a walk begins in the queue of a spot: in a closed one at no claim, unless all are asked
+/// for.
+fn open_cursor(kept: &Kept, last: Spot, all: bool) -> Option<Cursor<'_>>
+    ensures { IsCursor kept.now.claims.entries
+        (λ q. all || queue_open kept.now.idle.items q) last result }
 {
-    if idle::is_open(&kept.idle, last.queue) {
-        cursor_after(&kept.claims, last)
-    } else {
-        None
+    if !all && !idle::is_open(&kept.idle, last.queue) {
+        return None;
     }
+    cursor_after(&kept.claims, last)
 }
 
 /// Where a walk begins in each queue.
@@ -63,7 +62,7 @@ pub fn cursors_after(kept: &Kept, last: Spot) -> Result<Vec<Option<Cursor<'_>>>,
 {
     let mut cursors = Vec::with_capacity(*kept.kinds.allocator(), kept.kinds.len() + 1)?;
     for queue in 0..kept.kinds.len() + 1 {
-        let cursor = open_cursor(kept, Spot { queue, ..last });
+        let cursor = open_cursor(kept, Spot { queue, ..last }, false);
         cursors.push(cursor)?;
     }
     Ok(cursors)
@@ -151,10 +150,7 @@ fn seen_head(kept: &Kept, last: Spot, all: bool) -> Option<&Claim>
     ensures { option_copied result ≡ head_in kept.now.kinds.items kept.now.claims.entries
         kept.now.idle.items all last }
 {
-    if !all && !idle::is_open(&kept.idle, last.queue) {
-        return None;
-    }
-    let cursor = cursor_after(&kept.claims, last)?;
+    let cursor = open_cursor(kept, last, all)?;
     Some(cursor.claim)
 }
 

@@ -1,4 +1,3 @@
-use Rattle.std.proofs.Common.{refl}
 use Rattle.farm_pick.specs.Heads.{last_spot}
 use Rattle.farm_pick.proofs.Headed.{heads_of_well, heads_seen}
 use Rattle.farm_pick.proofs.queues.Queues.heads.Goals as goal
@@ -10,4 +9,4 @@ invariant_of-result c =
 pub returns : goal.returns
 returns c =
     heads_seen c.self.inside.kept.kinds.items c.self.inside.kept.claims.entries c.self.inside.kept.places.entries c.self.inside.kept.idle.items c.self.invariant.well c.args.all c.args.self.now c.self.view_is
-    c.last_spot.result (last_spot c.args.after) c.last_spot.ensures c.self.inside.kept.kinds.items refl c.self.inside.kept.idle.items refl _ refl
+    c.last_spot.result (last_spot c.args.after) c.last_spot.ensures
