@@ -55,9 +55,6 @@ pub fn asked_queue(kinds: &[Name], kind: &Option<Name>) -> usize
 {
     match kind {
         None => 0,
-        Some(kind) => match place_of(kinds, kind) {
-            Some(at) => at + 1,
-            None => kinds.len() + 1,
-        },
+        Some(kind) => place_of(kinds, kind).unwrap_or(kinds.len()) + 1,
     }
 }

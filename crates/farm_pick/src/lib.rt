@@ -7,10 +7,8 @@
 //! kept, Heads, how their first claims are found, Walked, how all are lent in order, and Fitting.
 #![tactic(auto)]
 
-mod candidates;
 mod fit;
 mod idle;
-mod idle_search;
 mod kept;
 mod kind;
 mod laws;
@@ -22,8 +20,7 @@ mod spot;
 mod walk;
 
 // The least list: which boards are given to a claim.
-pub use candidates::Candidates;
-pub use fit::{Free, carries_all, is_free};
+pub use fit::{Candidates, Free, carries_all, is_free};
 pub use picked::Picked;
 pub use search::{least, least_of};
 

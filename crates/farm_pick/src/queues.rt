@@ -17,10 +17,10 @@ ghost use Rattle.farm_pick.specs.Kept.{queued_cmp, named_cmp};
 
 use crate::idle::{self, IdleRow};
 use crate::kept::{self, Kept};
+use crate::kind;
 use crate::picked::Picked;
 use crate::spot::{self, Spot};
 use crate::walk::{self, Heads, Walk};
-use crate::{idle_search, kind};
 use farm_types::{BoardRow, Claim, Name, Priority, TypeRow, Want, Wants};
 use std::alloc::{AllocError, Global};
 use std::collections::{BTreeMap, BTreeSet, VecDeque};
@@ -224,7 +224,7 @@ impl Queues {
         ensures within { IfSome result (λ places. All (λ i. i < length boards.now) places) }
         ensures different { IfSome result (λ places. AllPairs (λ i j. i ≢ j) places) }
     {
-        idle_search::least_of(&self.kept.kinds, &self.kept.idle, boards, types, wants)
+        idle::least_of(&self.kept.kinds, &self.kept.idle, boards, types, wants)
     }
 
     /// The places of the least list of free boards that meets the wants, at the cost of `least_of`.

@@ -1,8 +1,8 @@
 use Rattle.std.proofs.Common.{arith}
 use Rattle.farm_types.specs.Pick.{is_free}
 use Rattle.farm_pick.proofs.Listed.{listed_full, listed_past, listed_whole, listed_with}
-use Rattle.farm_pick.proofs.idle_search.shortlist.Goals as goal
-use Rattle.farm_pick.proofs.idle_search.shortlist.Goals.{in-Some, in_default}
+use Rattle.farm_pick.proofs.idle.shortlist.Goals as goal
+use Rattle.farm_pick.proofs.idle.shortlist.Goals.{in-Some, in_default}
 
 pub loop-at-preserved : goal.loop-at-preserved
 loop-at-preserved c =

@@ -2,7 +2,7 @@ use Rattle.std.proofs.Common.{◌∙◌, sym, ap, arith}
 use Rattle.std.specs.Str.{bytes_eq}
 use Rattle.farm_types.specs.declared.rows.BoardRow.{BoardRow}
 use Rattle.farm_pick.proofs.Listed.{named_found, named_near}
-use Rattle.farm_pick.proofs.idle_search.place_of.Goals as goal
+use Rattle.farm_pick.proofs.idle.place_of.Goals as goal
 
 pub returns-then-is-clause-found : goal.returns-then-is-clause-found
 returns-then-is-clause-found c =

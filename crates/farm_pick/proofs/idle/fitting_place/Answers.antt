@@ -1,6 +1,6 @@
 use Rattle.std.proofs.Common.{◌∙◌, sym}
 use Rattle.farm_pick.proofs.Listed.{named_here, none_fits, none_named}
-use Rattle.farm_pick.proofs.idle_search.fitting_place.Goals as goal
+use Rattle.farm_pick.proofs.idle.fitting_place.Goals as goal
 
 pub returns-then-fits-clause-found : goal.returns-then-fits-clause-found
 returns-then-fits-clause-found c =

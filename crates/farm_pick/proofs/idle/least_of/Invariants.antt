@@ -1,7 +1,7 @@
 use Rattle.std.proofs.Common.{◌≡◌, length, take}
 use Rattle.farm_types.specs.Pick.{is_free}
 use Rattle.farm_pick.proofs.Answering.{AreShortlists, candidate_by, lent}
-use Rattle.farm_pick.proofs.idle_search.least_of.Given as goal
+use Rattle.farm_pick.proofs.idle.least_of.Given as goal
 
 -- the wants so far have their short lists
 abbrev pub invariant-loop-i : goal.invariant-loop-i

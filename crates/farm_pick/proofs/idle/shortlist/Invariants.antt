@@ -1,6 +1,6 @@
 use Rattle.farm_types.specs.Pick.{is_free}
 use Rattle.farm_pick.proofs.Listed.{IsListed}
-use Rattle.farm_pick.proofs.idle_search.shortlist.Given as goal
+use Rattle.farm_pick.proofs.idle.shortlist.Given as goal
 
 -- the free boards that were looked at have their short list
 abbrev pub invariant-loop-at : goal.invariant-loop-at

@@ -1,6 +1,6 @@
 use Rattle.std.proofs.Common.{◌≡◌, filter, length}
 use Rattle.farm_pick.specs.Test.{passes, is_candidate}
-use Rattle.farm_pick.proofs.candidates.CandidatesIterator.next.Given as goal
+use Rattle.farm_pick.proofs.fit.CandidatesIterator.next.Given as goal
 
 -- what is left to lend is what was left at first
 abbrev pub invariant-loop-first : goal.invariant-loop-first
