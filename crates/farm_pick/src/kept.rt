@@ -82,38 +82,6 @@ fn forget(several: &mut BTreeSet<Rank>, spot: Spot)
     let _there = several.remove(&Rank { spot });
 }
 
-/// Puts a claim at its spot, and notes where its number stands. A refused growth changes nothing.
-fn put_at(
-    claims: &mut BTreeMap<Spot, Claim>,
-    places: &mut BTreeMap<u64, Place>,
-    spot: Spot,
-    claim: Claim,
-) -> Result<(), AllocError>
-    requires claim { claim_at claims.old.entries spot ≡ None }
-    requires place { place_at places.old.entries spot.number ≡ None }
-    ensures claims { OnOk result
-        (claims.new.entries ≡ insert_entry spot_cmp claims.old.entries spot claim) }
-    ensures claim { OnOk result ((s : Spot) → claim_at claims.new.entries s
-        ≡ cond (is_eq (spot_cmp spot s)) (Some claim) (claim_at claims.old.entries s)) }
-    ensures place { OnOk result ((n : ℕ) → place_at places.new.entries n
-        ≡ cond (is_eq (nat_cmp spot.number n))
-        (Some (record { queue = spot.queue; priority = spot.priority }))
-        (place_at places.old.entries n)) }
-    ensures claims_stay { OnErr result (claims.new.entries ≡ claims.old.entries) }
-    ensures places_stay { OnErr result (places.new.entries ≡ places.old.entries) }
-{
-    let place = Place {
-        queue: spot.queue,
-        priority: spot.priority,
-    };
-    let _none = places.insert(spot.number, place)?;
-    if let Err(_refused) = claims.insert(spot, claim) {
-        let _place = places.remove(&spot.number);
-        return Err(AllocError);
-    }
-    Ok(())
-}
-
 /// An equal claim.
 fn copied(claim: &Claim) -> Result<Claim, AllocError>
     ensures { IfOk result (λ copy. copy ≡ claim.now) }
@@ -173,6 +141,37 @@ pub struct Kept {
 }
 
 impl Kept {
+    /// Puts a claim at its spot, and notes where its number stands. A refused growth changes
+    /// nothing.
+    fn put_at(&mut self, spot: Spot, claim: Claim) -> Result<(), AllocError>
+        requires claim { claim_at self.old.claims.entries spot ≡ None }
+        requires place { place_at self.old.places.entries spot.number ≡ None }
+        ensures claims { OnOk result
+            (self.new.claims.entries ≡ insert_entry spot_cmp self.old.claims.entries spot claim) }
+        ensures claim { OnOk result ((s : Spot) → claim_at self.new.claims.entries s
+            ≡ cond (is_eq (spot_cmp spot s)) (Some claim) (claim_at self.old.claims.entries s)) }
+        ensures place { OnOk result ((n : ℕ) → place_at self.new.places.entries n
+            ≡ cond (is_eq (nat_cmp spot.number n))
+            (Some (record { queue = spot.queue; priority = spot.priority }))
+            (place_at self.old.places.entries n)) }
+        ensures claims_stay { OnErr result (self.new.claims.entries ≡ self.old.claims.entries) }
+        ensures places_stay { OnErr result (self.new.places.entries ≡ self.old.places.entries) }
+        ensures several { self.new.several ≡ self.old.several }
+        ensures kinds { self.new.kinds ≡ self.old.kinds }
+        ensures idle { self.new.idle ≡ self.old.idle }
+    {
+        let place = Place {
+            queue: spot.queue,
+            priority: spot.priority,
+        };
+        let _none = self.places.insert(spot.number, place)?;
+        if let Err(_refused) = self.claims.insert(spot, claim) {
+            let _place = self.places.remove(&spot.number);
+            return Err(AllocError);
+        }
+        Ok(())
+    }
+
     /// Puts a claim at its spot, notes where its number stands, and its spot if it wants two boards
     /// or more. A refused growth changes nothing.
     pub fn put(&mut self, spot: Spot, claim: Claim) -> Result<(), AllocError>
@@ -194,7 +193,7 @@ impl Kept {
         ensures idle { self.new.idle ≡ self.old.idle }
     {
         note(&mut self.several, spot, claim.boards)?;
-        let put = put_at(&mut self.claims, &mut self.places, spot, claim);
+        let put = self.put_at(spot, claim);
         if put.is_err() {
             forget(&mut self.several, spot);
         }
