@@ -2,7 +2,6 @@
 ghost use Rattle.clap.specs.Words.{kind_of};
 ghost use Rattle.farm_cli.specs.Faults.{IsOfKind};
 
-use clap::Error as ClapError;
 use clap::error::ErrorKind;
 use std::alloc::{AllocError, Global};
 use thiserror::Error;
@@ -32,15 +31,12 @@ impl From<AllocError> for OrderFault {
 }
 
 /// The fault that the reader of words found, with its text.
-pub(crate) fn fault_of(alloc: Global, error: &ClapError) -> OrderFault
+pub(crate) fn fault_of(alloc: Global, error: &clap::Error) -> OrderFault
     ensures { IsOfKind (kind_of error.now) result }
 {
-    let Ok(text) = error.to_string(alloc) else {
-        return OrderFault::NoMemory;
-    };
-    match error.kind() {
-        ErrorKind::OutOfMemory => OrderFault::NoMemory,
-        ErrorKind::DisplayHelp | ErrorKind::DisplayVersion => OrderFault::Help(text),
-        _ => OrderFault::Words(text),
+    match (error.kind(), error.to_string(alloc)) {
+        (ErrorKind::OutOfMemory, _) | (_, Err(_)) => OrderFault::NoMemory,
+        (ErrorKind::DisplayHelp | ErrorKind::DisplayVersion, Ok(text)) => OrderFault::Help(text),
+        (_, Ok(text)) => OrderFault::Words(text),
     }
 }

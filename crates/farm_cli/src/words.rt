@@ -1,11 +1,11 @@
 //! Reading the words.
 ghost use Rattle.std.specs.Prelude.{◌≡◌, ◌⊎◌, [], IfErr, IfOk, Some, false, map, option_map, true};
-ghost use Rattle.std.specs.Prelude.{string_bytes};
+ghost use Rattle.std.specs.Prelude.{codes, string_bytes};
 ghost use Rattle.clap.specs.Words.{app_of, fault_of as kinds_of, found_of, rows_of};
 ghost use Rattle.clap.specs.Words.{rule_of, subcommand_of, subcommand_rows_of, takes};
 ghost use Rattle.farm_cli.specs.App.{AddsShape, at_rule, bare_app, db_rule, farm_app};
 ghost use Rattle.farm_cli.specs.App.{import_app, init_app, max_rule, memory_rule, migrate_app};
-ghost use Rattle.farm_cli.specs.App.{offset_rule, once_app};
+ghost use Rattle.farm_cli.specs.App.{offset_rule, once_app, text_rule};
 ghost use Rattle.farm_cli.specs.App.{port_rule, positional_rule, report_app, serve_app};
 ghost use Rattle.farm_cli.specs.Faults.{IsFaultAmong, open_text};
 ghost use Rattle.farm_cli.specs.Orders.{IsInBounds, form_of, has_flag, import_in, init_in};
@@ -90,88 +90,63 @@ fn named(alloc: Global, matches: &ArgMatches<'_>) -> Result<Option<Order>, Alloc
     let Some((name, given)) = matches.subcommand() else {
         return Ok(None);
     };
-    match name {
-        "once" => once_named(alloc, given),
-        "init" => init_named(alloc, given),
-        "migrate" => migrate_named(alloc, given),
-        "import" => import_named(alloc, given),
-        "serve" => serve_named(alloc, given),
-        "report" => report_named(alloc, given),
-        _ => Ok(None),
-    }
-}
-
-fn once_named(alloc: Global, given: &ArgMatches<'_>) -> Result<Option<Order>, AllocError>
-    ensures { IfOk result (λ order.
-        option_map form_of order ≡ once_in (rows_of (found_of given.now))) }
-{
-    let (Some(database), Some(at)) = (database(alloc, given)?, number(given, "at")) else {
-        return Ok(None);
-    };
-    Ok(Some(Order::Once { database, at }))
-}
-
-/// Memory or a file, where just one of them was given.
-fn database(alloc: Global, given: &ArgMatches<'_>) -> Result<Option<Database>, AllocError>
-    ensures { IfOk result (λ database.
-        option_map database_form database ≡ database_in (rows_of (found_of given.now))) }
-{
-    Ok(match (flag(given, "memory"), text(alloc, given, "db")?) {
-        (true, None) => Some(Database::Memory),
-        (false, Some(file)) => Some(Database::File(file)),
-        (true, Some(_)) | (false, None) => None,
+    let file = text(alloc, given, "db")?;
+    Ok(match name {
+        "once" => once_named(given, file),
+        "init" => file.map(|file| Order::Init { file }),
+        "migrate" => file.map(|file| Order::Migrate { file }),
+        "import" => import_named(given, file, text(alloc, given, "lab")?),
+        "serve" => serve_named(given, file),
+        "report" => report_named(given, file),
+        _ => None,
     })
 }
 
-fn init_named(alloc: Global, given: &ArgMatches<'_>) -> Result<Option<Order>, AllocError>
-    ensures { IfOk result (λ order.
-        option_map form_of order ≡ init_in (rows_of (found_of given.now))) }
+fn once_named(given: &ArgMatches<'_>, file: Option<String>) -> Option<Order>
+    requires { option_map string_bytes file
+        ≡ argument_text (codes "db") (rows_of (found_of given.now)) }
+    ensures { option_map form_of result ≡ once_in (rows_of (found_of given.now)) }
 {
-    Ok(text(alloc, given, "db")?.map(|file| Order::Init { file }))
-}
-
-fn migrate_named(alloc: Global, given: &ArgMatches<'_>) -> Result<Option<Order>, AllocError>
-    ensures { IfOk result (λ order.
-        option_map form_of order ≡ migrate_in (rows_of (found_of given.now))) }
-{
-    Ok(text(alloc, given, "db")?.map(|file| Order::Migrate { file }))
-}
-
-fn import_named(alloc: Global, given: &ArgMatches<'_>) -> Result<Option<Order>, AllocError>
-    ensures { IfOk result (λ order.
-        option_map form_of order ≡ import_in (rows_of (found_of given.now))) }
-{
-    let (file, lab) = (text(alloc, given, "db")?, text(alloc, given, "lab")?);
-    let (Some(file), Some(at), Some(lab)) = (file, number(given, "at"), lab) else {
-        return Ok(None);
+    let database = match (flag(given, "memory"), file) {
+        (true, None) => Database::Memory,
+        (false, Some(file)) => Database::File(file),
+        (true, Some(_)) | (false, None) => return None,
     };
-    Ok(Some(Order::Import { file, at, lab }))
+    let at = number(given, "at")?;
+    Some(Order::Once { database, at })
 }
 
-fn serve_named(alloc: Global, given: &ArgMatches<'_>) -> Result<Option<Order>, AllocError>
-    ensures { IfOk result (λ order.
-        option_map form_of order ≡ serve_in (rows_of (found_of given.now))) }
+fn import_named(given: &ArgMatches<'_>, file: Option<String>, lab: Option<String>) -> Option<Order>
+    requires file { option_map string_bytes file
+        ≡ argument_text (codes "db") (rows_of (found_of given.now)) }
+    requires lab { option_map string_bytes lab
+        ≡ argument_text (codes "lab") (rows_of (found_of given.now)) }
+    ensures { option_map form_of result ≡ import_in (rows_of (found_of given.now)) }
 {
-    let file = text(alloc, given, "db")?;
-    let (Some(file), Some(port), Some(max)) = (file, port(given), number(given, "max")) else {
-        return Ok(None);
-    };
-    Ok(Some(Order::Serve { file, port, max }))
+    let (file, at, lab) = (file?, number(given, "at")?, lab?);
+    Some(Order::Import { file, at, lab })
 }
 
-fn report_named(alloc: Global, given: &ArgMatches<'_>) -> Result<Option<Order>, AllocError>
-    ensures { IfOk result (λ order.
-        option_map form_of order ≡ report_in (rows_of (found_of given.now))) }
+fn serve_named(given: &ArgMatches<'_>, file: Option<String>) -> Option<Order>
+    requires { option_map string_bytes file
+        ≡ argument_text (codes "db") (rows_of (found_of given.now)) }
+    ensures { option_map form_of result ≡ serve_in (rows_of (found_of given.now)) }
 {
-    let (Some(file), Some(which)) = (text(alloc, given, "db")?, which(given)) else {
-        return Ok(None);
-    };
-    Ok(Some(Order::Report {
-        file,
+    let (file, port, max) = (file?, port(given)?, number(given, "max")?);
+    Some(Order::Serve { file, port, max })
+}
+
+fn report_named(given: &ArgMatches<'_>, file: Option<String>) -> Option<Order>
+    requires { option_map string_bytes file
+        ≡ argument_text (codes "db") (rows_of (found_of given.now)) }
+    ensures { option_map form_of result ≡ report_in (rows_of (found_of given.now)) }
+{
+    Some(Order::Report {
+        file: file?,
         east: number(given, "east").unwrap_or(0),
         west: number(given, "west").unwrap_or(0),
-        which,
-    }))
+        which: which(given)?,
+    })
 }
 
 /// Whether a flag was given.
@@ -199,10 +174,8 @@ fn text(alloc: Global, given: &ArgMatches<'_>, id: &str) -> Result<Option<String
     ensures { IfOk result (λ text.
         option_map string_bytes text ≡ argument_text id.now (rows_of (found_of given.now))) }
 {
-    match given.get_str(id) {
-        Some(text) => Ok(Some(String::from_str(alloc, text)?)),
-        None => Ok(None),
-    }
+    let text = given.get_str(id).map(|text| String::from_str(alloc, text));
+    text.transpose()
 }
 
 /// The report that is asked for.
@@ -280,7 +253,7 @@ fn import_command<'a>(alloc: Global) -> Result<Command<'a>, AllocError>
         .about("Adds the types and boards of a lab file to a farm")
         .arg(file(alloc, true))?
         .arg(moment(alloc))?
-        .arg(positional(alloc, "lab", "LAB", "The lab file, in TOML"))
+        .arg(word(alloc, "lab", "LAB").help("The lab file, in TOML"))
 }
 
 fn serve_command<'a>(alloc: Global) -> Result<Command<'a>, AllocError>
@@ -299,22 +272,28 @@ fn report_command<'a>(alloc: Global) -> Result<Command<'a>, AllocError>
     Command::new(alloc, "report")
         .about("Prints the queue, the boards or the reservations of a farm")
         .arg(file(alloc, true))?
-        .arg(offset(
-            alloc,
-            "east",
-            "How many minutes the zone lies east of UTC, up to 840",
-        ))?
-        .arg(offset(
-            alloc,
-            "west",
-            "How many minutes the zone lies west of UTC, up to 840",
-        ))?
-        .arg(positional(
-            alloc,
-            "which",
-            "WHICH",
-            "What to print: queue, boards or reservations",
-        ))
+        .arg(offset(alloc, "east").help("How many minutes the zone lies east of UTC, up to 840"))?
+        .arg(offset(alloc, "west").help("How many minutes the zone lies west of UTC, up to 840"))?
+        .arg(word(alloc, "which", "WHICH").help("What to print: queue, boards or reservations"))
+}
+
+/// A word of its own, which has to be there.
+fn word<'a>(alloc: Global, id: &'a str, name: &'a str) -> Arg<'a>
+    ensures rule { rule_of result ≡ positional_rule id.now }
+    ensures local { result.global ≡ false }
+{
+    Arg::new(alloc, id)
+        .value_name(name)
+        .required(true)
+        .action(ArgAction::Set)
+}
+
+/// An option with a value, which has to be there.
+fn option<'a>(alloc: Global, id: &'a str, name: &'a str) -> Arg<'a>
+    ensures rule { rule_of result ≡ text_rule id.now true }
+    ensures local { result.global ≡ false }
+{
+    word(alloc, id, name).long(id)
 }
 
 fn memory_flag<'a>(alloc: Global) -> Arg<'a>
@@ -331,24 +310,17 @@ fn file<'a>(alloc: Global, required: bool) -> Arg<'a>
     ensures rule { rule_of result ≡ db_rule required }
     ensures local { result.global ≡ false }
 {
-    Arg::new(alloc, "db")
-        .long("db")
-        .value_name("FILE")
+    option(alloc, "db", "FILE")
         .help("The file that keeps the farm")
         .required(required)
-        .action(ArgAction::Set)
 }
 
 fn moment<'a>(alloc: Global) -> Arg<'a>
     ensures rule { rule_of result ≡ at_rule }
     ensures local { result.global ≡ false }
 {
-    Arg::new(alloc, "at")
-        .long("at")
-        .value_name("SECONDS")
+    option(alloc, "at", "SECONDS")
         .help("The moment of the call, in seconds since 1970-01-01 00:00:00 UTC")
-        .required(true)
-        .action(ArgAction::Set)
         .value_parser(clap::value_parser!(u64))
 }
 
@@ -356,12 +328,8 @@ fn port_option<'a>(alloc: Global) -> Arg<'a>
     ensures rule { rule_of result ≡ port_rule }
     ensures local { result.global ≡ false }
 {
-    Arg::new(alloc, "port")
-        .long("port")
-        .value_name("PORT")
+    option(alloc, "port", "PORT")
         .help("The port to listen on, from 1 to 65535")
-        .required(true)
-        .action(ArgAction::Set)
         .value_parser(clap::value_parser!(u64).range(1..=LAST_PORT))
 }
 
@@ -369,34 +337,16 @@ fn max_option<'a>(alloc: Global) -> Arg<'a>
     ensures rule { rule_of result ≡ max_rule }
     ensures local { result.global ≡ false }
 {
-    Arg::new(alloc, "max")
-        .long("max")
-        .value_name("CONNECTIONS")
+    option(alloc, "max", "CONNECTIONS")
         .help("How many connections to serve before the program ends")
-        .required(true)
-        .action(ArgAction::Set)
         .value_parser(clap::value_parser!(u64))
 }
 
-fn offset<'a>(alloc: Global, name: &'a str, help: &'a str) -> Arg<'a>
-    ensures rule { rule_of result ≡ offset_rule name.now }
+fn offset<'a>(alloc: Global, id: &'a str) -> Arg<'a>
+    ensures rule { rule_of result ≡ offset_rule id.now }
     ensures local { result.global ≡ false }
 {
-    Arg::new(alloc, name)
-        .long(name)
-        .value_name("MINUTES")
-        .help(help)
-        .action(ArgAction::Set)
+    option(alloc, id, "MINUTES")
+        .required(false)
         .value_parser(clap::value_parser!(u64).range(0..=MOST_MINUTES))
-}
-
-fn positional<'a>(alloc: Global, id: &'a str, name: &'a str, help: &'a str) -> Arg<'a>
-    ensures rule { rule_of result ≡ positional_rule id.now }
-    ensures local { result.global ≡ false }
-{
-    Arg::new(alloc, id)
-        .value_name(name)
-        .help(help)
-        .required(true)
-        .action(ArgAction::Set)
 }

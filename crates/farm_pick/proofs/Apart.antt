@@ -1,5 +1,5 @@
 -- The types of the queues.
-use Rattle.std.proofs.Common.{◌≡◌, ◌∙◌, ◌||◌, ◌==◌, ◌<◌, ◌≤◌, ◌+◌, ◌++◌, ◌⊎◌, ℕ, zero, suc, List, [], ◌∷◌, length, map, Bool, true, false, Some, None, slice_get, get_or, inl, inr, refl, sym, ap, subst, arith, add-one}
+use Rattle.std.proofs.Common.{◌≡◌, ◌∙◌, ◌||◌, ◌==◌, ◌<◌, ◌≤◌, ◌+◌, ◌++◌, ◌⊎◌, ℕ, zero, suc, List, [], ◌∷◌, length, map, Bool, true, false, Some, None, slice_get, get_or, inl, inr, refl, sym, ap, subst, arith, add-one, Option}
 use Rattle.std.specs.Prelude.{unwrap_or}
 use mathlib.Core.Bool.{true≢false}
 use Rattle.std.specs.List.{AllByRecursion, list_any, position, position_or_len}
@@ -107,18 +107,23 @@ module _ (kinds : List (List ℕ)) (apart : AreKinds kinds) where
       numbers ∙ same_queue q p a.0 (omega arith) a.1 ∙ rw (b.1, a.1) (nat_list_eq_equiv.symm b.0 a.0)
 
   -- the queue that a want asks for
-  pub asked_there : (at : ℕ) (kind : List ℕ) → slice_get kinds at ≡ Some kind → (q : ℕ) → 1 ≤ q → q ≤ length kinds
+  asked_there : (at : ℕ) (kind : List ℕ) → slice_get kinds at ≡ Some kind → (q : ℕ) → 1 ≤ q → q ≤ length kinds
       → ((at + 1 == 0) || (q == at + 1)) ≡ bytes_eq (unwrap_or (kind_at kinds q) []) kind
   asked_there at kind is zero low high = absurd (omega arith)
   asked_there at kind is (suc p) low high = rw add-one (suc_test p at ∙ same_queue p at kind (omega arith) is)
 
-  pub asked_nowhere : (kind : List ℕ) → ((i : ℕ) → i < length kinds → option_map_or (λ k. bytes_eq k kind) (slice_get kinds i) false ≡ false)
+  asked_nowhere : (kind : List ℕ) → ((i : ℕ) → i < length kinds → option_map_or (λ k. bytes_eq k kind) (slice_get kinds i) false ≡ false)
       → (q : ℕ) → 1 ≤ q → q ≤ length kinds → ((length kinds + 1 == 0) || (q == length kinds + 1)) ≡ bytes_eq (unwrap_or (kind_at kinds q) []) kind
   asked_nowhere kind none zero low high = absurd (omega arith)
   asked_nowhere kind none (suc p) low high =
       let a = kind_there p (omega arith) in
       rw add-one (suc_test p (length kinds) ∙ differs p (length kinds) (omega arith)
       ∙ sym (ap (λ o. bytes_eq (unwrap_or o []) kind) a.1 ∙ ap (λ o. option_map_or (λ k. bytes_eq k kind) o false) (sym a.1) ∙ none p (omega arith)))
+
+  pub asked_place : (at : Option ℕ) (kind : List ℕ) → at ≡ position (λ k. bytes_eq k kind) kinds → (q : ℕ) → 1 ≤ q → q ≤ length kinds
+      → ((unwrap_or at (length kinds) + 1 == 0) || (q == unwrap_or at (length kinds) + 1)) ≡ bytes_eq (unwrap_or (kind_at kinds q) []) kind
+  asked_place (Some at) kind is = asked_there at kind (kind_found kinds kind at is).1
+  asked_place None kind is = asked_nowhere kind (kind_nowhere kinds kind is)
 
 pub kinds_after : (kinds seen pushed : List (List ℕ)) (k kind : List ℕ) → seen ≡ kinds → k ≡ kind → pushed ≡ kinds ++ k ∷ []
     → ((i : ℕ) → i < length seen → option_map_or (λ own. bytes_eq own kind) (slice_get seen i) false ≡ false) → AreKinds kinds → AreKinds pushed

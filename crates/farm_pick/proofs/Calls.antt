@@ -126,9 +126,6 @@ module _ (kinds : List (List ℕ)) (es : List (Spot × Claim)) (ps : List (ℕ �
     both_grown : shows more_kinds es rows ≡ shows kinds es rows
     both_grown = ap (λ cs. record { claims = cs; boards = map (shown_idle more_kinds) rows }) shown_grown ∙ ap (λ bs. record { claims = shown_claims kinds es; boards = bs }) boards_grown
 
-    pub refused_well : IsWell more_kinds es ps rows
-    refused_well = record { queues = grown; free = idle_grown }
-
     pub refused_kind : {A E : Type 0} (r : Result A E) (seen : QueueLists) → shows kinds es rows ≡ seen → OnErr r (shows more_kinds es rows ≡ seen)
     refused_kind (Ok x) seen is = tt
     refused_kind (Err e) seen is = both_grown ∙ is

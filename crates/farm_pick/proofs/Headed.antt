@@ -1,5 +1,5 @@
 -- The heads of the queues, one after the other, as callers see them.
-use Rattle.std.proofs.Common.{◌≡◌, ◌∙◌, ◌&&◌, ◌||◌, ◌==◌, ◌≤◌, ◌<◌, ◌+◌, ◌-◌, ℕ, zero, suc, List, [], ◌∷◌, length, map, Bool, true, false, Option, None, inl, inr, refl, sym, ap, subst, arith, ◌++◌}
+use Rattle.std.proofs.Common.{◌≡◌, ◌∙◌, ◌&&◌, ◌||◌, ◌==◌, ◌≤◌, ◌<◌, ◌+◌, ◌-◌, ℕ, zero, suc, List, [], ◌∷◌, length, map, Bool, true, false, Option, Some, None, inl, inr, refl, sym, ap, subst, arith, ◌++◌}
 use Rattle.std.specs.List.{AllByRecursion, cons_option, filter_map, list_any, range_with_len}
 use Rattle.std.proofs.lemmas.Bool.{cases_Bool, eqb-false, or_left, or_right}
 use Rattle.farm_types.specs.Sound.{EachTwo}
@@ -10,7 +10,10 @@ use Rattle.farm_sound.proofs.Where.{AllByRecursion-map}
 use Rattle.farm_pick.specs.Queued.{AreKindsOf, QueueLists, Queued, head_of, is_open, same_kind}
 use Rattle.farm_pick.specs.Kept.{IsKeyed, IsWell, kind_at, queued_cmp, shown_claims, shown_entry, shown_idle}
 use Rattle.farm_pick.specs.Heads.{AreHeads, IsFirstBehind, head_in, heads_from, is_later, queue_open}
+use Rattle.std.specs.Option.{option_map}
+use Rattle.farm_pick.specs.Walked.{IsCursor}
 use Rattle.farm_pick.specs.declared.idle.IdleRow.{IdleRow}
+use Rattle.farm_pick.specs.declared.walk.Cursor.{Cursor}
 use Rattle.farm_pick.specs.declared.spot.Place.{Place}
 use Rattle.farm_pick.specs.declared.spot.Spot.{Spot}
 use Rattle.farm_pick.proofs.Apart.{same_kinds, same_open}
@@ -86,6 +89,14 @@ module _ (kinds : List (List ℕ)) (es : List (Spot × Claim)) (rows : List Idle
       (none_alone kinds es are.keyed looked_at last last.queue (length kinds + 1) (omega arith) alone
       (ap (λ v. v && (last.queue == last.queue)) is))
 
+  -- and where a walk begins in it
+  pub head_of_cursor : (o : Option Cursor) → IsCursor es (λ q. all || queue_open rows q) last o → option_map (λ x. x.claim.now) o ≡ head_in kinds es rows all last
+  head_of_cursor None none = elim (cases_Bool (all || queue_open rows last.queue)) [
+    | inl is ↦ head_seen None is (none is)
+    | inr is ↦ head_unseen is
+  ]
+  head_of_cursor (Some x) at = head_seen (Some x.claim.now) at.0 (at.1.spot, at.1.queue, at.1.after, at.1.claim, at.1.first)
+
 -- ---- one queue after the other
 
 module _ (kinds : List (List ℕ)) (es : List (Spot × Claim)) (rows : List IdleRow) (all : Bool) (last : Spot) where
@@ -137,11 +148,6 @@ module _ (kinds : List (List ℕ)) (es : List (Spot × Claim)) (rows : List Idle
 pub heads_of_well : (kinds : List (List ℕ)) (es : List (Spot × Claim)) (ps : List (ℕ × Place)) (rows : List IdleRow) → IsWell kinds es ps rows → AreHeads kinds es rows
 heads_of_well kinds es ps rows well = record { keyed = well.queues.keyed; apart = well.queues.apart; idle = well.free }
 
-pub heads_well : (kinds : List (List ℕ)) (es : List (Spot × Claim)) (ps : List (ℕ × Place)) (rows : List IdleRow) → IsWell kinds es ps rows → (ks : List (List ℕ)) → ks ≡ kinds
-    → (rs : List IdleRow) → rs ≡ rows → AreHeads ks es rs
-heads_well kinds es ps rows well ks kinds_are rs rows_are =
-    subst (λ k. AreHeads k es rs) (sym kinds_are) (subst (λ xs. AreHeads kinds es xs) (sym rows_are) (heads_of_well kinds es ps rows well))
-
 -- what the heads of queues show, as callers see it
 abbrev ShowsHeads : QueueLists → Bool → Spot → List Claim → Type 0
 ShowsHeads seen all last heads =
@@ -149,14 +155,13 @@ ShowsHeads seen all last heads =
     × (heads ≡ filter_map (head_of (is_later last) (λ k. all || is_open seen.boards k) seen.claims) kinds)
 
 pub heads_seen : (kinds : List (List ℕ)) (es : List (Spot × Claim)) (ps : List (ℕ × Place)) (rows : List IdleRow) → IsWell kinds es ps rows → (all : Bool) (seen : QueueLists)
-    → record { claims = shown_claims kinds es; boards = map (shown_idle kinds) rows } ≡ seen → (r last : Spot) → r ≡ last → (ks : List (List ℕ)) → ks ≡ kinds
-    → (rs : List IdleRow) → rs ≡ rows → (o : List Claim) → o ≡ heads_from ks es rs all r 0 → ShowsHeads seen all last o
-heads_seen kinds es ps rows well all seen view r last is ks kinds_are rs rows_are o heads =
-    subst (λ s. ShowsHeads s all last o) view (
+    → record { claims = shown_claims kinds es; boards = map (shown_idle kinds) rows } ≡ seen → (r last : Spot) → r ≡ last
+    → ShowsHeads seen all last (heads_from kinds es rows all r 0)
+heads_seen kinds es ps rows well all seen view r last is =
+    subst (λ s. ShowsHeads s all last (heads_from kinds es rows all r 0)) view (
       map (kind_at kinds) (range_with_len 0 (length kinds + 1)),
       are_kinds kinds es rows (heads_of_well kinds es ps rows well),
-      heads
-          ∙ ap (λ k. heads_from k es rs all r 0) kinds_are ∙ ap (λ xs. heads_from kinds es xs all r 0) rows_are ∙ ap (λ l. heads_from kinds es rows all l 0) is
+      ap (λ l. heads_from kinds es rows all l 0) is
           ∙ ap (λ n. filter_map (λ q. head_in kinds es rows all (record last { queue = q })) (range_with_len 0 n)) whole
           ∙ filter_map_map (head_of (is_later last) (λ k. all || is_open (map (shown_idle kinds) rows) k) (shown_claims kinds es)) (kind_at kinds) (range_with_len 0 (length kinds + 1)),
     )

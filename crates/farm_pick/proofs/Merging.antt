@@ -174,10 +174,6 @@ rest_behind former F last c after all =
     behind : (d : Claimed) → (comes_after (Some c) d ≡ true) × (not (is_group former d) ≡ true) → (comes_after last d && not (is_group former d)) ≡ true
     behind d two = λ i. after_more last c d after (less_from c d two.0) i && two.1 i
 
--- what the queues lend next is behind the last one, and may change the farm
-lent_is : (F : Farm) (last : Option Claimed) (c : Claimed) → next_lent F last ≡ Some c → (comes_after last c ≡ true) × (may_act F c ≡ true)
-lent_is F last c next = both (comes_after last c) (may_act F c) (found_passes (λ d. comes_after last d && may_act F d) c (queue F) next)
-
 -- what is found stands in the list
 pub found_among : (p : Claimed → Bool) (c : Claimed) (cs : List Claimed) → find p cs ≡ Some c → IsAmong c cs
 found_among p c cs is = found_there p c cs is

@@ -19,7 +19,7 @@ use Rattle.farm_pick.specs.Kept.{IsKeyed, IsWell, claim_at, queued_cmp, shown_cl
 use Rattle.farm_pick.specs.Queued.{QueueLists, Queued}
 use Rattle.farm_pick.specs.Several.{IsFirstSeveral, IsNextSpot, is_several, ranked_cmp}
 use Rattle.farm_pick.specs.declared.idle.IdleRow.{IdleRow}
-use Rattle.farm_pick.specs.declared.multi_board.Rank.{Rank}
+use Rattle.farm_pick.specs.declared.kept.Rank.{Rank}
 use Rattle.farm_pick.specs.declared.spot.Place.{Place}
 use Rattle.farm_pick.specs.declared.spot.Spot.{Spot}
 use Rattle.farm_pick.proofs.Entries.{found_entry}

@@ -1,18 +1,16 @@
 -- A pass that tries, one after the other, the claims alone that may be met or may collect, and what
 -- it comes to.
 use Rattle.std.specs.Prelude.{◌≡◌, ◌≤◌, ◌&&◌, ◌||◌, ℕ, zero, suc, Bool, true, false, not, List}
-use Rattle.std.specs.Prelude.{length, nat_le, Option, Some, None, if◌then◌else◌, option_map}
+use Rattle.std.specs.Prelude.{length, Option, Some, None}
 use Rattle.std.specs.List.{filter, find}
 use Rattle.std.specs.Option.{option_map_or}
 use Rattle.std.specs.Ordering.{is_lt}
 use Rattle.farm_types.specs.Farm.{Farm}
 use Rattle.farm_types.specs.Pass.{Served, is_group, may_collect, serve, serve_all}
 use Rattle.farm_types.specs.Pick.{IsAmong, Claimed, claim_cmp, is_free, least, queue}
-use Rattle.farm_types.specs.declared.claims.Claim.{Claim}
 use Rattle.farm_types.specs.declared.rows.Want.{Want}
 use Rattle.farm_types.specs.Sound.{IsSound}
-use Rattle.farm_pick.specs.Heads.{earlier_of, is_later, last_spot}
-use Rattle.farm_pick.specs.Queued.{QueueLists, idle_boards, is_open, queue_kind}
+use Rattle.farm_pick.specs.Queued.{idle_boards, is_open, queue_kind}
 
 -- whether a claim comes after the one tried last, if one was
 abbrev pub comes_after : Option Claimed → Claimed → Bool
@@ -68,11 +66,6 @@ UnmetIsSkipped = (t : ℕ) (s : Served) (c : Claimed)
     → serve t s c ≡ s
 
 -- ---- what the queues lend
-
--- and that of two boards or more, of all queues
-abbrev pub lent_several : QueueLists → Option (ℕ × ℕ) → Option Claim
-lent_several lists after = option_map (λ x. x.claim)
-    (find (λ x. is_later (last_spot after) x.claim && nat_le 2 x.claim.boards) lists.claims)
 
 -- it is the next claim, `former`'s among them, that may change the farm
 abbrev pub next_lent : Farm → Option Claimed → Option Claimed

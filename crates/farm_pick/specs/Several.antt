@@ -9,7 +9,7 @@ use Rattle.farm_types.specs.declared.claims.Claim.{Claim}
 use Rattle.farm_pick.specs.Heads.{rank_cmp}
 use Rattle.farm_pick.specs.Kept.{IsWell, claim_at}
 use Rattle.farm_pick.specs.declared.idle.IdleRow.{IdleRow}
-use Rattle.farm_pick.specs.declared.multi_board.Rank.{Rank}
+use Rattle.farm_pick.specs.declared.kept.Rank.{Rank}
 use Rattle.farm_pick.specs.declared.spot.Place.{Place}
 use Rattle.farm_pick.specs.declared.spot.Spot.{Spot}
 

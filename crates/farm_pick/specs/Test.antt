@@ -7,8 +7,8 @@ use Rattle.farm_types.specs.Pick.{fits, is_free, not_retired}
 use Rattle.farm_types.specs.declared.rows.Want.{Want}
 use Rattle.farm_types.specs.declared.rows.BoardRow.{BoardRow}
 use Rattle.farm_types.specs.declared.rows.TypeRow.{TypeRow}
-use Rattle.farm_pick.specs.declared.free.Free.{Free}
-use Rattle.farm_pick.specs.declared.free.Free.TheVariants.{ServingIdle, NotRetired}
+use Rattle.farm_pick.specs.declared.fit.Free.{Free}
+use Rattle.farm_pick.specs.declared.fit.Free.TheVariants.{ServingIdle, NotRetired}
 
 -- the tag is one of the board's, or the one that it carries for its name
 abbrev pub carries : BoardRow → List ℕ → Bool

@@ -1,13 +1,23 @@
-//! The tests of one board.
-ghost use Rattle.std.specs.Prelude.{◌≡◌, true, bytes_eq};
+//! The tests of one board, and the boards that pass them.
+ghost use Rattle.std.specs.Prelude.{◌≡◌, true, bytes_eq, filter};
+ghost use Rattle.std.specs.Iterator.{YieldsFirstRef, item_count};
 ghost use Rattle.std.specs.List.{list_all, list_any, find};
 ghost use Rattle.std.specs.Option.{option_map_or, option_copied};
 ghost use Rattle.farm_types.specs.Words.{name_tag};
 ghost use Rattle.farm_types.specs.Pick.{fits, check_of, serves, is_free};
 ghost use Rattle.farm_pick.specs.Test.{carries, passes, is_candidate};
 
-use crate::free::Free;
 use farm_types::{BoardRow, Check, Health, Holder, Name, Tag, TypeRow, Want};
+use std::marker::Model;
+
+/// Which boards may be picked.
+#[derive(Clone, Copy, PartialEq, Eq)]
+pub enum Free {
+    /// Those that serve and that nobody holds.
+    ServingIdle,
+    /// Those that are not Retired, whoever holds them.
+    NotRetired,
+}
 
 fn is_of_kind(board: &BoardRow, kind: &Option<Name>) -> bool
     ensures { result ≡ option_map_or (λ k. bytes_eq board.now.kind k) kind.now true }
@@ -97,4 +107,61 @@ pub fn is_candidate(types: &[TypeRow], want: &Want, free: Free, board: &BoardRow
     ensures { result ≡ is_candidate (passes types.now free) want.now board.now }
 {
     passes(types, free, board) && fits(board, want)
+}
+
+/// Lends the boards that fit a want and pass a test, in the order of the list, each once.
+/// Contracts see the list of those that are left. To lend all of them costs one test a board.
+#[derive(Drop)]
+pub struct Candidates<'a> {
+    boards: &'a [BoardRow],
+    types: &'a [TypeRow],
+    want: &'a Want,
+    free: Free,
+}
+
+impl<'a> Model for Candidates<'a> {
+    ghost use Rattle.std.specs.Prelude.{List, filter};
+    ghost use Rattle.farm_types.specs.declared.rows.BoardRow.{BoardRow};
+    ghost use Rattle.farm_pick.specs.Test.{passes, is_candidate};
+
+    ghost Value = { List BoardRow };
+
+    ghost view = { λ c. filter (is_candidate (passes c.types.now c.free) c.want.now) c.boards.now };
+}
+
+impl<'a> Candidates<'a> {
+    /// The candidates among some boards: in name order, if the boards are.
+    pub fn new(
+        boards: &'a [BoardRow],
+        types: &'a [TypeRow],
+        want: &'a Want,
+        free: Free,
+    ) -> Candidates<'a>
+        ensures { result ≡ filter (is_candidate (passes types.now free) want.now) boards.now }
+    {
+        Candidates {
+            boards,
+            types,
+            want,
+            free,
+        }
+    }
+}
+
+impl<'a> Iterator for Candidates<'a> {
+    type Item = &'a BoardRow;
+
+    ghost next_gives = { YieldsFirstRef (λ s. s) };
+
+    ghost remaining = { item_count (λ s. s) };
+
+    fn next(&mut self) -> Option<&'a BoardRow> {
+        while let Some((first, others)) = self.boards.split_first() {
+            self.boards = others;
+            if is_candidate(self.types, self.want, self.free, first) {
+                return Some(first);
+            }
+        }
+        None
+    }
 }

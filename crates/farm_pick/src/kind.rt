@@ -25,13 +25,11 @@ pub fn made_type(kinds: &mut Vec<Name>, kind: &Name) -> Result<usize, AllocError
     ensures grows { (more : List (List ℕ)) × (kinds.new.items ≡ kinds.old.items ++ more) }
     ensures apart { AreKinds kinds.old.items → AreKinds kinds.new.items }
 {
-    match place_of(kinds, kind) {
-        Some(at) => Ok(at + 1),
-        None => {
-            kinds.push(kind.copy()?)?;
-            Ok(kinds.len())
-        }
+    if let Some(at) = place_of(kinds, kind) {
+        return Ok(at + 1);
     }
+    kinds.push(kind.copy()?)?;
+    Ok(kinds.len())
 }
 
 /// The queue of a type, or that of the reservations, which have no type: 0.
@@ -57,9 +55,6 @@ pub fn asked_queue(kinds: &[Name], kind: &Option<Name>) -> usize
 {
     match kind {
         None => 0,
-        Some(kind) => match place_of(kinds, kind) {
-            Some(at) => at + 1,
-            None => kinds.len() + 1,
-        },
+        Some(kind) => place_of(kinds, kind).unwrap_or(kinds.len()) + 1,
     }
 }

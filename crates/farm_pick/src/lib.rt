@@ -7,18 +7,11 @@
 //! kept, Heads, how their first claims are found, Walked, how all are lent in order, and Fitting.
 #![tactic(auto)]
 
-mod candidates;
-mod choose;
-mod claim_index;
 mod fit;
-mod free;
-mod heads;
 mod idle;
-mod idle_search;
+mod kept;
 mod kind;
 mod laws;
-mod multi_board;
-mod order;
 mod picked;
 mod queue;
 mod queues;
@@ -27,20 +20,16 @@ mod spot;
 mod walk;
 
 // The least list: which boards are given to a claim.
-pub use candidates::Candidates;
-pub use fit::{carries_all, is_free};
-pub use free::Free;
+pub use fit::{Candidates, Free, carries_all, is_free};
 pub use picked::Picked;
 pub use search::{least, least_of};
 
 // The queue: which claim goes first.
-pub use order::{before, queue_order};
-pub use queue::queue_of;
+pub use queue::{before, queue_of, queue_order};
 
 // The queues and the free boards, kept from call to call.
-pub use heads::Heads;
 pub use queues::Queues;
-pub use walk::Walk;
+pub use walk::{Heads, Walk};
 
 // What is proved of them: functions that only proofs read.
 pub use laws::{

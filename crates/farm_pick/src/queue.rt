@@ -1,13 +1,13 @@
 //! The queue: the claims that wait, in the order in which they are taken.
 ghost use Rattle.std.specs.Prelude.{◌≡◌, ◌++◌, ◌==◌, ◌≤◌, length, take, filter, map, IfOk, OnOk};
 ghost use Rattle.std.specs.List.{list_all};
+ghost use Rattle.std.specs.Ordering.{is_lt};
 ghost use Rattle.farm_types.specs.Farm.{Farm};
 ghost use Rattle.farm_types.specs.Sound.{IsSteady};
 ghost use Rattle.farm_types.specs.Pick.{is_waiting, queue, shown_claim, shown_cmp, waits};
 ghost use Rattle.farm_pick.specs.Queue.{leads, most_mates, shown_group, shown_reservation};
 ghost use Rattle.farm_pick.specs.Queue.{shown_groups};
 
-use crate::order::queue_order;
 use farm_types::{Claim, ClaimKind, JobRow, JobState, MOST_WANTS, ResRow, ResState};
 use std::alloc::{AllocError, Global};
 use std::cmp::Ordering;
@@ -141,4 +141,20 @@ pub fn queue_of(
         { queue_order(first, second) },
     );
     Ok(claims)
+}
+
+/// Compares the places of two claims in the queue: as in LAVA the higher priority goes first, and
+/// of equal ones the smaller number, which was asked for earlier.
+pub fn queue_order(first: &Claim, second: &Claim) -> Ordering
+    ensures { result ≡ shown_cmp first.now second.now }
+{
+    let by_priority = second.priority.get().cmp(&first.priority.get());
+    by_priority.then(first.number.cmp(&second.number))
+}
+
+/// Whether `first` is served before `second`.
+pub fn before(first: &Claim, second: &Claim) -> bool
+    ensures { result ≡ is_lt (shown_cmp first.now second.now) }
+{
+    queue_order(first, second).is_lt()
 }

@@ -15,13 +15,12 @@ ghost use Rattle.farm_pick.specs.Queued.{AreKindsOf, head_of, idle_board, is_ope
 ghost use Rattle.farm_pick.specs.Walked.{claims_after};
 ghost use Rattle.farm_pick.specs.Kept.{queued_cmp, named_cmp};
 
-use crate::heads::Heads;
 use crate::idle::{self, IdleRow};
-use crate::multi_board::{self, Rank};
+use crate::kept::{self, Kept};
+use crate::kind;
 use crate::picked::Picked;
-use crate::spot::{self, Place, Spot};
-use crate::walk::Walk;
-use crate::{claim_index, idle_search, kind};
+use crate::spot::{self, Spot};
+use crate::walk::{self, Heads, Walk};
 use farm_types::{BoardRow, Claim, Name, Priority, TypeRow, Want, Wants};
 use std::alloc::{AllocError, Global};
 use std::collections::{BTreeMap, BTreeSet, VecDeque};
@@ -40,17 +39,7 @@ use std::marker::Model;
 /// With C claims a put or a take of one costs O(log C). A claim takes about 130 bytes.
 #[derive(Debug, Drop)]
 pub struct Queues {
-    /// The types that have a queue, each once, in the order in which they were first used.
-    kinds: Vec<Name>,
-    /// Each claim at its spot.
-    claims: BTreeMap<Spot, Claim>,
-    /// Where each claim's number stands.
-    places: BTreeMap<u64, Place>,
-    /// The spots of the claims of two boards or more.
-    several: BTreeSet<Rank>,
-    /// The free boards in name order, each with the queue of its type. A pass gives claims the
-    /// first that fit, and a deque takes a board near the front without a move of all behind it.
-    idle: VecDeque<IdleRow>,
+    kept: Kept,
 }
 
 impl Model for Queues {
@@ -62,12 +51,12 @@ impl Model for Queues {
     ghost Value = { QueueLists };
 
     ghost view = { λ q. record {
-      claims = shown_claims q.kinds.items q.claims.entries;
-      boards = map (shown_idle q.kinds.items) q.idle.items;
+      claims = shown_claims q.kept.kinds.items q.kept.claims.entries;
+      boards = map (shown_idle q.kept.kinds.items) q.kept.idle.items;
     } };
 
-    ghost invariant = { λ q. QueuesInvariant q.kinds.items q.claims.entries q.places.entries q.several.keys
-        q.idle.items };
+    ghost invariant = { λ q. QueuesInvariant q.kept.kinds.items q.kept.claims.entries q.kept.places.entries
+        q.kept.several.keys q.kept.idle.items };
 }
 
 impl Queues {
@@ -76,13 +65,14 @@ impl Queues {
         ensures claims { result.claims ≡ [] }
         ensures boards { result.boards ≡ [] }
     {
-        Queues {
+        let kept = Kept {
             kinds: Vec::new(alloc),
             claims: BTreeMap::new(alloc),
             places: BTreeMap::new(alloc),
             several: BTreeSet::new(alloc),
             idle: VecDeque::new(alloc),
-        }
+        };
+        Queues { kept }
     }
 
     /// Puts a claim into the queue of a type, or into that of the reservations, where no type is
@@ -96,19 +86,13 @@ impl Queues {
         }) }
         ensures err { OnErr result (self.new ≡ self.old) }
     {
-        let queue = kind::made_queue(&mut self.kinds, kind)?;
+        let queue = kind::made_queue(&mut self.kept.kinds, kind)?;
         let spot = Spot {
             queue,
             priority: claim.priority.get(),
             number: claim.number,
         };
-        multi_board::put(
-            &mut self.claims,
-            &mut self.places,
-            &mut self.several,
-            spot,
-            claim,
-        )
+        self.kept.put(spot, claim)
     }
 
     /// Takes the claim of a number; of a number that isn't there it changes nothing.
@@ -121,12 +105,7 @@ impl Queues {
                   self.old.claims;
             } }
     {
-        multi_board::take(
-            &mut self.claims,
-            &mut self.places,
-            &mut self.several,
-            number,
-        );
+        self.kept.take(number);
     }
 
     /// Puts a free board of a type, in the place of one of its name if there is one. A refused
@@ -140,8 +119,8 @@ impl Queues {
         }) }
         ensures err { OnErr result (self.new ≡ self.old) }
     {
-        let queue = kind::made_type(&mut self.kinds, kind)?;
-        idle::put_row(&mut self.idle, IdleRow { name, queue })
+        let queue = kind::made_type(&mut self.kept.kinds, kind)?;
+        idle::put_row(&mut self.kept.idle, IdleRow { name, queue })
     }
 
     /// Takes a free board; of a name that isn't there it changes nothing.
@@ -156,14 +135,14 @@ impl Queues {
                   self.old.boards;
             } }
     {
-        idle::take_row(&mut self.idle, name);
+        idle::take_row(&mut self.kept.idle, name);
     }
 
     /// How many boards are free.
     pub fn free_count(&self) -> usize
         ensures { result ≡ length self.now.boards }
     {
-        self.idle.len()
+        self.kept.idle.len()
     }
 
     /// All claims in the order `before`, each with a copy of its owner's name. With C claims and K
@@ -171,7 +150,7 @@ impl Queues {
     pub fn claims(&self) -> Result<Vec<Claim>, AllocError>
         ensures { IfOk result (λ claims. claims.items ≡ map (λ x. x.claim) self.now.claims) }
     {
-        let claims = claim_index::in_order(*self.kinds.allocator(), &self.claims)?;
+        let claims = kept::in_order(*self.kept.kinds.allocator(), &self.kept.claims)?;
         Ok(claims)
     }
 
@@ -183,8 +162,12 @@ impl Queues {
             × (result ≡ filter_map (head_of (is_later (last_spot after))
             (λ k. all || is_open self.now.boards k) self.now.claims) kinds) }
     {
-        let last = spot::last_spot(after);
-        Heads::new(&self.kinds, &self.claims, &self.idle, last, all)
+        Heads {
+            kept: &self.kept,
+            queue: 0,
+            last: spot::last_spot(after),
+            all,
+        }
     }
 
     /// Lends the claims that come after a priority and a number, if they are given, in the order
@@ -196,10 +179,12 @@ impl Queues {
         ensures { IfOk result (λ walk. walk ≡ claims_after (is_open self.now.boards)
             (last_spot after) self.now.claims) }
     {
-        let alloc = *self.kinds.allocator();
         let last = spot::last_spot(after);
-        let walk = Walk::new(alloc, &self.kinds, &self.claims, &self.idle, last)?;
-        Ok(walk)
+        Ok(Walk {
+            kept: &self.kept,
+            last,
+            cursors: walk::cursors_after(&self.kept, last)?,
+        })
     }
 
     /// The first claim of two boards or more that comes after a priority and a number, if they are
@@ -212,7 +197,7 @@ impl Queues {
             (find (λ x. is_later (last_spot after) x.claim && nat_le 2 x.claim.boards)
             self.now.claims) }
     {
-        multi_board::first(&self.claims, &self.several, spot::last_spot(after))
+        self.kept.first_several(spot::last_spot(after))
     }
 
     /// The places of the least list of boards that meets the wants, out of the free boards that are
@@ -239,7 +224,7 @@ impl Queues {
         ensures within { IfSome result (λ places. All (λ i. i < length boards.now) places) }
         ensures different { IfSome result (λ places. AllPairs (λ i j. i ≢ j) places) }
     {
-        idle_search::least_of(&self.kinds, &self.idle, boards, types, wants)
+        idle::least_of(&self.kept.kinds, &self.kept.idle, boards, types, wants)
     }
 
     /// The places of the least list of free boards that meets the wants, at the cost of `least_of`.

@@ -1,15 +1,18 @@
-//! The least list of boards that meets some wants, searched among all boards.
-ghost use Rattle.std.specs.Prelude.{◌≡◌, ◌≢◌, ◌<◌, ◌≤◌, All, AllPairs, length, map, IfSome};
-ghost use Rattle.std.specs.Prelude.{option_map};
+//! The least list of boards that meets some wants, searched among all boards: the first candidates
+//! of each want, and the least choice among them.
+ghost use Rattle.std.specs.Prelude.{◌≡◌, ◌≢◌, ◌+◌, ◌<◌, ◌≤◌, ◌++◌, ℕ, List, All, AllPairs, length};
+ghost use Rattle.std.specs.Prelude.{map, IfNone, IfSome, option_map};
+ghost use Rattle.std.specs.List.{AllByRecursion};
 ghost use Rattle.std.specs.List.Sorted.{IsStrictlySortedBy};
 ghost use Rattle.farm_types.specs.Limits.{most_wants};
 ghost use Rattle.farm_types.specs.Table.{board_cmp};
 ghost use Rattle.farm_types.specs.Pick.{least};
 ghost use Rattle.farm_pick.specs.Test.{passes};
+ghost use Rattle.farm_pick.specs.Choice.{has, Ascends, Chooses, IsLeastChoice, IsShortlist};
+ghost use Rattle.farm_pick.specs.Choice.{candidate_at};
 ghost use Rattle.farm_pick.specs.Least.{boards_at};
 
-use crate::choose;
-use crate::free::Free;
+use crate::fit::{self, Free};
 use crate::picked::Picked;
 use farm_types::{BoardRow, TypeRow, Want, Wants};
 
@@ -40,13 +43,13 @@ pub fn least_of(
 {
     let mut lists = [Picked::new(), Picked::new(), Picked::new(), Picked::new()];
     for (i, want) in wants.iter().enumerate() {
-        let places = choose::shortlist(boards, types, want, free, wants.len());
+        let places = shortlist(boards, types, want, free, wants.len());
         if places.len() == 0 {
             return None;
         }
         lists[i] = places;
     }
-    choose::choose(&lists[..wants.len()], Picked::new())
+    choose(&lists[..wants.len()], Picked::new())
 }
 
 /// The places of the least list of boards that meets the wants, or None where no list does, at the
@@ -66,4 +69,51 @@ pub fn least(boards: &[BoardRow], types: &[TypeRow], wants: &Wants, free: Free) 
         [a, b, c, d] => least_of(boards, types, &[a, b, c, d], free),
         _ => unreachable!(),
     }
+}
+
+/// The first places of candidates for the want: all of them, or as many as the limit. At most one
+/// test a board.
+fn shortlist(
+    boards: &[BoardRow],
+    types: &[TypeRow],
+    want: &Want,
+    free: Free,
+    limit: usize,
+) -> Picked
+    requires { limit ≤ most_wants }
+    ensures { IsShortlist (candidate_at boards.now (passes types.now free) want.now) limit result }
+{
+    let mut found = Picked::new();
+    for place in 0..boards.len() {
+        if found.len() >= limit {
+            break;
+        }
+        if fit::is_candidate(types, want, free, &boards[place]) {
+            found = found.with(place);
+        }
+    }
+    found
+}
+
+/// The least choice of different places, one of each list, that are not in use: those in use and
+/// then these. Four lists of four places cost at most 4 + 16 + 64 + 256 = 340 steps.
+pub fn choose(lists: &[Picked], used: Picked) -> Option<Picked>
+    requires room { length used + length lists.now ≤ most_wants }
+    requires ascend { AllByRecursion Ascends lists.now }
+    ensures found { IfSome result (λ r. ((ps : List ℕ) × (r ≡ used ++ ps)
+        × IsLeastChoice has used lists.now ps)) }
+    ensures none { IfNone result ((ps : List ℕ) → Chooses has used lists.now ps → ⊥) }
+{
+    let Some((first, others)) = lists.split_first() else {
+        return Some(used);
+    };
+    for place in first.places() {
+        if used.places().contains(place) {
+            continue;
+        }
+        if let Some(chosen) = choose(others, used.with(*place)) {
+            return Some(chosen);
+        }
+    }
+    None
 }

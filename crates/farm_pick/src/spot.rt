@@ -34,13 +34,7 @@ impl Ord for Spot {
     ghost matches_eq = { Prim.search (comparing, rules) depth 9 };
 
     fn cmp(&self, other: &Spot) -> Ordering {
-        if self.queue != other.queue {
-            return self.queue.cmp(&other.queue);
-        }
-        if self.priority != other.priority {
-            return other.priority.cmp(&self.priority);
-        }
-        self.number.cmp(&other.number)
+        (self.queue, other.priority, self.number).cmp(&(other.queue, self.priority, other.number))
     }
 }
 

@@ -1,17 +1,20 @@
-//! The claims of the queues, one after the other in the order of the whole queue.
-ghost use Rattle.std.specs.Prelude.{◌≡◌, ◌+◌, IfOk, length, option_map};
+//! The claims of the queues, lent one after the other: the first one of each queue, or all in the
+//! order of the whole queue.
+ghost use Rattle.std.specs.Prelude.{◌≡◌, ◌≤◌, ◌||◌, ◌+◌, IfOk, length, option_map};
 ghost use Rattle.std.specs.Iterator.{YieldsFirstRef, item_count};
-ghost use Rattle.farm_pick.specs.Heads.{AreHeads, queue_open};
+ghost use Rattle.std.specs.Option.{option_copied};
+ghost use Rattle.farm_pick.specs.Heads.{AreHeads, head_in, queue_open};
 ghost use Rattle.farm_pick.specs.Walked.{AreCursors, IsCursor, IsLeastOf, StandsIn, StepsTo};
-ghost use Rattle.farm_pick.specs.Walked.{earlier_place, walk_from};
+ghost use Rattle.farm_pick.specs.Walked.{earlier_place};
 
-use crate::idle::{self, IdleRow};
-use crate::order::before;
+use crate::idle;
+use crate::kept::Kept;
+use crate::queue::before;
 use crate::spot::Spot;
-use farm_types::{Claim, Name};
-use std::alloc::{AllocError, Global};
+use farm_types::Claim;
+use std::alloc::AllocError;
+use std::collections::BTreeMap;
 use std::collections::btree_map::Range;
-use std::collections::{BTreeMap, VecDeque};
 use std::marker::Model;
 use std::ops::Bound;
 
@@ -33,44 +36,33 @@ fn step<'a>(mut rest: Range<'a, Spot, Claim>, queue: usize) -> Option<Cursor<'a>
 }
 
 /// Where a walk begins in the queue of a spot: at its first claim after the spot.
-pub fn cursor_after<'a>(claims: &'a BTreeMap<Spot, Claim>, last: Spot) -> Option<Cursor<'a>>
+fn cursor_after<'a>(claims: &'a BTreeMap<Spot, Claim>, last: Spot) -> Option<Cursor<'a>>
     ensures { StandsIn claims.now.entries last result }
 {
-    step(
-        claims.range((Bound::Excluded(last), Bound::Unbounded)),
-        last.queue,
-    )
+    let behind = claims.range((Bound::Excluded(last), Bound::Unbounded));
+    step(behind, last.queue)
 }
 
-/// Where a walk begins in the queue of a spot: in a closed one at no claim.
-fn open_cursor<'a>(
-    claims: &'a BTreeMap<Spot, Claim>,
-    rows: &VecDeque<IdleRow>,
-    last: Spot,
-) -> Option<Cursor<'a>>
-    ensures { IsCursor claims.now.entries (queue_open rows.now.items) last result }
+/// Where a walk begins in the queue of a spot: in a closed one at no claim, unless all are asked
+/// for.
+fn open_cursor(kept: &Kept, last: Spot, all: bool) -> Option<Cursor<'_>>
+    ensures { IsCursor kept.now.claims.entries
+        (λ q. all || queue_open kept.now.idle.items q) last result }
 {
-    if idle::is_open(rows, last.queue) {
-        cursor_after(claims, last)
-    } else {
-        None
+    if !all && !idle::is_open(&kept.idle, last.queue) {
+        return None;
     }
+    cursor_after(&kept.claims, last)
 }
 
 /// Where a walk begins in each queue.
-fn cursors_after<'a>(
-    alloc: Global,
-    kinds: &[Name],
-    claims: &'a BTreeMap<Spot, Claim>,
-    rows: &VecDeque<IdleRow>,
-    last: Spot,
-) -> Result<Vec<Option<Cursor<'a>>>, AllocError>
-    ensures { IfOk result (λ cursors. AreCursors claims.now.entries
-        (queue_open rows.now.items) last (length kinds.now + 1) cursors.items) }
+pub fn cursors_after(kept: &Kept, last: Spot) -> Result<Vec<Option<Cursor<'_>>>, AllocError>
+    ensures { IfOk result (λ cursors. AreCursors kept.now.claims.entries
+        (queue_open kept.now.idle.items) last (length kept.now.kinds.items + 1) cursors.items) }
 {
-    let mut cursors = Vec::with_capacity(alloc, kinds.len() + 1)?;
-    for queue in 0..kinds.len() + 1 {
-        let cursor = open_cursor(claims, rows, Spot { queue, ..last });
+    let mut cursors = Vec::with_capacity(*kept.kinds.allocator(), kept.kinds.len() + 1)?;
+    for queue in 0..kept.kinds.len() + 1 {
+        let cursor = open_cursor(kept, Spot { queue, ..last }, false);
         cursors.push(cursor)?;
     }
     Ok(cursors)
@@ -87,14 +79,8 @@ fn earlier<'a>(
 {
     match (first, cursor) {
         (first, None) => first,
-        (None, Some(cursor)) => Some((place, cursor.claim)),
-        (Some((at, claim)), Some(cursor)) => {
-            if before(cursor.claim, claim) {
-                Some((place, cursor.claim))
-            } else {
-                Some((at, claim))
-            }
-        }
+        (Some((_, claim)), Some(cursor)) if !before(cursor.claim, claim) => first,
+        (_, Some(cursor)) => Some((place, cursor.claim)),
     }
 }
 
@@ -115,13 +101,11 @@ fn first_of(cursors: &[Option<Cursor<'_>>]) -> Option<usize>
 /// With K types each turn costs a comparison a queue, and no search.
 #[derive(Drop)]
 pub struct Walk<'a> {
-    kinds: &'a [Name],
-    claims: &'a BTreeMap<Spot, Claim>,
-    idle: &'a VecDeque<IdleRow>,
+    pub(crate) kept: &'a Kept,
     /// The spot after which claims are lent, whatever its queue.
-    last: Spot,
+    pub(crate) last: Spot,
     /// Where the walk stands in each queue.
-    cursors: Vec<Option<Cursor<'a>>>,
+    pub(crate) cursors: Vec<Option<Cursor<'a>>>,
 }
 
 impl<'a> Model for Walk<'a> {
@@ -131,33 +115,11 @@ impl<'a> Model for Walk<'a> {
 
     ghost Value = { List Claim };
 
-    ghost view = { λ w. walk_from w.kinds.now w.claims.now.entries w.idle.now.items w.last };
+    ghost view = { λ w. walk_from w.kept.now.kinds.items w.kept.now.claims.entries
+        w.kept.now.idle.items w.last };
 
-    ghost invariant = { λ w. IsWalk w.kinds.now w.claims.now.entries w.idle.now.items w.last
-        w.cursors.items };
-}
-
-impl<'a> Walk<'a> {
-    /// The claims of the open queues after a spot.
-    pub(crate) fn new(
-        alloc: Global,
-        kinds: &'a [Name],
-        claims: &'a BTreeMap<Spot, Claim>,
-        idle: &'a VecDeque<IdleRow>,
-        last: Spot,
-    ) -> Result<Walk<'a>, AllocError>
-        requires { AreHeads kinds.now claims.now.entries idle.now.items }
-        ensures { IfOk result
-            (λ walk. walk ≡ walk_from kinds.now claims.now.entries idle.now.items last) }
-    {
-        Ok(Walk {
-            kinds,
-            claims,
-            idle,
-            last,
-            cursors: cursors_after(alloc, kinds, claims, idle, last)?,
-        })
-    }
+    ghost invariant = { λ w. IsWalk w.kept.now.kinds.items w.kept.now.claims.entries
+        w.kept.now.idle.items w.last w.cursors.items };
 }
 
 impl<'a> Iterator for Walk<'a> {
@@ -177,5 +139,66 @@ impl<'a> Iterator for Walk<'a> {
         };
         self.cursors[queue] = step(cursor.rest, queue);
         Some(cursor.claim)
+    }
+}
+
+/// The first claim that comes after a spot in the spot's queue, if the queue is open or all are
+/// asked for.
+fn seen_head(kept: &Kept, last: Spot, all: bool) -> Option<&Claim>
+    requires well { AreHeads kept.now.kinds.items kept.now.claims.entries kept.now.idle.items }
+    requires queue { last.queue ≤ length kept.now.kinds.items }
+    ensures { option_copied result ≡ head_in kept.now.kinds.items kept.now.claims.entries
+        kept.now.idle.items all last }
+{
+    let cursor = open_cursor(kept, last, all)?;
+    Some(cursor.claim)
+}
+
+/// Lends the first claim of each queue that comes after a spot, the reservations' queue first; of
+/// queues that are closed only where all are asked for. Contracts see the list of those that are
+/// left. It takes no memory. With C claims each turn costs O(log C).
+#[derive(Drop)]
+pub struct Heads<'a> {
+    pub(crate) kept: &'a Kept,
+    /// The queue that is looked at next.
+    pub(crate) queue: usize,
+    /// The spot after which claims are lent, whatever its queue.
+    pub(crate) last: Spot,
+    pub(crate) all: bool,
+}
+
+impl<'a> Model for Heads<'a> {
+    ghost use Rattle.std.specs.Prelude.{List};
+    ghost use Rattle.farm_types.specs.declared.claims.Claim.{Claim};
+    ghost use Rattle.farm_pick.specs.Heads.{AreHeads, heads_from};
+
+    ghost Value = { List Claim };
+
+    ghost view = { λ h. heads_from h.kept.now.kinds.items h.kept.now.claims.entries
+        h.kept.now.idle.items h.all h.last h.queue };
+
+    ghost invariant = { λ h. AreHeads h.kept.now.kinds.items h.kept.now.claims.entries
+        h.kept.now.idle.items };
+}
+
+impl<'a> Iterator for Heads<'a> {
+    type Item = &'a Claim;
+
+    ghost next_gives = { YieldsFirstRef (λ s. s) };
+
+    ghost remaining = { item_count (λ s. s) };
+
+    fn next(&mut self) -> Option<&'a Claim> {
+        while self.queue <= self.kept.kinds.len() {
+            let spot = Spot {
+                queue: self.queue,
+                ..self.last
+            };
+            self.queue += 1;
+            if let Some(claim) = seen_head(self.kept, spot, self.all) {
+                return Some(claim);
+            }
+        }
+        None
     }
 }

@@ -9,9 +9,9 @@ returns c =
     let start : IsApp (new_app (codes "report")) c.about.result = (search rules, search rules) in
     let first = rule_added (new_app (codes "report")) (db_rule true) c.about.result c.file.result c.in_ok-arg.field-0
     c.in_ok-arg.ensures c.file.ensures.rule c.file.ensures.local start in
-    let second = rule_added _ (offset_rule (codes "east")) c.in_ok-arg.field-0 c.offset.result c.in_ok-arg-2.field-0
-    c.in_ok-arg-2.ensures c.offset.ensures.rule c.offset.ensures.local first in
-    let third = rule_added _ (offset_rule (codes "west")) c.in_ok-arg-2.field-0 c.offset-2.result c.in_ok-arg-3.field-0
-    c.in_ok-arg-3.ensures c.offset-2.ensures.rule c.offset-2.ensures.local second in
-    last_rule _ (positional_rule (codes "which")) c.in_ok-arg-3.field-0 c.positional.result c.arg-4.result
-    c.arg-4.ensures c.positional.ensures.rule c.positional.ensures.local third
+    let second = rule_added _ (offset_rule (codes "east")) c.in_ok-arg.field-0 c.help.result c.in_ok-arg-2.field-0
+    c.in_ok-arg-2.ensures (search rules) (search rules) first in
+    let third = rule_added _ (offset_rule (codes "west")) c.in_ok-arg-2.field-0 c.help-2.result c.in_ok-arg-3.field-0
+    c.in_ok-arg-3.ensures (search rules) (search rules) second in
+    last_rule _ (positional_rule (codes "which")) c.in_ok-arg-3.field-0 c.help-3.result c.arg-4.result
+    c.arg-4.ensures (search rules) (search rules) third

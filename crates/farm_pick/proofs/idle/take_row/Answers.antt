@@ -8,5 +8,5 @@ returns-in-Ok c =
     let removed : c.remove-row.new.self.items ≡ remove c.args.rows.now.items c.in-Ok.at = search rules in
     removed ∙ taken_at c.args.name.now c.args.rows.now.items c.in-Ok.at c.requires c.in-Ok.ensures.within c.in-Ok.ensures.row
 
-pub returns-in-Err : goal.returns-in-Err
-returns-in-Err c = none_at c.args.name.now c.args.rows.now.items c.in-Err.ensures.row
+pub returns-in_default : goal.returns-in_default
+returns-in_default c = none_at c.args.name.now c.args.rows.now.items c.in_default.ensures.row

@@ -2,10 +2,10 @@ use Rattle.std.proofs.Common.{add-one, arith}
 use Rattle.farm_pick.proofs.Apart.{kind_found, kind_nowhere, kinds_after}
 use Rattle.farm_pick.proofs.kind.made_type.Goals as goal
 
-pub returns-in_ok-push-in-None-clause-apart : goal.returns-in_ok-push-in-None-clause-apart
-returns-in_ok-push-in-None-clause-apart c =
-    kinds_after c.args.kinds.now.items c.deref.result.now c.push.new.self.items c.in_ok-copy-in-None.field-0 c.args.kind.now c.deref.ensures.value c.in_ok-copy-in-None.ensures.same
-    c.in_ok-push-in-None.ensures.items (kind_nowhere c.deref.result.now c.args.kind.now c.in-None.ensures)
+pub returns-clause-apart : goal.returns-clause-apart
+returns-clause-apart c =
+    kinds_after c.args.kinds.now.items c.deref.result.now c.push.new.self.items c.in_ok-copy.field-0 c.args.kind.now c.deref.ensures.value c.in_ok-copy.ensures.same
+    c.in_ok-push.ensures.items (kind_nowhere c.deref.result.now c.args.kind.now c.in_default.ensures)
 
 pub returns-in-Some-clause-queue : goal.returns-in-Some-clause-queue
 returns-in-Some-clause-queue c =

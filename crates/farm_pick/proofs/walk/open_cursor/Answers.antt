@@ -1,13 +1,13 @@
-use Rattle.std.proofs.Common.{◌∙◌, sym}
+use Rattle.std.proofs.Common.{◌||◌, rules}
 use Rattle.farm_pick.specs.Heads.{queue_open}
 use Rattle.farm_pick.proofs.Walking.{cursor_seen, cursor_unseen}
 use Rattle.farm_pick.proofs.walk.open_cursor.Goals as goal
 
-pub returns-then-is_open : goal.returns-then-is_open
-returns-then-is_open c =
-    cursor_seen c.args.claims.now.entries (queue_open c.args.rows.now.items) c.args.last c.cursor_after.result
-    (sym c.is_open.ensures ∙ c.if-is_open.true) c.cursor_after.ensures
+pub returns-then-not-is_open : goal.returns-then-not-is_open
+returns-then-not-is_open c =
+    cursor_unseen c.args.kept.now.claims.entries (λ q. c.args.all || queue_open c.args.kept.now.idle.items q) c.args.last (search rules)
 
-pub returns-else-is_open : goal.returns-else-is_open
-returns-else-is_open c =
-    cursor_unseen c.args.claims.now.entries (queue_open c.args.rows.now.items) c.args.last (sym c.is_open.ensures ∙ c.if-is_open.false)
+pub returns : goal.returns
+returns c =
+    cursor_seen c.args.kept.now.claims.entries (λ q. c.args.all || queue_open c.args.kept.now.idle.items q) c.args.last c.cursor_after.result
+    (search rules) c.cursor_after.ensures

@@ -1,7 +1,0 @@
-use Rattle.std.proofs.Common.{◌≡◌, ◌++◌}
-use Rattle.std.specs.BTreeMap.{values}
-use Rattle.farm_pick.proofs.claim_index.copies.Given as goal
-
--- the copies so far, and those that are left
-abbrev pub invariant-loop-claim : goal.invariant-loop-claim
-invariant-loop-claim l = l.copies.items ++ l.claim-iterator ≡ values l.claims

@@ -1,0 +1,11 @@
+use Rattle.std.proofs.Common.{◌≡◌, length, take}
+use Rattle.farm_types.specs.Pick.{is_free}
+use Rattle.farm_pick.proofs.Answering.{AreShortlists, candidate_by, lent}
+use Rattle.farm_pick.proofs.idle.least_of.Given as goal
+
+-- the wants so far have their short lists
+abbrev pub invariant-loop-i : goal.invariant-loop-i
+invariant-loop-i l = record {
+  four : length l.lists ≡ 4;
+  short : AreShortlists (candidate_by lent l.boards (is_free l.types)) (length l.wants) (take l.i l.wants) (take l.i l.lists);
+}
