@@ -150,10 +150,7 @@ fn tags_in(alloc: Global, parts: &[&[u8]]) -> Result<Vec<Tag>, WordFault>
 {
     let mut items = Vec::with_capacity(alloc, parts.len())?;
     for part in parts {
-        match Tag::parse(alloc, part) {
-            Ok(tag) => items.push(tag)?,
-            Err(fault) => return Err(fault),
-        }
+        items.push(Tag::parse(alloc, part)?)?;
     }
     Ok(items)
 }
