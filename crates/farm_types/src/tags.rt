@@ -88,11 +88,12 @@ impl Tag {
         self.text.as_str()
     }
 
-    /// The bytes of its key: what stands before the first '='.
+    /// The bytes of its key.
     #[tactic(auto, using(crate::proofs::TagLemmas::key_at, crate::proofs::TagLemmas::key_whole))]
     pub fn key(&self) -> &[u8]
         ensures { result.now ≡ tag_key self.now }
     {
+        // What stands before the first '='.
         let text = self.text.as_bytes();
         &text[..key_end(text).unwrap_or(text.len())]
     }
