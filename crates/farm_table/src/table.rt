@@ -214,8 +214,7 @@ impl<R: Row + Drop> Table<R> {
             self.old.rows self.new.rows) }
         ensures leads { Leads (by_key R.key R.key_cmp) self.old self.new }
     {
-        let end = self.len();
-        self.change_between(0, end, edit)
+        self.change_between(0, self.len(), edit)
     }
 
     /// Gives the log away, and begins a new one.
@@ -224,7 +223,6 @@ impl<R: Row + Drop> Table<R> {
         ensures fit { AllByRecursion R.Fits result.items }
         ensures rests { self.new ≡ record { rows = self.old.rows; log = [] } }
     {
-        let none = Vec::new(*self.allocator());
-        std::mem::replace(&mut self.log, none)
+        std::mem::replace(&mut self.log, Vec::new(*self.rows.allocator()))
     }
 }

@@ -88,11 +88,12 @@ impl Tag {
         self.text.as_str()
     }
 
-    /// The bytes of its key: what stands before the first '='.
+    /// The bytes of its key.
     #[tactic(auto, using(crate::proofs::TagLemmas::key_at, crate::proofs::TagLemmas::key_whole))]
     pub fn key(&self) -> &[u8]
         ensures { result.now ≡ tag_key self.now }
     {
+        // What stands before the first '='.
         let text = self.text.as_bytes();
         &text[..key_end(text).unwrap_or(text.len())]
     }
@@ -150,10 +151,7 @@ fn tags_in(alloc: Global, parts: &[&[u8]]) -> Result<Vec<Tag>, WordFault>
 {
     let mut items = Vec::with_capacity(alloc, parts.len())?;
     for part in parts {
-        match Tag::parse(alloc, part) {
-            Ok(tag) => items.push(tag)?,
-            Err(fault) => return Err(fault),
-        }
+        items.push(Tag::parse(alloc, part)?)?;
     }
     Ok(items)
 }
