@@ -24,53 +24,11 @@ use farm_types::{
 };
 use std::alloc::{AllocError, Global};
 
-/// The row of a new member.
-fn new_member(
-    number: u64,
-    group: u64,
-    owner: &Name,
-    priority: Priority,
-    want: &Want,
-    role: &Option<Name>,
-    body: Body,
-) -> Result<JobRow, AllocError>
-    ensures { IfOk result (λ row. row ≡ record {
-      number = number;
-      group = group;
-      checking = false;
-      owner = owner.now;
-      priority = priority;
-      want = want.now;
-      role = role.now;
-      state = JobState.Submitted;
-      outcome = None;
-      board = None;
-      body = body;
-    }) }
-{
-    Ok(JobRow {
-        number,
-        group,
-        checking: false,
-        owner: owner.copy()?,
-        priority,
-        want: want.copy()?,
-        role: copy_name(role)?,
-        state: JobState::Submitted,
-        outcome: None,
-        board: None,
-        body,
-    })
-}
-
 /// The type of the first want, in whose queue the group stands.
 fn first_kind(wants: &Wants) -> &Option<Name>
     ensures { result.now ≡ first_kind wants.now }
 {
-    match wants.items().first() {
-        Some(want) => &want.kind,
-        None => unreachable!(),
-    }
+    &wants.items()[0].kind
 }
 
 /// The text of the member at a place: the first carries it.
@@ -99,12 +57,7 @@ impl Tables {
             ≡ list_any (λ w. option_map_or (λ kind. is_none (type_of (plain_farm self.now) kind)) w.kind
             false) wants.now }
     {
-        wants.iter().any(
-            |want: &Want| -> bool
-                ensures { result ≡ option_map_or
-                    (λ kind. is_none (type_of (plain_farm self.entry.now) kind)) want.now.kind false }
-            { self.lacks_type(&want.kind) },
-        )
+        wants.iter().any(|want| self.lacks_type(&want.kind))
     }
 
     /// Why a group isn't submitted. With B boards and at most four wants it costs O(B).
@@ -115,10 +68,8 @@ impl Tables {
             return Some(NO_TYPE);
         }
         let (boards, types) = (self.boards.rows(), self.types.rows());
-        if farm_pick::least(boards, types, wants, Free::NotRetired).is_none() {
-            return Some(NO_SUCH_BOARDS);
-        }
-        None
+        let least = farm_pick::least(boards, types, wants, Free::NotRetired);
+        least.is_none().then_some(NO_SUCH_BOARDS)
     }
 }
 
@@ -143,10 +94,19 @@ impl Tables {
     {
         let alloc = *self.boards.allocator();
         for at in 0..wants.len() {
-            let text = member_text(alloc, at, body)?;
-            let number = group + at as u64;
-            let row = new_member(number, group, owner, priority, &wants[at], &roles[at], text)?;
-            self.jobs.put(row)?;
+            self.jobs.put(JobRow {
+                number: group + at as u64,
+                group,
+                checking: false,
+                owner: owner.copy()?,
+                priority,
+                want: wants[at].copy()?,
+                role: copy_name(&roles[at])?,
+                state: JobState::Submitted,
+                outcome: None,
+                board: None,
+                body: member_text(alloc, at, body)?,
+            })?;
         }
         Ok(())
     }
