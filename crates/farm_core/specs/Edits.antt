@@ -77,7 +77,7 @@ res_passes (ResFilter.Dead now) r = is_dead now r
 -- whether a holder is one of some rows that pass
 abbrev pub are_held_by : Holders → Holder → Bool
 are_held_by (Holders.Jobs jobs filter) holder = is_job_so (record empty_farm { jobs = jobs.now.rows }) (job_passes filter) holder
-are_held_by (Holders.Reservations reservations filter) holder =
+are_held_by (Holders.Res reservations filter) holder =
     is_res_so (record empty_farm { reservations = reservations.now.rows }) (res_passes filter) holder
 
 -- what becomes of a board

@@ -261,7 +261,7 @@ impl Edit<ResRow> for ResEdit<'_> {
 #[derive(Drop)]
 pub enum Holders<'a> {
     Jobs(&'a Table<JobRow>, JobFilter),
-    Reservations(&'a ResTable, ResFilter),
+    Res(&'a ResTable, ResFilter),
 }
 
 /// What becomes of the boards that they hold.
@@ -281,9 +281,7 @@ impl Edit<BoardRow> for Held<'_> {
     fn passes(&self, row: &BoardRow) -> bool {
         match (&self.holders, row.holder) {
             (Holders::Jobs(jobs, filter), Holder::Job(number)) => passes(jobs, filter, number),
-            (Holders::Reservations(rows, filter), Holder::Res(number)) => {
-                rows.passes(filter, number)
-            }
+            (Holders::Res(rows, filter), Holder::Res(number)) => rows.passes(filter, number),
             _ => false,
         }
     }
@@ -332,7 +330,7 @@ impl Tables {
         // The board first, as above.
         let row = ResFilter::Numbered(edit.number);
         self.boards.change_where(&Held {
-            holders: Holders::Reservations(&self.reservations, row),
+            holders: Holders::Res(&self.reservations, row),
             effect,
         })?;
         self.reservations.edit(edit)

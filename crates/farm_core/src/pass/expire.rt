@@ -88,7 +88,7 @@ impl Tables {
         // The boards first: the reservations as they were say which are freed.
         let dead = ResFilter::Dead(self.clock);
         self.boards.change_where(&Held {
-            holders: Holders::Reservations(&self.reservations, dead),
+            holders: Holders::Res(&self.reservations, dead),
             effect: BoardEffect::Free,
         })?;
         let count = self.expire_reservations()?;

@@ -65,7 +65,7 @@ fn is_known(misses: &Misses, wants: &[&Want]) -> bool
 }
 
 /// Remembers what a claim wants, and forgets the oldest of eight.
-fn note(misses: &mut Misses, wants: &[&Want]) -> Result<(), AllocError>
+fn remember(misses: &mut Misses, wants: &[&Want]) -> Result<(), AllocError>
     ensures { OnOk result (IsRemembered misses.old.items (map (λ w. w.now) wants.now)
         misses.new.items) }
 {
@@ -150,7 +150,7 @@ impl Tables {
             → AreMisses F misses.new.items) }
     {
         if let Some(found) = self.wants_of(kind, number) {
-            note(misses, &found.0[..found.1])?;
+            remember(misses, &found.0[..found.1])?;
         }
         Ok(())
     }
