@@ -157,10 +157,7 @@ impl Edit<JobRow> for JobEdit<'_> {
         match self.placement {
             Placement::Stays => {}
             Placement::Leaves => row.board = None,
-            Placement::On(name) => {
-                let board = name.copy()?;
-                row.board = Some(board);
-            }
+            Placement::On(name) => row.board = Some(name.copy()?),
         }
         row.state = self.state;
         row.outcome = self.outcome.or(row.outcome);
@@ -248,8 +245,7 @@ impl Edit<ResRow> for ResEdit<'_> {
 
     fn change(&self, row: &mut ResRow) -> Result<(), AllocError> {
         if let Some(name) = self.board {
-            let board = name.copy()?;
-            row.board = Some(board);
+            row.board = Some(name.copy()?);
         }
         row.state = self.state.unwrap_or(row.state);
         row.deadline = self.deadline.unwrap_or(row.deadline);

@@ -10,7 +10,6 @@ ghost use Rattle.farm_types.specs.Refuse.{first_code, submit_reasons};
 ghost use Rattle.farm_types.specs.Change.{new_members};
 ghost use Rattle.farm_types.specs.declared.calls.Cmd.{Cmd};
 ghost use Rattle.farm_types.specs.declared.rows.JobState.{JobState};
-ghost use Rattle.farm_pick.specs.Queued.{first_kind};
 ghost use Rattle.farm_core.specs.Edits.{text_at};
 ghost use Rattle.farm_core.specs.Came.{Acts, CameTo, seen, seen_at};
 ghost use Rattle.farm_core.specs.Following.{IsFresh};
@@ -23,13 +22,6 @@ use farm_types::{
     Wants, copy_name,
 };
 use std::alloc::{AllocError, Global};
-
-/// The type of the first want, in whose queue the group stands.
-fn first_kind(wants: &Wants) -> &Option<Name>
-    ensures { result.now ≡ first_kind wants.now }
-{
-    &wants.items()[0].kind
-}
 
 /// The text of the member at a place: the first carries it.
 fn member_text(alloc: Global, place: usize, body: &Body) -> Result<Body, AllocError>
@@ -135,7 +127,8 @@ impl Tables {
             boards: wants.items().len() as u64,
         };
         self.add_members(group, owner, priority, wants.items(), roles.items(), body)?;
-        self.queues.put_claim(claim, first_kind(wants))?;
+        // the group stands in the queue of its first want's type
+        self.queues.put_claim(claim, &wants.items()[0].kind)?;
         self.next = group + wants.items().len() as u64;
         Ok(group)
     }

@@ -45,7 +45,7 @@ fn is_due_by(check: Check, now: u64, board: &BoardRow) -> bool
     }
 }
 
-/// The name of the admin, who owns the checks.
+/// The name of the admin, who owns the checks. The text is a name, so only memory can be wanting.
 #[tactic(auto, unfolding(farm_types::specs::Words::is_word))]
 fn admin_name(alloc: Global) -> Result<Name, AllocError>
     ensures { IfOk result (λ name. name ≡ codes "admin") }
