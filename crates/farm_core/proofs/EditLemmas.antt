@@ -13,8 +13,8 @@ use Rattle.farm_types.specs.declared.rows.JobRow.{JobRow}
 use Rattle.farm_types.specs.declared.rows.ResRow.{ResRow}
 use Rattle.farm_types.specs.declared.rows.BoardRow.{BoardRow}
 use Rattle.farm_core.specs.declared.board_effect.BoardEffect.{BoardEffect}
-use Rattle.farm_core.specs.declared.command.job_edit.JobEdit.{JobEdit}
-use Rattle.farm_core.specs.declared.command.res_edit.ResEdit.{ResEdit}
+use Rattle.farm_core.specs.declared.edits.JobEdit.{JobEdit}
+use Rattle.farm_core.specs.declared.edits.ResEdit.{ResEdit}
 use Rattle.farm_table.specs.Near.{IsFitJob}
 use Rattle.farm_table.specs.Tabled.{KeepsKeys}
 use Rattle.farm_core.specs.Edits.{IsSmallEffect, job_changed, res_changed, board_after}

@@ -16,9 +16,9 @@ use Rattle.farm_types.specs.declared.rows.JobRow.{JobRow}
 use Rattle.farm_types.proofs.Put.{found_passes}
 use Rattle.farm_table.specs.Near.{IsFitJob}
 use Rattle.farm_types.specs.declared.rows.JobState.{JobState}
-use Rattle.farm_core.specs.declared.command.job_edit.JobEdit.{JobEdit}
-use Rattle.farm_core.specs.declared.command.job_edit.JobFilter.{JobFilter}
-use Rattle.farm_core.specs.declared.command.job_edit.Placement.{Placement}
+use Rattle.farm_core.specs.declared.edits.JobEdit.{JobEdit}
+use Rattle.farm_core.specs.declared.edits.JobFilter.{JobFilter}
+use Rattle.farm_core.specs.declared.edits.Placement.{Placement}
 use Rattle.farm_core.specs.Edits.{job_passes, job_changed}
 use Rattle.farm_core.proofs.EditLemmas.{jobs_alone}
 

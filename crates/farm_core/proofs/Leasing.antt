@@ -28,7 +28,7 @@ use Rattle.farm_core.specs.Came.{Seen}
 use Rattle.farm_core.specs.Following.{without_claim}
 use Rattle.farm_core.specs.Following.{without_all}
 use Rattle.farm_core.specs.Leases.{AreNoted, Grows, IsNoted, is_dead_at, is_noted, lease_cmp, lease_if, lease_of, may_end}
-use Rattle.farm_core.specs.declared.leases.Lease.{Lease}
+use Rattle.farm_core.specs.declared.res_table.Lease.{Lease}
 use Rattle.farm_core.proofs.Assigned.{taken_more}
 
 -- ---- rows that change

@@ -184,11 +184,7 @@ module _ (F : Farm) (place : Option (ℕ × ℕ)) where
                 (found_first test it.0 (queue F) (queue_sorted F) it.1 e at (ap (λ k. is_lt (shown_cmp (shown_claim e) k)) it.2 ∙ less)),
           )
 
-  -- where a group collects
-  pub next_alone : (F.collector ≡ 0 → ⊥) → (o : Option Claim) → IsNextCandidate F place o → IsNext F place o
-  next_alone one = next_weaker (λ d. IsMissed F d.wants) (IsSkipped F) (λ e missed. (missed, λ none. absurd (one none)))
-
-  -- and where nobody does
+  -- where nobody collects
   pub next_both : (queues : QueueLists) → queues ≡ queue_lists F → (o p : Option Claim) → IsNextCandidate F place o
       → p ≡ option_map (λ (x : Queued). x.claim) (find (λ x. is_later (last_spot place) x.claim && nat_le 2 x.claim.boards) queues.claims) → IsNext F place (earlier_of o p)
   next_both queues fits o p candidate several =

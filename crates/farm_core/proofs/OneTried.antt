@@ -1,15 +1,42 @@
 -- A claim is tried: it is served, or it isn't met and passed over.
-use Rattle.std.proofs.Common.{◌≡◌, ◌∙◌, ℕ, length, Bool, true, false, None, sym, ap, subst}
+use Rattle.std.proofs.Common.{◌≡◌, ◌∙◌, ◌==◌, ℕ, List, length, filter, not, Bool, true, false, Option, Some, None, option_map, sym, ap, subst}
 use Rattle.farm_types.specs.Pick.{IsAmong, Claimed, is_free, least, queue, shown_claim}
 use Rattle.farm_types.specs.Sound.{IsSound}
 use Rattle.farm_types.specs.declared.claims.ClaimKind.{ClaimKind}
+use Rattle.farm_types.specs.declared.rows.BoardRow.{BoardRow}
 use Rattle.farm_sound.proofs.Claims.{IsClaim, queue_claims}
 use Rattle.farm_sound.proofs.Lists.{among_has}
 use Rattle.farm_pick.proofs.Filling.{numbers_differ}
+use Rattle.farm_pick.specs.Least.{boards_at}
+use Rattle.farm_pick.specs.Queued.{Queued}
 use Rattle.farm_core.specs.Came.{Seen}
-use Rattle.farm_core.specs.Serving.{MatchesRows, Serves, Tries}
+use Rattle.farm_core.specs.Following.{without_boards}
+use Rattle.farm_core.specs.Serving.{MatchesRows, Serves, Tries, names_at, wants_of}
+use Rattle.farm_core.proofs.Assigned.{queues_left}
 use Rattle.farm_core.proofs.Passing.{asks_claim}
-use Rattle.farm_core.proofs.Skipping.{one_of}
+use Rattle.farm_core.proofs.Places.{names_boards}
+use Rattle.farm_core.proofs.Serving.{assigned, claim_served, met, names_of}
+use Rattle.farm_core.proofs.Skipping.{one_of, wants_asked}
+
+-- a claim is given the boards that meet it
+module _ (D : Seen) (kind : ClaimKind) (number : ℕ) (c : Claimed) (of_kind : (shown_claim c).kind ≡ kind) (same : c.number ≡ number) (asks : MatchesRows c.reservation D.farm c) where
+  abbrev found : Option (List BoardRow)
+  found = least D.farm.boards (is_free D.farm.types) (wants_of D.farm kind number)
+
+  wants : c.wants ≡ wants_of D.farm kind number
+  wants = wants_asked D.farm c asks ∙ (λ i. wants_of D.farm (of_kind i) (same i))
+
+  pub given_boards : (picked : List ℕ) → Some (boards_at D.farm.boards picked) ≡ found → (E : Seen) → E.farm ≡ assigned D.farm kind number (names_at D.farm.boards picked)
+      → E.queues ≡ record { claims = filter (λ (x : Queued). not (x.claim.number == number)) D.queues.claims; boards = without_boards (names_at D.farm.boards picked) D.queues.boards }
+      → Tries D c true E
+  given_boards picked is E farm queues =
+      let names = names_at D.farm.boards picked in
+      let called : Some names ≡ option_map names_of found = ap Some (sym (names_boards D.farm.boards picked)) ∙ ap (option_map names_of) is in met (
+        λ n. claim_served D.farm c E.farm kind number n names (wants_of D.farm kind number) of_kind same wants called farm,
+        queues
+            ∙ (λ i. record { claims = filter (λ (x : Queued). not (x.claim.number == sym same i)) D.queues.claims; boards = without_boards names D.queues.boards })
+            ∙ queues_left D.farm c (wants_of D.farm kind number) wants D.queues names called,
+      )
 
 module _ (D : Seen) (kind : ClaimKind) (number boards : ℕ) (sound : IsSound D.farm)
     (waits : (c : Claimed) × IsAmong c (queue D.farm) × ((shown_claim c).kind ≡ kind) × (c.number ≡ number) × (length c.wants ≡ boards))

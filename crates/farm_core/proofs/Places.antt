@@ -1,14 +1,15 @@
 -- Boards that are assigned, by their places.
-use Rattle.std.proofs.Common.{◌≡◌, ℕ, zero, suc, ◌+◌, ◌<◌, ◌++◌, List, [], ◌∷◌, length, set, take, get_or, Bool, true, false, cond, Option, Some, None, refl, sym, ap, ◌∙◌, arith}
+use Rattle.std.proofs.Common.{◌≡◌, ℕ, zero, suc, ◌+◌, ◌<◌, ◌++◌, List, [], ◌∷◌, length, set, take, get_or, Bool, true, false, cond, Option, Some, None, refl, sym, ap, subst, ◌∙◌, arith}
 use Rattle.std.specs.Cmp.Lexicographic.{nat_list_cmp_total}
-use Rattle.std.specs.List.{AllByRecursion}
+use Rattle.std.specs.List.{All, AllByRecursion}
 use Rattle.std.specs.List.Sorted.{IsStrictlySortedBy}
 use Rattle.std.specs.Option.{option_map}
 use Rattle.std.specs.Prelude.{slice_get}
 use Rattle.std.specs.Str.{bytes_eq}
 use Rattle.std.proofs.lemmas.List.{length-map, take_more}
-use Rattle.std.proofs.lemmas.List.Elements.{filter_map-append}
+use Rattle.std.proofs.lemmas.List.Elements.{filter_map-append, recursion_from_All}
 use Rattle.std.proofs.lemmas.Option.{slice_get-get_or, slice_get-map}
+use Rattle.farm_types.specs.Farm.{Farm}
 use Rattle.farm_types.specs.Pass.{held_board}
 use Rattle.farm_types.specs.Table.{board_cmp, change_where}
 use Rattle.farm_types.specs.Words.{text_cmp}
@@ -21,7 +22,7 @@ use Rattle.farm_table.proofs.Steps.{apart_by_key, one_changes}
 use Rattle.farm_pick.specs.Least.{boards_at}
 use Rattle.farm_pick.specs.Queued.{IdleBoard}
 use Rattle.farm_core.specs.Following.{without_board, without_boards}
-use Rattle.farm_core.specs.Serving.{name_at, names_at}
+use Rattle.farm_core.specs.Serving.{assign_first, name_at, names_at}
 use Rattle.farm_core.proofs.Serving.{names_of}
 
 -- the board at a place
@@ -84,6 +85,21 @@ names_more rows places k b low within is =
     ap (names_at rows) (take_more places k 0 low)
     ∙ filter_map-append (name_at rows) (take k places) (get_or places k 0 ∷ [])
     ∙ ap (λ ns. names_at rows (take k places) ++ ns) (rw (named rows (get_or places k 0) b within is) refl)
+
+-- a reservation is given the board at the first of some places
+pub assigned_first : (F : Farm) (number : ℕ) (places : List ℕ) (at : ℕ) (b : BoardRow) → at < length F.boards → b ≡ get_or F.boards at b → Some at ≡ slice_get places 0
+    → assign_first F number (names_at F.boards places) ≡ assign_first F number (b.name ∷ [])
+assigned_first F number [] at b low is first = cc
+assigned_first F number (p ∷ places) at b low is first =
+    let same : at ≡ p = cc in
+    rw (named F.boards p b (subst (λ k. k < length F.boards) same low) (is ∙ ap (λ k. get_or F.boards k b) same)) refl
+
+pub first_low : (n : ℕ) (places : List ℕ) (at : ℕ) → All (λ at. at < n) places → Some at ≡ slice_get places 0 → at < n
+first_low n places at all first = by places (recursion_from_All (λ at. at < n) places all) first
+  where
+    by : (places : List ℕ) → AllByRecursion (λ at. at < n) places → Some at ≡ slice_get places 0 → at < n
+    by [] all first = cc
+    by (p ∷ places) all first = let same : at ≡ p = cc in subst (λ k. k < n) (sym same) all.0
 
 -- the first of some places is where the one board stands that they have
 pub first_at : (rows : List BoardRow) (places : List ℕ) (o : Option BoardRow) → AllByRecursion (λ at. at < length rows) places → 0 < length places → Some (boards_at rows places) ≡ option_map (λ b. b ∷ []) o

@@ -1,22 +1,21 @@
 -- What the program does for one claim is what the machine does.
-use Rattle.std.proofs.Common.{◌≡◌, ℕ, zero, suc, ◌+◌, ◌<◌, ◌==◌, List, [], ◌∷◌, length, map, drop, get_or, Bool, true, false, cond, Option, Some, None, IsSomeAnd, refl, sym, ap, ◌∙◌, arith, add-one}
+use Rattle.std.proofs.Common.{◌≡◌, ℕ, zero, suc, ◌+◌, ◌<◌, ◌==◌, List, [], ◌∷◌, length, map, drop, get_or, Bool, true, false, cond, Option, Some, None, refl, sym, ap, ◌∙◌, arith, add-one}
 use Rattle.std.specs.List.{AllByRecursion, filter, fold, zip}
 use Rattle.std.specs.Option.{option_map, option_map_or}
-use Rattle.farm_types.specs.Farm.{Farm, members, res_of}
+use Rattle.farm_types.specs.Farm.{Farm, members}
 use Rattle.farm_types.specs.Pass.{Served, give, give_res, give_group, give_member, pass_over, serve}
-use Rattle.farm_types.specs.Pick.{Claimed, least, is_free}
+use Rattle.farm_types.specs.Pick.{Claimed, least, is_free, shown_claim}
 use Rattle.farm_types.specs.Small.{IsSmall}
 use Rattle.farm_types.specs.declared.claims.ClaimKind.{ClaimKind}
 use Rattle.farm_types.specs.declared.rows.BoardRow.{BoardRow}
 use Rattle.farm_types.specs.declared.rows.JobRow.{JobRow}
 use Rattle.farm_types.specs.declared.rows.JobState.{JobState}
-use Rattle.farm_types.specs.declared.rows.ResRow.{ResRow}
 use Rattle.farm_types.specs.declared.rows.Want.{Want}
 use Rattle.farm_sound.proofs.Lists.{filter_all}
 use Rattle.farm_sound.proofs.Where.{AllByRecursion-map}
 use Rattle.farm_table.specs.Near.{IsFitJob}
 use Rattle.farm_core.specs.Came.{Seen}
-use Rattle.farm_core.specs.Serving.{MatchesRows, Serves, Tries, assign_first, assign_named}
+use Rattle.farm_core.specs.Serving.{Serves, Tries, assign_first, assign_named}
 
 -- ---- the numbers of members, and the names of boards
 
@@ -89,52 +88,28 @@ module _ (F : Farm) (c : Claimed) (n : ℕ) (wants : List Want) (asks : c.wants 
       by None is = cc
       by (Some bs) is = let same : names ≡ names_of bs = cc in ap (λ (H : Farm). record { farm = H; claims = n + 1 }) (gives bs same)
 
--- a group
-pub group_served : (F G : Farm) (group : ℕ) (c : Claimed) (n : ℕ) (names : List (List ℕ)) (numbers : List ℕ) → c.reservation ≡ false → c.number ≡ group → MatchesRows false F c
-    → Some names ≡ option_map names_of (least F.boards (is_free F.types) (wants_of (members F group))) → numbers ≡ numbers_of (members F group)
-    → G ≡ fold (assign_named JobState.Scheduled) F (zip numbers names) → serve F.clock (record { farm = F; claims = n }) c ≡ record { farm = G; claims = n + 1 }
-group_served F G group c n names numbers of_group same asks picked are made =
-    is_served F c n (wants_of (members F group)) (asks ∙ ap (λ g. wants_of (members F g)) same) G names picked
-    (λ bs called.
-    ap (λ v. cond v (give_res F c.number bs F.clock) (give_group F c.number bs)) of_group
-    ∙ ap (λ g. give_group F g bs) same
-    ∙ assigned_named JobState.Scheduled (members F group) bs F
-    ∙ (λ i. fold (assign_named JobState.Scheduled) F (zip (sym are i) (sym called i)))
-    ∙ sym made)
-
--- a reservation
-pub asked : (F : Farm) (c : Claimed) → MatchesRows true F c → (r : ResRow) × (res_of F c.number ≡ Some r) × (c.wants ≡ r.want ∷ [])
-asked F c asks = by (res_of F c.number) refl asks
-  where
-    by : (o : Option ResRow) → res_of F c.number ≡ o → IsSomeAnd o (λ r. c.wants ≡ r.want ∷ [])
-        → (r : ResRow) × (res_of F c.number ≡ Some r) × (c.wants ≡ r.want ∷ [])
-    by None is asks = absurd asks
-    by (Some r) is asks = (r, is, asks)
-
-abbrev pub Picks : Farm → ℕ → Option (List (List ℕ)) → Type 0
-Picks F number picked = (r : ResRow) → res_of F number ≡ Some r → picked ≡ option_map names_of (least F.boards (is_free F.types) (r.want ∷ []))
-
+-- a reservation has the first board
 first_given : (F : Farm) (number : ℕ) (bs : List BoardRow) → give_res F number bs F.clock ≡ assign_first F number (names_of bs)
 first_given F number [] = refl
 first_given F number (b ∷ bs) = refl
 
-pub res_served : (F G : Farm) (number : ℕ) (c : Claimed) (n : ℕ) (names : List (List ℕ)) → c.reservation ≡ true → c.number ≡ number → MatchesRows true F c → Picks F number (Some names)
-    → G ≡ assign_first F number names → serve F.clock (record { farm = F; claims = n }) c ≡ record { farm = G; claims = n + 1 }
-res_served F G number c n names of_res same asks picked made =
-    let it = asked F c asks in
-    is_served F c n (it.0.want ∷ []) it.2 G names (picked it.0 (ap (res_of F) (sym same) ∙ it.1))
-    (λ bs called.
-    ap (λ v. cond v (give_res F c.number bs F.clock) (give_group F c.number bs)) of_res
-    ∙ ap (λ k. give_res F k bs F.clock) same
-    ∙ first_given F number bs
-    ∙ ap (assign_first F number) (sym called)
-    ∙ sym made)
+-- the farm in which a claim, by its kind and its number, is assigned the boards of some names
+abbrev pub assigned : Farm → ClaimKind → ℕ → List (List ℕ) → Farm
+assigned F ClaimKind.Group number names = fold (assign_named JobState.Scheduled) F (zip (numbers_of (members F number)) names)
+assigned F ClaimKind.Reservation number names = assign_first F number names
+
+module _ (F : Farm) (c : Claimed) where
+  gives : (v : Bool) (bs : List BoardRow) → cond v (give_res F c.number bs F.clock) (give_group F c.number bs) ≡ assigned F (cond v ClaimKind.Reservation ClaimKind.Group) c.number (names_of bs)
+  gives true bs = first_given F c.number bs
+  gives false bs = assigned_named JobState.Scheduled (members F c.number) bs F
+
+  pub claim_served : (G : Farm) (kind : ClaimKind) (number n : ℕ) (names : List (List ℕ)) (wants : List Want) → (shown_claim c).kind ≡ kind → c.number ≡ number → c.wants ≡ wants
+      → Some names ≡ option_map names_of (least F.boards (is_free F.types) wants) → G ≡ assigned F kind number names → serve F.clock (record { farm = F; claims = n }) c ≡ record { farm = G; claims = n + 1 }
+  claim_served G kind number n names wants is same asks picked made =
+      is_served F c n wants asks G names picked
+      (λ bs called. gives c.reservation bs ∙ (λ i. assigned F (is i) (same i) (sym called i)) ∙ sym made)
 
 -- the kind that is shown
-pub shown_res : (v : Bool) → cond v ClaimKind.Reservation ClaimKind.Group ≡ ClaimKind.Reservation → v ≡ true
-shown_res true is = refl
-shown_res false is = cc
-
 pub shown_group : (v : Bool) → cond v ClaimKind.Reservation ClaimKind.Group ≡ ClaimKind.Group → v ≡ false
 shown_group true is = cc
 shown_group false is = refl

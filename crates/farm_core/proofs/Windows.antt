@@ -13,7 +13,7 @@ use Rattle.std.proofs.lemmas.List.{get_or_default}
 use Rattle.std.proofs.lemmas.List.Sorted.{searchable_from_sorted}
 use Rattle.std.proofs.lemmas.Map.Keys.{Less-from_sorted}
 use Rattle.farm_types.specs.declared.rows.JobRow.{JobRow}
-use Rattle.farm_core.specs.declared.command.job_edit.JobFilter.{JobFilter}
+use Rattle.farm_core.specs.declared.edits.JobFilter.{JobFilter}
 use Rattle.farm_core.specs.Edits.{job_passes, first_of, reach_of}
 use Rattle.farm_table.specs.Near.{IsFitJob, IsNear}
 use Rattle.farm_core.specs.PartitionPoint.{IsPartitionPoint}

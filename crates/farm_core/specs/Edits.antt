@@ -4,9 +4,11 @@ use Rattle.std.specs.Prelude.{if◌then◌else◌, option_copied, unwrap_or}
 use Rattle.std.specs.Option.{option_or}
 use Rattle.farm_types.specs.Codes.{same_job_state}
 use Rattle.farm_types.specs.Limits.{most_wants}
-use Rattle.farm_types.specs.Pass.{freed_board, held_board, is_dead}
+use Rattle.farm_types.specs.Farm.{empty_farm}
+use Rattle.farm_types.specs.Pass.{freed_board, held_board, is_dead, is_job_so, is_res_so}
 use Rattle.farm_types.specs.Change.{in_state, is_unstarted, after_check, after_job}
 use Rattle.farm_types.specs.Small.{IsSmall, held_by}
+use Rattle.farm_types.specs.declared.rows.Holder.{Holder}
 use Rattle.farm_types.specs.declared.rows.JobState.{JobState}
 use Rattle.farm_types.specs.declared.rows.State.{State}
 use Rattle.farm_types.specs.declared.rows.Outcome.{Outcome}
@@ -14,11 +16,12 @@ use Rattle.farm_types.specs.declared.rows.BoardRow.{BoardRow}
 use Rattle.farm_types.specs.declared.rows.JobRow.{JobRow}
 use Rattle.farm_types.specs.declared.rows.ResRow.{ResRow}
 use Rattle.farm_core.specs.declared.board_effect.BoardEffect.{BoardEffect}
-use Rattle.farm_core.specs.declared.command.job_edit.JobEdit.{JobEdit}
-use Rattle.farm_core.specs.declared.command.job_edit.JobFilter.{JobFilter}
-use Rattle.farm_core.specs.declared.command.job_edit.Placement.{Placement}
-use Rattle.farm_core.specs.declared.command.res_edit.ResEdit.{ResEdit}
-use Rattle.farm_core.specs.declared.command.res_edit.ResFilter.{ResFilter}
+use Rattle.farm_core.specs.declared.edits.JobEdit.{JobEdit}
+use Rattle.farm_core.specs.declared.edits.JobFilter.{JobFilter}
+use Rattle.farm_core.specs.declared.edits.Placement.{Placement}
+use Rattle.farm_core.specs.declared.edits.Holders.{Holders}
+use Rattle.farm_core.specs.declared.edits.ResEdit.{ResEdit}
+use Rattle.farm_core.specs.declared.edits.ResFilter.{ResFilter}
 
 -- which jobs pass
 abbrev pub job_passes : JobFilter → JobRow → Bool
@@ -70,6 +73,12 @@ res_changed e r = record r {
 abbrev pub res_passes : ResFilter → ResRow → Bool
 res_passes (ResFilter.Numbered number) r = r.number == number
 res_passes (ResFilter.Dead now) r = is_dead now r
+
+-- whether a holder is one of some rows that pass
+abbrev pub are_held_by : Holders → Holder → Bool
+are_held_by (Holders.Jobs jobs filter) holder = is_job_so (record empty_farm { jobs = jobs.now.rows }) (job_passes filter) holder
+are_held_by (Holders.Res reservations filter) holder =
+    is_res_so (record empty_farm { reservations = reservations.now.rows }) (res_passes filter) holder
 
 -- what becomes of a board
 abbrev pub board_after : BoardEffect → BoardRow → BoardRow

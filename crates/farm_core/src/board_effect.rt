@@ -61,8 +61,7 @@ fn finish_check(row: &mut BoardRow, outcome: Outcome, now: u64)
             row.last_check = now;
             grade(row, Health::Good);
         }
-        Outcome::Incomplete => grade(row, Health::Bad),
-        Outcome::Infra => grade(row, Health::Bad),
+        Outcome::Incomplete | Outcome::Infra => grade(row, Health::Bad),
         Outcome::Canceled => {}
     }
 }

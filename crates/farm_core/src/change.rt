@@ -52,17 +52,14 @@ impl Tables {
         ensures rests { IsAtRest self.new }
     {
         self.clock = self.clock.max(call.now);
-        self.types.take_changes();
-        self.boards.take_changes();
-        self.jobs.take_changes();
-        self.reservations.take_changes();
-        self.kept.take_changes();
+        let _former = self.take_changes();
     }
 
-    /// Gives the logs away, with the four numbers.
+    /// Gives the logs away, with the four numbers, and begins new ones.
     fn take_changes(&mut self) -> Changes
         ensures farm { plain_farm self.new ≡ plain_farm self.old }
         ensures queues { self.new.queues ≡ self.old.queues }
+        ensures rests { IsAtRest self.new }
         ensures logged { AreLogged self.old result }
         ensures small { AreSmallRows result }
     {
@@ -117,22 +114,10 @@ impl Tables {
             (λ n. Acts self.old call.entry.now.caller call.entry.now.cmd n self.new) }
     {
         match &call.cmd {
-            Cmd::AddType(name, check) => {
-                self.add_type(name, *check)?;
-                Ok(0)
-            }
-            Cmd::AddBoard(name, kind, tags) => {
-                self.add_board(name, kind, tags)?;
-                Ok(0)
-            }
-            Cmd::SetTags(name, tags) => {
-                self.set_tags(name, tags)?;
-                Ok(0)
-            }
-            Cmd::SetHealth(name, health) => {
-                self.set_health(name, *health)?;
-                Ok(0)
-            }
+            Cmd::AddType(name, check) => self.add_type(name, *check).and(Ok(0)),
+            Cmd::AddBoard(name, kind, tags) => self.add_board(name, kind, tags).and(Ok(0)),
+            Cmd::SetTags(name, tags) => self.set_tags(name, tags).and(Ok(0)),
+            Cmd::SetHealth(name, health) => self.set_health(name, *health).and(Ok(0)),
             Cmd::Submit(priority, wants, roles, body) => {
                 self.submit(&call.caller, *priority, wants, roles, body)
             }

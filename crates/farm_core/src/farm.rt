@@ -178,7 +178,7 @@ impl Farm {
         ensures { IfOk result (λ claims. self.now.failed ≡ false
             → claims.items ≡ map shown_claim (queue self.now.farm)) }
     {
-        let claims = self.tables.queue()?;
+        let claims = self.tables.queues.claims()?;
         Ok(claims)
     }
 

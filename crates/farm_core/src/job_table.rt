@@ -9,7 +9,7 @@ ghost use Rattle.farm_table.specs.Tabled.{Leads};
 ghost use Rattle.farm_core.specs.Edits.{job_passes, job_changed, first_of};
 ghost use Rattle.farm_core.specs.PartitionPoint.{IsPartitionPoint};
 
-use crate::command::job_edit::{JobEdit, JobFilter};
+use crate::edits::{JobEdit, JobFilter};
 use farm_table::Table;
 use farm_types::JobRow;
 use std::alloc::AllocError;
@@ -52,11 +52,8 @@ pub fn place_of(jobs: &Table<JobRow>, number: u64) -> usize
     ensures within { result ≤ length jobs.now.rows }
     ensures place { IsPartitionPoint (λ (r : JobRow). r.number) jobs.now.rows number result }
 {
-    let guess = match jobs.rows().first() {
-        None => 0,
-        Some(row) => number.saturating_sub(row.number) as usize,
-    };
-    place_near(jobs, guess, number)
+    let first = jobs.rows().first().map_or(0, |row| row.number);
+    place_near(jobs, number.saturating_sub(first) as usize, number)
 }
 
 /// Whether the job of a number passes, by binary search where one of that number may.
@@ -65,13 +62,7 @@ pub fn passes(jobs: &Table<JobRow>, filter: &JobFilter, number: u64) -> bool
 {
     // no row is read: it tells proofs that they fit
     let _rows = jobs.rows();
-    if !filter.reaches(number) {
-        return false;
-    }
-    match jobs.find(&number) {
-        Some(row) => filter.accepts(row),
-        None => false,
-    }
+    filter.reaches(number) && jobs.find(&number).is_some_and(|row| filter.accepts(row))
 }
 
 /// Changes the jobs that pass. Only the few rows where these can stand are looked at, so with J

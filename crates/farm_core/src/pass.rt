@@ -1,6 +1,5 @@
 //! Pass: leases end, due boards are checked, and claims are served.
-ghost use Rattle.std.specs.Prelude.{◌≡◌, [], map, OnOk, IfOk};
-ghost use Rattle.farm_types.specs.Pick.{queue, shown_claim};
+ghost use Rattle.std.specs.Prelude.{◌≡◌, [], OnOk, IfOk};
 ghost use Rattle.farm_types.specs.Change.{act};
 ghost use Rattle.farm_types.specs.Sound.{IsSound};
 ghost use Rattle.farm_types.specs.declared.calls.Cmd.{Cmd};
@@ -12,25 +11,14 @@ pub(crate) mod assign;
 pub(crate) mod checks;
 pub(crate) mod collect;
 pub(crate) mod expire;
-pub(crate) mod free_index;
-pub(crate) mod misses;
 pub(crate) mod next_claim;
 pub(crate) mod serve;
 
 use crate::tables::Tables;
-use farm_types::{Claim, Reply};
+use farm_types::Reply;
 use std::alloc::AllocError;
 
 impl Tables {
-    /// The claims that wait, in the order in which they are served.
-    pub fn queue(&self) -> Result<Vec<Claim>, AllocError>
-        ensures { IfOk result (λ claims. self.now.queues ≡ queue_lists (plain_farm self.now)
-            → claims.items ≡ map shown_claim (queue (plain_farm self.now))) }
-    {
-        let claims = self.queues.claims()?;
-        Ok(claims)
-    }
-
     /// Makes room in the logs for the boards that are free and as many jobs: in a pass no more are
     /// given, so the rows that have changed aren't moved as they become more.
     fn make_room(&mut self) -> Result<(), AllocError>

@@ -147,12 +147,8 @@ impl Tables {
         requires { kept ≡ option_map kept_reply (kept_for (plain_farm self.now) call.now) }
         ensures { result ≡ refusal (plain_farm self.now) call.entry.now }
     {
-        if let Some(code) = early_refusal(call, kept) {
-            return Some(code);
-        }
-        if let Some(code) = self.own_refusal(call) {
-            return Some(code);
-        }
-        self.is_full(call).then_some(FULL)
+        early_refusal(call, kept)
+            .or_else(|| self.own_refusal(call))
+            .or_else(|| self.is_full(call).then_some(FULL))
     }
 }

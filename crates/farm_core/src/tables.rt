@@ -81,14 +81,12 @@ impl Tables {
         ensures queues { IfOk result (λ t. t.queues ≡ record { claims = []; boards = [] }) }
     {
         let alloc = *rows.types.allocator();
-        let kept = KeptReplies::of(rows.kept)?;
-        let reservations = ResTable::of(alloc, rows.reservations)?;
         Ok(Tables {
             types: Table::of(rows.types),
             boards: Table::of(rows.boards),
             jobs: Table::of(rows.jobs),
-            reservations,
-            kept,
+            reservations: ResTable::of(alloc, rows.reservations)?,
+            kept: KeptReplies::of(rows.kept)?,
             queues: Queues::new(alloc),
             clock: rows.meta.clock,
             collector: rows.meta.collector,

@@ -133,12 +133,8 @@ pub fn is_shown_of_job(rows: &Rows, row: &JobRow) -> bool
     requires { IsStrictlySortedBy board_cmp rows.now.boards.items }
     ensures { IsTrue result ↔ IsShownOfJob (farm_of rows.now) row.now }
 {
-    is_shown(
-        rows,
-        job_gives(row.state),
-        &row.board,
-        Holder::Job(row.number),
-    )
+    let holder = Holder::Job(row.number);
+    is_shown(rows, job_gives(row.state), &row.board, holder)
 }
 
 /// How many jobs are of the group.

@@ -46,10 +46,6 @@ pub fn is_shown_of_res(rows: &Rows, row: &ResRow) -> bool
     requires { IsStrictlySortedBy board_cmp rows.now.boards.items }
     ensures { IsTrue result ↔ IsShownOfRes (farm_of rows.now) row.now }
 {
-    is_shown(
-        rows,
-        res_gives(row.state),
-        &row.board,
-        Holder::Res(row.number),
-    )
+    let holder = Holder::Res(row.number);
+    is_shown(rows, res_gives(row.state), &row.board, holder)
 }

@@ -22,8 +22,7 @@ pub fn type_of<'a>(rows: &'a [TypeRow], name: &Name) -> Option<&'a TypeRow>
     requires { IsStrictlySortedBy type_cmp rows.now }
     ensures { option_copied result ≡ type_in rows.now name.now }
 {
-    let at = type_at(rows, name).ok()?;
-    Some(&rows[at])
+    rows.get(type_at(rows, name).ok()?)
 }
 
 /// The place of the board with that name, or the place at which such a one is to be inserted.
@@ -40,8 +39,7 @@ pub fn board_of<'a>(rows: &'a [BoardRow], name: &Name) -> Option<&'a BoardRow>
     requires { IsStrictlySortedBy board_cmp rows.now }
     ensures { option_copied result ≡ board_in rows.now name.now }
 {
-    let at = board_at(rows, name).ok()?;
-    Some(&rows[at])
+    rows.get(board_at(rows, name).ok()?)
 }
 
 /// The place of the job with that number, or the place at which such a one is to be inserted.
@@ -57,8 +55,7 @@ pub fn job_of(rows: &[JobRow], number: u64) -> Option<&JobRow>
     requires { IsStrictlySortedBy job_cmp rows.now }
     ensures { option_copied result ≡ job_in rows.now number }
 {
-    let at = job_at(rows, number).ok()?;
-    Some(&rows[at])
+    rows.get(job_at(rows, number).ok()?)
 }
 
 /// The place of the reservation with that number, or the place at which such a one is to be
@@ -75,6 +72,5 @@ pub fn res_of(rows: &[ResRow], number: u64) -> Option<&ResRow>
     requires { IsStrictlySortedBy res_cmp rows.now }
     ensures { option_copied result ≡ res_in rows.now number }
 {
-    let at = res_at(rows, number).ok()?;
-    Some(&rows[at])
+    rows.get(res_at(rows, number).ok()?)
 }

@@ -1,10 +1,11 @@
-//! The commands on boards.
-ghost use Rattle.std.specs.Prelude.{◌≡◌, ◌&&◌, OnOk, Some, length};
+//! The commands on types and boards.
+ghost use Rattle.std.specs.Prelude.{◌≡◌, IsTrue, OnOk, ◌&&◌, Some, length};
 ghost use Rattle.std.specs.List.{filter};
 ghost use Rattle.std.specs.Str.{bytes_eq};
-ghost use Rattle.farm_types.specs.Refuse.{first_code, is_retired, add_board_reasons};
-ghost use Rattle.farm_types.specs.Refuse.{set_tags_reasons, set_health_reasons};
-ghost use Rattle.farm_types.specs.Farm.{put_board};
+ghost use Rattle.farm_types.specs.Farm.{put_type, put_board};
+ghost use Rattle.farm_types.specs.Proper.{is_frequency};
+ghost use Rattle.farm_types.specs.Refuse.{first_code, add_type_reasons, is_retired};
+ghost use Rattle.farm_types.specs.Refuse.{add_board_reasons, set_tags_reasons, set_health_reasons};
 ghost use Rattle.farm_types.specs.Pass.{with_board};
 ghost use Rattle.farm_types.specs.Change.{new_board};
 ghost use Rattle.farm_core.specs.Came.{CameTo, seen, seen_at};
@@ -12,9 +13,29 @@ ghost use Rattle.farm_core.specs.Plain.{plain_farm};
 
 use crate::tables::Tables;
 use farm_types::{
-    BOARD_EXISTS, BoardRow, HELD, Health, Holder, NO_BOARD, NO_TYPE, Name, RETIRED, Tags,
+    BOARD_EXISTS, BoardRow, Check, HELD, Health, Holder, NO_BOARD, NO_TYPE, Name, RETIRED,
+    TYPE_EXISTS, Tags, TypeRow,
 };
 use std::alloc::AllocError;
+
+impl Tables {
+    /// Why a type of that name isn't added.
+    pub fn refuse_add_type(&self, name: &Name) -> Option<u16>
+        ensures { result ≡ first_code (add_type_reasons (plain_farm self.now) name.now) }
+    {
+        self.find_type(name).is_some().then_some(TYPE_EXISTS)
+    }
+
+    /// Adds a type.
+    pub fn add_type(&mut self, name: &Name, check: Check) -> Result<(), AllocError>
+        requires { IsTrue (is_frequency check) }
+        ensures { OnOk result (CameTo self.old (seen_at (put_type (plain_farm self.old)
+            (record { name = name.now; check = check })) (seen self.old)) self.new) }
+    {
+        let name = name.copy()?;
+        self.types.put(TypeRow { name, check })
+    }
+}
 
 /// Whether a board is retired.
 fn is_retired(row: &BoardRow) -> bool

@@ -16,7 +16,7 @@ ghost use Rattle.farm_core.specs.Came.{Acts, CameTo, seen, seen_at};
 ghost use Rattle.farm_core.specs.Plain.{plain_farm};
 
 use crate::board_effect::BoardEffect;
-use crate::command::job_edit::{JobEdit, JobFilter, Placement};
+use crate::edits::{JobEdit, JobFilter, is_unstarted};
 use crate::job_table::{edit_jobs, place_of};
 use crate::refusal::is_admin;
 use crate::tables::Tables;
@@ -36,10 +36,7 @@ pub fn owned_by(caller: &Name, owner: &Name) -> bool
 fn can_cancel(row: &JobRow) -> bool
     ensures { result ≡ can_cancel row.now }
 {
-    matches!(
-        row.state,
-        JobState::Submitted | JobState::Scheduling | JobState::Scheduled | JobState::Running
-    )
+    is_unstarted(row) || matches!(row.state, JobState::Running)
 }
 
 /// Whether some member of a group, among some rows, can be canceled.
@@ -146,20 +143,11 @@ impl Tables {
             None => return Ok(0),
             Some(job) => job.group,
         };
-        let end = JobEdit {
-            jobs: JobFilter::Unstarted(group),
-            state: JobState::Finished,
-            outcome: Some(Outcome::Canceled),
-            placement: Placement::Stays,
-        };
+        let canceled = Some(Outcome::Canceled);
+        let end = JobEdit::to_state(JobFilter::Unstarted(group), JobState::Finished, canceled);
         self.edit_jobs_and_boards(end, BoardEffect::Free)?;
         self.stop_collecting(group);
-        let stop = JobEdit {
-            jobs: JobFilter::Running(group),
-            state: JobState::Canceling,
-            outcome: None,
-            placement: Placement::Stays,
-        };
+        let stop = JobEdit::to_state(JobFilter::Running(group), JobState::Canceling, None);
         edit_jobs(&mut self.jobs, stop)?;
         self.queues.take_claim(group);
         Ok(group)
@@ -174,12 +162,7 @@ impl Tables {
             None => return Ok(0),
             Some(job) => job.group,
         };
-        let run = JobEdit {
-            jobs: JobFilter::Members(group),
-            state: JobState::Running,
-            outcome: None,
-            placement: Placement::Stays,
-        };
+        let run = JobEdit::to_state(JobFilter::Members(group), JobState::Running, None);
         self.edit_jobs_and_boards(run, BoardEffect::State(State::Running))?;
         Ok(group)
     }
@@ -194,12 +177,8 @@ impl Tables {
             None => return Ok(0),
             Some(job) => (job.checking, outcome_of(job, named)),
         };
-        let end = JobEdit {
-            jobs: JobFilter::Numbered(number),
-            state: JobState::Finished,
-            outcome: Some(outcome),
-            placement: Placement::Stays,
-        };
+        let jobs = JobFilter::Numbered(number);
+        let end = JobEdit::to_state(jobs, JobState::Finished, Some(outcome));
         let effect = BoardEffect::End {
             checking,
             outcome,

@@ -1,29 +1,101 @@
-//! The commands on reservations that are there: Acquire, Release, Refresh and CancelRes.
-ghost use Rattle.std.specs.Prelude.{◌≡◌, ◌+◌, ◌≤◌, ◌||◌, ◌∷◌, [], not, IfOk};
+//! The commands on reservations: Reserve, Acquire, Release, Refresh and CancelRes.
+ghost use Rattle.std.specs.Prelude.{◌≡◌, ◌≤◌, ◌&&◌, None, IfOk, ◌+◌, ◌||◌, ◌∷◌, [], not};
+ghost use Rattle.std.specs.List.{list_any};
 ghost use Rattle.std.specs.Option.{option_copied};
-ghost use Rattle.farm_types.specs.Limits.{last_moment};
+ghost use Rattle.farm_types.specs.Limits.{last_moment, numbers_end};
+ghost use Rattle.farm_types.specs.Pick.{not_retired, fits};
+ghost use Rattle.farm_types.specs.Refuse.{first_code, reserve_reasons, owned_by, is_alive};
+ghost use Rattle.farm_types.specs.Refuse.{acquire_reasons, release_reasons, alive_reasons};
+ghost use Rattle.farm_types.specs.declared.calls.Cmd.{Cmd};
 ghost use Rattle.farm_types.specs.Codes.{same_res_state};
 ghost use Rattle.farm_types.specs.Farm.{res_of};
 ghost use Rattle.farm_types.specs.Pass.{is_dead};
 ghost use Rattle.farm_types.specs.Refusals.{forbidden, reservation_expired};
 ghost use Rattle.farm_types.specs.Refusals.{wrong_reservation_state};
-ghost use Rattle.farm_types.specs.Refuse.{first_code, owned_by, is_alive};
-ghost use Rattle.farm_types.specs.Refuse.{acquire_reasons, release_reasons, alive_reasons};
-ghost use Rattle.farm_types.specs.declared.calls.Cmd.{Cmd};
 ghost use Rattle.farm_types.specs.declared.rows.ResRow.{ResRow};
 ghost use Rattle.farm_types.specs.declared.rows.ResState.{ResState};
 ghost use Rattle.farm_core.specs.Came.{Acts};
+ghost use Rattle.farm_core.specs.Following.{IsFresh};
 ghost use Rattle.farm_core.specs.Plain.{plain_farm};
 
 use crate::board_effect::BoardEffect;
 use crate::command::jobs::owned_by;
-use crate::command::res_edit::{ResEdit, is_dead};
+use crate::edits::{ResEdit, is_dead};
 use crate::tables::Tables;
 use farm_types::{
-    EXPIRED, FORBIDDEN, LEASE, NO_RESERVATION, Name, ResRow, ResState, State,
-    WRONG_RESERVATION_STATE,
+    BoardRow, Claim, ClaimKind, EXPIRED, FORBIDDEN, Health, LEASE, NO_RESERVATION, NO_SUCH_BOARDS,
+    Name, Priority, ResRow, ResState, State, Tags, WRONG_RESERVATION_STATE, Want,
 };
 use std::alloc::AllocError;
+
+/// Whether a board that isn't retired has each of the tags.
+fn may_serve(board: &BoardRow, tags: &Tags) -> bool
+    ensures { result ≡ (fits board.now (record { kind = None; tags = tags.now })
+        && not_retired board.now) }
+{
+    !matches!(board.health, Health::Retired) && farm_pick::carries_all(board, tags.items())
+}
+
+impl Tables {
+    /// Whether some board may ever serve a reservation with these tags.
+    fn can_serve(&self, tags: &Tags) -> bool
+        ensures { result ≡ list_any (λ b. fits b (record { kind = None; tags = tags.now })
+            && not_retired b) (plain_farm self.now).boards }
+    {
+        self.boards
+            .rows()
+            .iter()
+            .any(|board| may_serve(board, tags))
+    }
+
+    /// Why a reservation isn't made. With B boards it costs O(B), and no memory.
+    #[tactic(auto, using(crate::proofs::OneWant::least_one))]
+    pub fn refuse_reserve(&self, tags: &Tags) -> Option<u16>
+        ensures { result ≡ first_code (reserve_reasons (plain_farm self.now) tags.now) }
+    {
+        (!self.can_serve(tags)).then_some(NO_SUCH_BOARDS)
+    }
+}
+
+impl Tables {
+    /// Makes a reservation that waits for a lease from now on. Gives its number.
+    pub fn reserve(
+        &mut self,
+        owner: &Name,
+        priority: Priority,
+        tags: &Tags,
+    ) -> Result<u64, AllocError>
+        requires next { self.old.next ≤ numbers_end }
+        requires clock { self.old.clock ≤ last_moment }
+        requires fresh { IsFresh self.old.next self.old.queues.claims }
+        ensures { IfOk result (λ n. Acts self.old owner.now (Cmd.Reserve priority tags.now) n self.new) }
+    {
+        let number = self.next;
+        let row = ResRow {
+            number,
+            owner: owner.copy()?,
+            priority,
+            want: Want {
+                kind: None,
+                tags: tags.copy()?,
+            },
+            state: ResState::Waiting,
+            deadline: self.clock + LEASE,
+            board: None,
+        };
+        let claim = Claim {
+            kind: ClaimKind::Reservation,
+            number,
+            owner: owner.copy()?,
+            priority,
+            boards: 1,
+        };
+        self.reservations.put(row)?;
+        self.queues.put_claim(claim, &None)?;
+        self.next = number + 1;
+        Ok(number)
+    }
+}
 
 /// Whether a reservation waits, or has been allocated or acquired.
 fn is_alive(row: &ResRow) -> bool
@@ -99,12 +171,7 @@ impl Tables {
     pub fn acquire(&mut self, number: u64) -> Result<u64, AllocError>
         ensures { IfOk result (λ n. Acts self.old [] (Cmd.Acquire number) n self.new) }
     {
-        let edit = ResEdit {
-            number,
-            state: Some(ResState::Acquired),
-            deadline: None,
-            board: None,
-        };
+        let edit = ResEdit::new(number, Some(ResState::Acquired), None);
         self.edit_reservation_and_board(edit, BoardEffect::State(State::Running))?;
         Ok(number)
     }
@@ -114,12 +181,8 @@ impl Tables {
         requires { self.old.clock ≤ last_moment }
         ensures { IfOk result (λ n. Acts self.old [] (Cmd.Release number) n self.new) }
     {
-        let edit = ResEdit {
-            number,
-            state: Some(ResState::Allocated),
-            deadline: Some(self.clock + LEASE),
-            board: None,
-        };
+        let deadline = Some(self.clock + LEASE);
+        let edit = ResEdit::new(number, Some(ResState::Allocated), deadline);
         self.edit_reservation_and_board(edit, BoardEffect::State(State::Reserved))?;
         Ok(number)
     }
@@ -130,12 +193,8 @@ impl Tables {
         ensures { IfOk result (λ n. Acts self.old [] (Cmd.Refresh number) n self.new) }
     {
         let deadline = Some(self.clock + LEASE);
-        self.reservations.edit(ResEdit {
-            number,
-            state: None,
-            deadline,
-            board: None,
-        })?;
+        let edit = ResEdit::new(number, None, deadline);
+        self.reservations.edit(edit)?;
         Ok(number)
     }
 
@@ -143,12 +202,7 @@ impl Tables {
     pub fn cancel_reservation(&mut self, number: u64) -> Result<u64, AllocError>
         ensures { IfOk result (λ n. Acts self.old [] (Cmd.CancelRes number) n self.new) }
     {
-        let edit = ResEdit {
-            number,
-            state: Some(ResState::Canceled),
-            deadline: None,
-            board: None,
-        };
+        let edit = ResEdit::new(number, Some(ResState::Canceled), None);
         self.edit_reservation_and_board(edit, BoardEffect::Free)?;
         self.queues.take_claim(number);
         Ok(number)

@@ -10,7 +10,6 @@ ghost use Rattle.farm_types.specs.Refuse.{first_code, submit_reasons};
 ghost use Rattle.farm_types.specs.Change.{new_members};
 ghost use Rattle.farm_types.specs.declared.calls.Cmd.{Cmd};
 ghost use Rattle.farm_types.specs.declared.rows.JobState.{JobState};
-ghost use Rattle.farm_pick.specs.Queued.{first_kind};
 ghost use Rattle.farm_core.specs.Edits.{text_at};
 ghost use Rattle.farm_core.specs.Came.{Acts, CameTo, seen, seen_at};
 ghost use Rattle.farm_core.specs.Following.{IsFresh};
@@ -23,55 +22,6 @@ use farm_types::{
     Wants, copy_name,
 };
 use std::alloc::{AllocError, Global};
-
-/// The row of a new member.
-fn new_member(
-    number: u64,
-    group: u64,
-    owner: &Name,
-    priority: Priority,
-    want: &Want,
-    role: &Option<Name>,
-    body: Body,
-) -> Result<JobRow, AllocError>
-    ensures { IfOk result (λ row. row ≡ record {
-      number = number;
-      group = group;
-      checking = false;
-      owner = owner.now;
-      priority = priority;
-      want = want.now;
-      role = role.now;
-      state = JobState.Submitted;
-      outcome = None;
-      board = None;
-      body = body;
-    }) }
-{
-    Ok(JobRow {
-        number,
-        group,
-        checking: false,
-        owner: owner.copy()?,
-        priority,
-        want: want.copy()?,
-        role: copy_name(role)?,
-        state: JobState::Submitted,
-        outcome: None,
-        board: None,
-        body,
-    })
-}
-
-/// The type of the first want, in whose queue the group stands.
-fn first_kind(wants: &Wants) -> &Option<Name>
-    ensures { result.now ≡ first_kind wants.now }
-{
-    match wants.items().first() {
-        Some(want) => &want.kind,
-        None => unreachable!(),
-    }
-}
 
 /// The text of the member at a place: the first carries it.
 fn member_text(alloc: Global, place: usize, body: &Body) -> Result<Body, AllocError>
@@ -99,12 +49,7 @@ impl Tables {
             ≡ list_any (λ w. option_map_or (λ kind. is_none (type_of (plain_farm self.now) kind)) w.kind
             false) wants.now }
     {
-        wants.iter().any(
-            |want: &Want| -> bool
-                ensures { result ≡ option_map_or
-                    (λ kind. is_none (type_of (plain_farm self.entry.now) kind)) want.now.kind false }
-            { self.lacks_type(&want.kind) },
-        )
+        wants.iter().any(|want| self.lacks_type(&want.kind))
     }
 
     /// Why a group isn't submitted. With B boards and at most four wants it costs O(B).
@@ -115,10 +60,8 @@ impl Tables {
             return Some(NO_TYPE);
         }
         let (boards, types) = (self.boards.rows(), self.types.rows());
-        if farm_pick::least(boards, types, wants, Free::NotRetired).is_none() {
-            return Some(NO_SUCH_BOARDS);
-        }
-        None
+        let least = farm_pick::least(boards, types, wants, Free::NotRetired);
+        least.is_none().then_some(NO_SUCH_BOARDS)
     }
 }
 
@@ -143,10 +86,19 @@ impl Tables {
     {
         let alloc = *self.boards.allocator();
         for at in 0..wants.len() {
-            let text = member_text(alloc, at, body)?;
-            let number = group + at as u64;
-            let row = new_member(number, group, owner, priority, &wants[at], &roles[at], text)?;
-            self.jobs.put(row)?;
+            self.jobs.put(JobRow {
+                number: group + at as u64,
+                group,
+                checking: false,
+                owner: owner.copy()?,
+                priority,
+                want: wants[at].copy()?,
+                role: copy_name(&roles[at])?,
+                state: JobState::Submitted,
+                outcome: None,
+                board: None,
+                body: member_text(alloc, at, body)?,
+            })?;
         }
         Ok(())
     }
@@ -175,7 +127,8 @@ impl Tables {
             boards: wants.items().len() as u64,
         };
         self.add_members(group, owner, priority, wants.items(), roles.items(), body)?;
-        self.queues.put_claim(claim, first_kind(wants))?;
+        // the group stands in the queue of its first want's type
+        self.queues.put_claim(claim, &wants.items()[0].kind)?;
         self.next = group + wants.items().len() as u64;
         Ok(group)
     }

@@ -1,6 +1,6 @@
 //! Boards are assigned to jobs and reservations. No board moves in a pass, so each is given by its
 //! place.
-ghost use Rattle.std.specs.Prelude.{◌≡◌, ◌<◌, ◌≤◌, ◌∷◌, [], OnOk, get_or, length};
+ghost use Rattle.std.specs.Prelude.{◌≡◌, ◌<◌, ◌≤◌, OnOk, get_or, length};
 ghost use Rattle.std.specs.List.{All, AllByRecursion, fold, zip};
 ghost use Rattle.std.specs.Str.{bytes_eq};
 ghost use Rattle.farm_types.specs.Limits.{last_moment};
@@ -15,8 +15,7 @@ ghost use Rattle.farm_core.specs.Plain.{plain_farm};
 ghost use Rattle.farm_core.specs.Serving.{assign_named, assign_first, names_at};
 
 use crate::board_effect::BoardEffect;
-use crate::command::job_edit::{JobEdit, JobFilter, Placement};
-use crate::command::res_edit::ResEdit;
+use crate::edits::{JobEdit, JobFilter, Placement, ResEdit};
 use crate::job_table::edit_jobs;
 use crate::tables::Tables;
 use farm_types::{Holder, JobState, LEASE, ResState};
@@ -74,23 +73,25 @@ impl Tables {
         Ok(())
     }
 
-    /// A reservation is assigned the board at a place, for a lease from now on.
-    pub fn assign_reservation(&mut self, number: u64, at: usize) -> Result<(), AllocError>
-        requires within { at < length (plain_farm self.old).boards }
+    /// A reservation is assigned the board at the first of some places, for a lease from now on.
+    pub fn assign_reservation(&mut self, number: u64, places: &[usize]) -> Result<(), AllocError>
+        requires within { All (λ at. at < length (plain_farm self.old).boards) places.now }
         requires small { IsSmall number }
         requires clock { self.old.clock ≤ last_moment }
-        ensures { OnOk result ((b : BoardRow) → b ≡ get_or (plain_farm self.old).boards at b
-            → CameTo self.old (seen_at (assign_first (plain_farm self.old) number (b.name ∷ []))
-            (seen self.old)) self.new) }
+        ensures { OnOk result (CameTo self.old (seen_at (assign_first (plain_farm self.old) number
+            (names_at (plain_farm self.old).boards places.now)) (seen self.old)) self.new) }
     {
-        let name = &self.boards.rows()[at].name;
+        let Some(at) = places.first() else {
+            return Ok(());
+        };
+        let name = &self.boards.rows()[*at].name;
         self.reservations.edit(ResEdit {
             number,
             state: Some(ResState::Allocated),
             deadline: Some(self.clock + LEASE),
             board: Some(name),
         })?;
-        self.reserve_board(at, Holder::Res(number))?;
+        self.reserve_board(*at, Holder::Res(number))?;
         Ok(())
     }
 }

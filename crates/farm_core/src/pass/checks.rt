@@ -12,7 +12,7 @@ ghost use Rattle.farm_core.specs.Plain.{plain_farm};
 use crate::tables::Tables;
 use farm_types::{
     BoardRow, Body, Check, HIGHEST_PRIORITY, Health, Holder, JobRow, JobState, Name, Priority,
-    Tags, TypeRow, Want, WordFault,
+    Tags, Want,
 };
 use std::alloc::{AllocError, Global};
 
@@ -38,43 +38,26 @@ fn is_reached(now: u64, board: &BoardRow, check: Check) -> bool
 fn is_due_by(check: Check, now: u64, board: &BoardRow) -> bool
     ensures { result ≡ is_due_by check now board.now }
 {
-    if matches!(check, Check::Never) {
-        return false;
-    }
     match board.health {
-        Health::Unknown => true,
+        Health::Unknown => check != Check::Never,
         Health::Good => is_reached(now, board, check),
         Health::Bad | Health::Maintenance | Health::Retired => false,
     }
 }
 
-/// Whether boards of a type are checked.
-fn is_checked(row: &TypeRow) -> bool
-    ensures { result ≡ is_checked row.now.check }
-{
-    !matches!(row.check, Check::Never)
-}
-
-/// The name of the admin, who owns the checks.
+/// The name of the admin, who owns the checks. The text is a name, so only memory can be wanting.
 #[tactic(auto, unfolding(farm_types::specs::Words::is_word))]
 fn admin_name(alloc: Global) -> Result<Name, AllocError>
     ensures { IfOk result (λ name. name ≡ codes "admin") }
 {
-    match Name::parse(alloc, b"admin") {
-        Ok(name) => Ok(name),
-        Err(WordFault::NoMemory) => Err(AllocError),
-        Err(WordFault::Refused(_)) => unreachable!(),
-    }
+    Name::parse(alloc, b"admin").map_err(|_| AllocError)
 }
 
 /// The priority of checks.
 fn highest_priority() -> Priority
     ensures { result ≡ highest_priority }
 {
-    match Priority::of(HIGHEST_PRIORITY) {
-        Ok(priority) => priority,
-        Err(_) => unreachable!(),
-    }
+    Priority::of(HIGHEST_PRIORITY).unwrap_or_else(|_| unreachable!())
 }
 
 /// The row of the job that checks a board.
@@ -111,7 +94,8 @@ impl Tables {
     fn has_checks(&self) -> bool
         ensures { result ≡ list_any (λ t. is_checked t.check) (plain_farm self.now).types }
     {
-        self.types.rows().iter().any(|row| is_checked(row))
+        let types = self.types.rows();
+        types.iter().any(|row| row.check != Check::Never)
     }
 
     /// Whether a board is to be checked now.

@@ -10,7 +10,7 @@ ghost use Rattle.farm_core.specs.Collecting.{Collects, HasWant};
 ghost use Rattle.farm_core.specs.Plain.{plain_farm};
 
 use crate::board_effect::BoardEffect;
-use crate::command::job_edit::{JobEdit, JobFilter, Placement};
+use crate::edits::{JobEdit, JobFilter, Placement};
 use crate::pass::serve::numbers_in;
 use crate::tables::Tables;
 use farm_types::JobState;

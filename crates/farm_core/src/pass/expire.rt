@@ -12,8 +12,7 @@ ghost use Rattle.farm_core.specs.Leases.{is_dead_at};
 ghost use Rattle.farm_core.specs.Plain.{plain_farm};
 
 use crate::board_effect::BoardEffect;
-use crate::command::res_edit::{ResEdit, ResFilter};
-use crate::held::Held;
+use crate::edits::{Held, Holders, ResEdit, ResFilter};
 use crate::tables::Tables;
 use farm_types::ResState;
 use std::alloc::AllocError;
@@ -42,12 +41,8 @@ impl Tables {
           queues = without_claim number self.old.queues;
         }) self.new) }
     {
-        self.reservations.edit(ResEdit {
-            number,
-            state: Some(ResState::Expired),
-            deadline: None,
-            board: None,
-        })?;
+        let end = ResEdit::new(number, Some(ResState::Expired), None);
+        self.reservations.edit(end)?;
         self.queues.take_claim(number);
         Ok(())
     }
@@ -91,9 +86,9 @@ impl Tables {
             ≡ length (filter (is_dead self.old.clock) (plain_farm self.old).reservations)) }
     {
         // The boards first: the reservations as they were say which are freed.
+        let dead = ResFilter::Dead(self.clock);
         self.boards.change_where(&Held {
-            holders: &self.reservations,
-            filter: &ResFilter::Dead(self.clock),
+            holders: Holders::Res(&self.reservations, dead),
             effect: BoardEffect::Free,
         })?;
         let count = self.expire_reservations()?;

@@ -1,20 +1,82 @@
 //! Which claim a pass tries next: claims that want the same as one that was found unmet are passed
 //! over.
-ghost use Rattle.std.specs.Prelude.{◌≡◌, ◌≤◌, [], true, map, take, option_copied, OnOk, IfOk};
-ghost use Rattle.std.specs.Prelude.{IfNone, IfSome};
+ghost use Rattle.std.specs.Prelude.{◌≡◌, ◌↔◌, true, map, IsTrue, OnOk, ◌≤◌, [], take};
+ghost use Rattle.std.specs.Prelude.{option_copied, IfOk, IfNone, IfSome};
 ghost use Rattle.farm_types.specs.Farm.{Farm};
 ghost use Rattle.farm_types.specs.Limits.{most_wants};
 ghost use Rattle.farm_types.specs.Sound.{IsSound};
 ghost use Rattle.farm_pick.specs.Heads.{earlier_of};
 ghost use Rattle.farm_pick.specs.Queued.{queue_lists};
+ghost use Rattle.farm_core.specs.Serving.{AreMisses, IsMissed, IsRemembered, IsNext};
+ghost use Rattle.farm_core.specs.Serving.{IsNextCandidate, wants_of};
 ghost use Rattle.farm_core.specs.Plain.{plain_farm};
-ghost use Rattle.farm_core.specs.Serving.{AreMisses, IsMissed, IsNext, IsNextCandidate, wants_of};
 
-use crate::pass::misses::{self, Misses};
 use crate::pass::serve::wants_in;
 use crate::tables::Tables;
-use farm_types::{Claim, ClaimKind, MOST_WANTS, Priority, Want};
+use farm_types::{Claim, ClaimKind, MOST_WANTS, Name, Priority, Want};
 use std::alloc::AllocError;
+use std::collections::VecDeque;
+
+/// How many are remembered.
+const MOST: usize = 8;
+
+/// The wants of the last eight claims that were found unmet, those of the newest first.
+pub type Misses = VecDeque<Vec<Want>>;
+
+/// Whether two types are one, or neither is named.
+fn same_type(first: &Option<Name>, second: &Option<Name>) -> bool
+    ensures { IsTrue result ↔ (first.now ≡ second.now) }
+{
+    match (first, second) {
+        (None, None) => true,
+        (Some(first), Some(second)) => first.is(second),
+        _ => false,
+    }
+}
+
+/// Whether two wants ask for the same type and the same tags.
+fn same_want(first: &Want, second: &Want) -> bool
+    ensures { IsTrue result ↔ (first.now ≡ second.now) }
+{
+    same_type(&first.kind, &second.kind) && first.tags.is(&second.tags)
+}
+
+/// Whether some wants are others, one for one.
+fn same_wants(first: &[Want], second: &[&Want]) -> bool
+    ensures { IsTrue result ↔ (first.now ≡ map (λ w. w.now) second.now) }
+{
+    if first.len() != second.len() {
+        return false;
+    }
+    for place in 0..first.len() {
+        if !same_want(&first[place], second[place]) {
+            return false;
+        }
+    }
+    true
+}
+
+/// Whether a claim that wants this is known to be unmet.
+fn is_known(misses: &Misses, wants: &[&Want]) -> bool
+    ensures { result ≡ true → (F : Farm) → AreMisses F misses.now.items
+        → IsMissed F (map (λ w. w.now) wants.now) }
+{
+    misses.iter().any(|miss| same_wants(miss, wants))
+}
+
+/// Remembers what a claim wants, and forgets the oldest of eight.
+fn remember(misses: &mut Misses, wants: &[&Want]) -> Result<(), AllocError>
+    ensures { OnOk result (IsRemembered misses.old.items (map (λ w. w.now) wants.now)
+        misses.new.items) }
+{
+    let mut copy = Vec::with_capacity(*misses.allocator(), wants.len())?;
+    for want in wants {
+        copy.push(want.copy()?)?;
+    }
+    misses.truncate(MOST - 1);
+    misses.push_front(copy)?;
+    Ok(())
+}
 
 /// An equal priority and number.
 fn copied(last: &Option<(Priority, u64)>) -> Option<(Priority, u64)>
@@ -32,22 +94,16 @@ fn earlier<'a>(first: Option<&'a Claim>, second: Option<&'a Claim>) -> Option<&'
         ≡ earlier_of (option_copied first.entry) (option_copied second.entry) }
 {
     match (first, second) {
-        (None, second) => second,
-        (first, None) => first,
-        (Some(first), Some(second)) => {
-            if farm_pick::before(second, first) {
-                Some(second)
-            } else {
-                Some(first)
-            }
-        }
+        (Some(first), Some(second)) if farm_pick::before(second, first) => Some(second),
+        (first, second) => first.or(second),
     }
 }
 
 impl Tables {
     /// What a claim wants, by its kind and its number, and how many wants these are; behind them
     /// another fills the places. None where no row is the claim's.
-    fn wants_of(&self, kind: ClaimKind, number: u64) -> Option<([&Want; MOST_WANTS], usize)>
+    pub fn wants_of(&self, kind: ClaimKind, number: u64) -> Option<([&Want; MOST_WANTS], usize)>
+        ensures none { IfNone result (wants_of (plain_farm self.now) kind number ≡ []) }
         ensures few { IfSome result (λ r. r.1 ≤ most_wants) }
         ensures wants { IfSome result (λ r. map (λ w. w.now) (take r.1 r.0)
             ≡ wants_of (plain_farm self.now) kind number) }
@@ -78,7 +134,7 @@ impl Tables {
         }
         match self.wants_of(kind, number) {
             None => false,
-            Some(found) => misses::is_known(misses, &found.0[..found.1]),
+            Some(found) => is_known(misses, &found.0[..found.1]),
         }
     }
 
@@ -94,7 +150,7 @@ impl Tables {
             → AreMisses F misses.new.items) }
     {
         if let Some(found) = self.wants_of(kind, number) {
-            misses::note(misses, &found.0[..found.1])?;
+            remember(misses, &found.0[..found.1])?;
         }
         Ok(())
     }

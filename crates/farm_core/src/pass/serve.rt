@@ -1,32 +1,27 @@
 //! Claims are served: each is given the least list of free boards that meets it.
-ghost use Rattle.std.specs.Prelude.{◌≡◌, ◌≤◌, ◌==◌, ◌∷◌, [], ℕ, true, false, None, Some, map};
-ghost use Rattle.std.specs.Prelude.{◌&&◌, ◌||◌, length, nat_le, take};
+ghost use Rattle.std.specs.Prelude.{◌≡◌, ◌≤◌, ◌==◌, [], true, false, None, Some, map};
+ghost use Rattle.std.specs.Prelude.{◌&&◌, length, take};
 ghost use Rattle.std.specs.Prelude.{◌<◌, OnOk, IfOk, IfSome, option_and_then, option_map, slice_get};
-ghost use Rattle.std.specs.List.{All, filter, find, list_all};
-ghost use Rattle.std.specs.Option.{option_copied};
+ghost use Rattle.std.specs.List.{All, filter, list_all};
 ghost use Rattle.farm_types.specs.Limits.{last_moment, most_wants};
-ghost use Rattle.farm_types.specs.Farm.{members, res_of};
 ghost use Rattle.farm_types.specs.Pass.{first_free, is_group, serve, serve_all};
 ghost use Rattle.farm_types.specs.Pick.{IsAmong, Claimed, least, is_free, queue, shown_claim};
 ghost use Rattle.farm_types.specs.Pick.{waits};
 ghost use Rattle.farm_types.specs.Small.{IsSmall};
 ghost use Rattle.farm_types.specs.Sound.{IsSound};
-ghost use Rattle.farm_types.specs.declared.rows.BoardRow.{BoardRow};
-ghost use Rattle.farm_types.specs.declared.rows.ResRow.{ResRow};
 ghost use Rattle.farm_pick.specs.Least.{boards_at};
-ghost use Rattle.farm_pick.specs.Heads.{is_later, last_spot};
-ghost use Rattle.farm_pick.specs.Queued.{Queued, idle_boards, is_open, queue_lists};
+ghost use Rattle.farm_pick.specs.Queued.{idle_boards, queue_lists};
 ghost use Rattle.farm_core.specs.Came.{CameTo, LeadOn, seen};
 ghost use Rattle.farm_core.specs.Plain.{plain_farm};
 ghost use Rattle.farm_core.specs.Serving.{AreMisses, MatchesRows, Begins, Serves, Tries};
 ghost use Rattle.farm_core.specs.Serving.{boards_for};
-ghost use Rattle.farm_core.specs.Serving.{count_after, wants_of};
+ghost use Rattle.farm_core.specs.Serving.{wants_of};
 
-use crate::pass::misses::Misses;
+use crate::pass::next_claim::Misses;
 use crate::tables::Tables;
 use arrayvec::ArrayVec;
 use farm_pick::Picked;
-use farm_types::{ClaimKind, JobRow, JobState, MOST_WANTS, Priority, Want};
+use farm_types::{ClaimKind, JobRow, JobState, MOST_WANTS, Want};
 use std::alloc::AllocError;
 use std::collections::VecDeque;
 
@@ -109,22 +104,19 @@ impl Tables {
         self.queues.least_of(boards, types, wants)
     }
 
-    /// The places of the boards for a group, whose members are among some rows.
-    fn pick_for_group(&self, rows: &[JobRow], group: u64) -> Option<Picked>
-        requires rows { filter (λ j. j.group == group) rows.now ≡ members (plain_farm self.now) group }
-        requires few { length rows.now ≤ most_wants }
-        requires free { self.now.queues.boards ≡ idle_boards (plain_farm self.now) }
+    /// The places of the boards for a claim, by its kind and its number.
+    fn pick_for(&self, kind: ClaimKind, number: u64) -> Option<Picked>
+        requires { self.now.queues.boards ≡ idle_boards (plain_farm self.now) }
         ensures least { option_map (boards_at (plain_farm self.now).boards) result
             ≡ least (plain_farm self.now).boards (is_free (plain_farm self.now).types)
-            (map (λ m. m.want) (members (plain_farm self.now) group)) }
+            (wants_of (plain_farm self.now) kind number) }
         ensures within { IfSome result
             (λ places. All (λ at. at < length (plain_farm self.now).boards) places) }
     {
-        let Some(first) = rows.first() else {
-            return self.pick(&[]);
-        };
-        let (wants, count) = wants_in(rows, group, &first.want);
-        self.pick(&wants[..count])
+        match self.wants_of(kind, number) {
+            None => self.pick(&[]),
+            Some(found) => self.pick(&found.0[..found.1]),
+        }
     }
 
     /// The place of the first free board, in name order, that fits a want.
@@ -136,18 +128,6 @@ impl Tables {
     {
         let picked = self.pick(&[want])?;
         Some(picked.places()[0])
-    }
-
-    /// The place of the board for a reservation: none where there is no such reservation.
-    fn pick_for_reservation(&self, number: u64) -> Option<usize>
-        requires free { self.now.queues.boards ≡ idle_boards (plain_farm self.now) }
-        ensures least { (r : ResRow) → res_of (plain_farm self.now) number ≡ Some r
-            → option_map (λ b. b ∷ []) (option_and_then (slice_get (plain_farm self.now).boards) result)
-            ≡ least (plain_farm self.now).boards (is_free (plain_farm self.now).types) (r.want ∷ []) }
-        ensures within { IfSome result (λ at. at < length (plain_farm self.now).boards) }
-    {
-        let row = self.find_reservation(number)?;
-        self.pick_one(&row.want)
     }
 
     /// How many boards a group waits for, if it is a claim, and else none.
@@ -162,45 +142,7 @@ impl Tables {
         }
     }
 
-    /// Gives a group its boards, where free ones meet it.
-    fn serve_group(&mut self, group: u64) -> Result<bool, AllocError>
-        requires small { IsSmall group }
-        requires free { self.old.queues.boards ≡ idle_boards (plain_farm self.old) }
-        ensures tries { IfOk result (λ served. (c : Claimed) → c.reservation ≡ false
-            → c.number ≡ group → MatchesRows false (plain_farm self.old) c
-            → Tries (seen self.old) c served (seen self.new)) }
-        ensures logs { OnOk result (LeadOn self.old self.new) }
-    {
-        let rows = self.member_rows(group);
-        let Some(picked) = self.pick_for_group(rows, group) else {
-            return Ok(false);
-        };
-        let numbers = numbers_in(rows, group);
-        let places = picked.places();
-        self.take_assigned(group, places);
-        self.assign_jobs(&numbers, places)?;
-        Ok(true)
-    }
-
-    /// Gives a reservation its board, where a free one meets it.
-    fn serve_reservation(&mut self, number: u64) -> Result<bool, AllocError>
-        requires small { IsSmall number }
-        requires clock { self.old.clock ≤ last_moment }
-        requires free { self.old.queues.boards ≡ idle_boards (plain_farm self.old) }
-        ensures tries { IfOk result (λ served. (c : Claimed) → c.reservation ≡ true
-            → c.number ≡ number → MatchesRows true (plain_farm self.old) c
-            → Tries (seen self.old) c served (seen self.new)) }
-        ensures logs { OnOk result (LeadOn self.old self.new) }
-    {
-        let Some(at) = self.pick_for_reservation(number) else {
-            return Ok(false);
-        };
-        self.take_assigned(number, &[at]);
-        self.assign_reservation(number, at)?;
-        Ok(true)
-    }
-
-    /// Serves a claim, by its kind and its number, where free boards meet it.
+    /// Gives a claim, by its kind and its number, its boards, where free ones meet it.
     fn serve_claim(&mut self, kind: ClaimKind, number: u64) -> Result<bool, AllocError>
         requires small { IsSmall number }
         requires clock { self.old.clock ≤ last_moment }
@@ -210,11 +152,19 @@ impl Tables {
             → Tries (seen self.old) c served (seen self.new)) }
         ensures logs { OnOk result (LeadOn self.old self.new) }
     {
-        let served = match kind {
-            ClaimKind::Reservation => self.serve_reservation(number)?,
-            ClaimKind::Group => self.serve_group(number)?,
+        let Some(picked) = self.pick_for(kind, number) else {
+            return Ok(false);
         };
-        Ok(served)
+        let places = picked.places();
+        self.take_assigned(number, places);
+        match kind {
+            ClaimKind::Group => {
+                let numbers = numbers_in(self.member_rows(number), number);
+                self.assign_jobs(&numbers, places)?;
+            }
+            ClaimKind::Reservation => self.assign_reservation(number, places)?,
+        }
+        Ok(true)
     }
 
     /// A claim that isn't met stays; a group of two members or more collects, where none does yet.

@@ -1,8 +1,11 @@
 use Rattle.std.proofs.Common.{ap, sym, ◌∙◌}
 use Rattle.std.specs.Option.{option_map_or}
 use Rattle.farm_types.specs.Farm.{Farm}
+use Rattle.farm_types.specs.Pass.{change_jobs, freed_board}
+use Rattle.farm_types.specs.Table.{change_where}
 use Rattle.farm_types.specs.declared.rows.JobRow.{JobRow}
 use Rattle.farm_core.specs.Came.{Seen}
+use Rattle.farm_core.specs.Edits.{job_changed, job_passes}
 use Rattle.farm_core.specs.Following.{without_claim}
 use Rattle.farm_core.specs.Plain.{plain_farm}
 use Rattle.farm_core.proofs.JobLemmas.{canceled}
@@ -18,7 +21,10 @@ returns c =
     let logs = jobs_lead _ _ _ (lead_on_join _ _ _ ended.logs cleared.logs) c.in_ok-edit_jobs.ensures.leads in
     let queues = ap (λ (s : Seen). s.queues) cleared.now ∙ ap (λ (s : Seen). s.queues) ended.now in
     record {
-      done = canceled (plain_farm c.args.self.now) (plain_farm c.edit_jobs_and_boards.new.self) K _ c.args.number c.in-Some.job.now found (ap (λ (s : Seen). s.farm) ended.now) (ap (λ (s : Seen). s.farm) cleared.now) (λ i. record K { jobs = c.in_ok-edit_jobs.ensures.rows i });
+      done = canceled (plain_farm c.args.self.now) (plain_farm c.edit_jobs_and_boards.new.self) K _ c.args.number c.in-Some.job.now found
+          (ap (λ (s : Seen). s.farm) ended.now ∙ (λ i. change_jobs (job_passes (c.to_state-end.ensures i).jobs) (job_changed (c.to_state-end.ensures i)) freed_board (plain_farm c.args.self.now)))
+          (ap (λ (s : Seen). s.farm) cleared.now)
+          ((λ i. record K { jobs = c.in_ok-edit_jobs.ensures.rows i }) ∙ (λ i. record K { jobs = change_where (job_passes (c.to_state-stop.ensures i).jobs) (job_changed (c.to_state-stop.ensures i)) K.jobs }));
       queues = c.take_claim.ensures
           ∙ ap (without_claim c.in-Some.job.now.group) queues
           ∙ sym (ap (λ o. option_map_or (λ (j : JobRow). without_claim j.group c.args.self.now.queues) o c.args.self.now.queues) found);

@@ -1,6 +1,6 @@
 use Rattle.std.proofs.Common.{◌≡◌, ◌≤◌, ◌==◌, length, ap, arith}
 use Rattle.farm_types.specs.declared.rows.JobRow.{JobRow}
-use Rattle.farm_core.specs.declared.command.job_edit.JobFilter.{JobFilter}
+use Rattle.farm_core.specs.declared.edits.JobFilter.{JobFilter}
 use Rattle.farm_core.proofs.Windows.{no_member, none_before}
 use Rattle.farm_core.proofs.JobLemmas.{filter_between}
 use Rattle.farm_core.proofs.tables.Tables.member_rows.Goals as goal

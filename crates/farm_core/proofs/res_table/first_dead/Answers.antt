@@ -1,7 +1,7 @@
 use Rattle.std.proofs.Common.{rules, ◌≡◌, length, subst, sym, ◌∙◌, arith}
 use Rattle.farm_core.specs.Leases.{AreNoted}
 use Rattle.farm_core.proofs.Leasing.{forgotten, none_noted, none_over, popped}
-use Rattle.farm_core.proofs.leases.first_dead.Goals as goal
+use Rattle.farm_core.proofs.res_table.first_dead.Goals as goal
 
 pub returns-then-deadline-now-clause-none : goal.returns-then-deadline-now-clause-none
 returns-then-deadline-now-clause-none c =

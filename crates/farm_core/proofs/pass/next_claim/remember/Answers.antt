@@ -1,7 +1,7 @@
 use Rattle.std.proofs.Common.{◌≡◌, ◌∙◌, ◌∷◌, Bor, length, map, take, ap, arith}
 use Rattle.std.proofs.lemmas.List.{take_all}
 use Rattle.farm_types.specs.declared.rows.Want.{Want}
-use Rattle.farm_core.proofs.pass.misses.note.Goals as goal
+use Rattle.farm_core.proofs.pass.next_claim.remember.Goals as goal
 
 pub returns : goal.returns
 returns c =

@@ -1,6 +1,6 @@
 use Rattle.std.proofs.Common.{length}
 use Rattle.farm_core.specs.Leases.{AreNoted}
-use Rattle.farm_core.proofs.leases.first_dead.Given as goal
+use Rattle.farm_core.proofs.res_table.first_dead.Given as goal
 
 abbrev pub invariant-loop-lease : goal.invariant-loop-lease
 invariant-loop-lease l = AreNoted l.leases l.reservations

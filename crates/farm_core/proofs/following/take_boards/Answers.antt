@@ -3,7 +3,7 @@ use Rattle.farm_pick.specs.Queued.{QueueLists}
 use Rattle.farm_core.specs.Following.{without_board, without_boards}
 use Rattle.farm_core.specs.Serving.{names_at}
 use Rattle.farm_core.proofs.Places.{names_more, without_more}
-use Rattle.farm_core.proofs.pass.free_index.take_boards.Goals as goal
+use Rattle.farm_core.proofs.following.take_boards.Goals as goal
 
 pub loop-at-preserved : goal.loop-at-preserved
 loop-at-preserved c =

@@ -1,7 +1,7 @@
 use Rattle.std.proofs.Common.{◌≡◌, true, IfSome, sym, subst, arith}
 use Rattle.farm_core.specs.Leases.{is_noted}
 use Rattle.farm_core.proofs.Leasing.{noted_if, noted_more}
-use Rattle.farm_core.proofs.leases.note_leases.Goals as goal
+use Rattle.farm_core.proofs.res_table.note_leases.Goals as goal
 
 pub loop-row-preserved : goal.loop-row-preserved
 loop-row-preserved c =

@@ -1,6 +1,6 @@
 use Rattle.std.proofs.Common.{take}
 use Rattle.farm_core.specs.Leases.{AreNoted, Grows}
-use Rattle.farm_core.proofs.leases.note_leases.Given as goal
+use Rattle.farm_core.proofs.res_table.note_leases.Given as goal
 
 abbrev pub invariant-loop-row : goal.invariant-loop-row
 invariant-loop-row l = record {
