@@ -1,18 +1,19 @@
 use Rattle.std.proofs.Common.{◌≡◌, ℕ, List, ◌+◌, ◌∷◌, [], get_or, drop, ap, sym, ◌∙◌, arith}
 use Rattle.farm_types.specs.Farm.{put_jobs}
+use Rattle.farm_types.specs.Pass.{new_job}
 use Rattle.farm_types.specs.Change.{new_members}
 use Rattle.farm_types.specs.declared.rows.JobRow.{JobRow}
 use Rattle.farm_core.specs.Came.{Seen, seen, seen_at}
 use Rattle.farm_core.specs.Edits.{text_at}
-use Rattle.farm_core.proofs.Members.{text_next, member, members_more, members_end}
+use Rattle.farm_core.proofs.Members.{text_next, members_more, members_end}
 use Rattle.farm_core.proofs.Steps.{jobs_lead}
 use Rattle.farm_core.proofs.tables.Tables.add_members.Goals as goal
 
 -- the row that is put is the next member
-made : (c : goal.In_ok-put) → c.in_ok-row.row ≡ member (c.args.group + c.loop-at.at) c.args.group c.args.owner.now c.args.priority (get_or c.args.wants.now c.loop-at.at c.index-wants-at.result) (get_or c.args.roles.now c.loop-at.at c.index-roles-at.result) (text_at c.loop-at.at c.args.body.now)
+made : (c : goal.In_ok-put) → c.in_ok-row.row ≡ new_job (c.args.group + c.loop-at.at) c.args.group c.args.owner.now c.args.priority (get_or c.args.wants.now c.loop-at.at c.index-wants-at.result) (get_or c.args.roles.now c.loop-at.at c.index-roles-at.result) (text_at c.loop-at.at c.args.body.now)
 made c =
     c.in_ok-row.ensures
-    ∙ (λ i. member (c.args.group + c.loop-at.at) c.args.group c.args.owner.now c.args.priority (c.index-wants-at.is i) (c.index-roles-at.is i) (c.in_ok-text.ensures i))
+    ∙ (λ i. new_job (c.args.group + c.loop-at.at) c.args.group c.args.owner.now c.args.priority (c.index-wants-at.is i) (c.index-roles-at.is i) (c.in_ok-text.ensures i))
 
 -- the members that are left behind it
 abbrev rest : (c : goal.In_ok-put) → ℕ → List ℕ → List JobRow
