@@ -191,7 +191,7 @@ def compare_migrating(farm: str, folder: str, rounds: int) -> None:
     """The whole program beside the peer: reading, testing and writing are in both of its times but the last."""
     table, peer, full, path = Table(), built("peer", folder, "-lsqlite3"), f"{folder}/full.db", f"{folder}/bench.db"
     left = 100_000 - MANY - BOARDS
-    fill(farm, full, BOARDS, waiting_jobs(left), finished_jobs(left + 1, MANY), running_jobs(left + MANY + 1), of_the_first_edition())
+    fill(farm, full, BOARDS, waiting_jobs(left), finished_jobs(left + 1, MANY), *running_jobs(left + MANY + 1), of_the_first_edition())
     for _ in range(rounds):
         copy(full, path)
         table.add([("shell", timed("sqlite3", path, "select * from jobs"))])

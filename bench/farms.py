@@ -4,18 +4,47 @@ from __future__ import annotations
 import os
 import shutil
 import subprocess
+from typing import NamedTuple
 
 FEW, MANY = 1_000, 99_000  # finished jobs in a farm; it can have 100,000 jobs
 REPLIES = 299_000  # kept replies in a full farm; it can have 300,000
 SUBMITTED, RUNNING, FINISHED = 0, 3, 5  # a job's states
+WAITING, CANCELED = 0, 4  # a reservation's states
 BOARDS = 64  # boards that are added, and rows that a pass changes
 TAGS = ["k01", "k02", "k03", "k04", "k05", "k06", "k07", "k16"]
+TYPES = "INSERT INTO types VALUES ('aaa', 0, 0), ('bbb', 0, 0), ('ccc', 0, 0), ('ddd', 0, 0);"
 JOB_FILE = 'job_name = "boot"\ndevice_type = "bbb"\npriority = 50\ntags = ["k01", "k07"]\n#'.ljust(299, "x") + "\n"
 
 # Each table in order of its key, as the program reads them.
 READS = "; ".join(f"SELECT * FROM {table} ORDER BY {key}" for table, key in (
     ("types", "name"), ("boards", "name"), ("jobs", "number"), ("reservations", "number"),
     ("kept", "caller, ckey"), ("meta", "name")))
+
+
+class Rows(NamedTuple):
+    """Rows of a table, one for each number `i` from the first on: terms of SQL under the names of their columns."""
+
+    table: str
+    first: int
+    count: int
+    values: dict[str, str]
+
+
+def rows(table: str, first: int, count: int, **values: str) -> Rows:
+    return Rows(table, first, count, values)
+
+
+def insertion(path: str, wanted: Rows) -> str:
+    """The statement that adds rows. A column that they don't name is 0 or an empty text."""
+    asked = f"SELECT name, type FROM pragma_table_info('{wanted.table}')"
+    told = subprocess.run(["sqlite3", path, asked], stdout=subprocess.PIPE, check=True, text=True).stdout
+    columns = [line.split("|") for line in told.split()]
+    terms = [wanted.values.get(name, "0" if kind == "INTEGER" else "''") for name, kind in columns]
+    return f"""
+        INSERT INTO {wanted.table}
+            WITH RECURSIVE n(i) AS (SELECT {wanted.first} UNION ALL SELECT i + 1 FROM n LIMIT {wanted.count})
+            SELECT {", ".join(terms)} FROM n;
+    """
 
 
 def clear(path: str) -> None:
@@ -32,21 +61,18 @@ def copy(filled: str, path: str) -> None:
         os.fsync(it.fileno())
 
 
-def fill(farm: str, path: str, boards: int, *statements: str) -> None:
-    """A farm that the desk has made, which the real SQLite fills: two types, so many good boards of the first."""
+def fill(farm: str, path: str, count: int, *added: Rows | str) -> None:
+    """A farm that the desk has made, which the real SQLite fills: four types, so many good boards, and what is added,
+    rows or statements."""
     clear(path)
     subprocess.run([farm, "init", "--db", path], stdout=subprocess.DEVNULL, check=True)
-    first = f"""
-        INSERT INTO types VALUES ('aaa', 0, 0), ('bbb', 0, 0), ('ccc', 0, 0), ('ddd', 0, 0);
-        INSERT INTO boards WITH RECURSIVE n(i) AS (SELECT 0 UNION ALL SELECT i + 1 FROM n LIMIT {boards})
-            SELECT printf('board-%04d', i), substr('aaabbbcccddd', i / 64 * 3 + 1, 3), '{",".join(TAGS)}', 0, 0, 0, 0, 0, 0 FROM n;
-        UPDATE meta SET value = 1700000000 WHERE name = 'clock';
-    """
+    statements = [insertion(path, it) if isinstance(it, Rows) else it for it in (TYPES, boards(count), *added)]
     last = """
+        UPDATE meta SET value = 1700000000 WHERE name = 'clock';
         UPDATE meta SET value = 1 + (SELECT count(*) FROM jobs) + (SELECT count(*) FROM reservations) WHERE name = 'next';
         UPDATE meta SET value = (SELECT count(*) FROM kept) WHERE name = 'count';
     """
-    subprocess.run(["sqlite3", path], check=True, input="".join([first, *statements, last]).encode())
+    subprocess.run(["sqlite3", path], check=True, input="".join([*statements, last]).encode())
 
 
 def fill_full(farm: str, path: str, jobs_there: int, reservations: int, replies: int) -> int:
@@ -55,52 +81,53 @@ def fill_full(farm: str, path: str, jobs_there: int, reservations: int, replies:
     return jobs_there + reservations + 1
 
 
-def waiting_reservations(count: int) -> str:
+def boards(count: int) -> Rows:
+    """Good boards, 64 of each type."""
+    return rows("boards", 0, count, name="printf('board-%04d', i)", kind="substr('aaabbbcccddd', i / 64 * 3 + 1, 3)",
+                tags=f"'{','.join(TAGS)}'")
+
+
+def waiting_reservations(count: int) -> Rows:
     """Reservations that have waited in vain, numbered from 1 on."""
-    return f"""
-        INSERT INTO reservations WITH RECURSIVE n(i) AS (SELECT 1 UNION ALL SELECT i + 1 FROM n LIMIT {count})
-            SELECT i, 'ann', 50, 'k01,k07', 0, 1700000060, '' FROM n;
-    """
+    return reservations(1, count, WAITING)
 
 
-def canceled_reservations(first: int, count: int) -> str:
+def canceled_reservations(first: int, count: int) -> Rows:
     """Reservations that were canceled, numbered from `first` on."""
-    return f"""
-        INSERT INTO reservations WITH RECURSIVE n(i) AS (SELECT {first} UNION ALL SELECT i + 1 FROM n LIMIT {count})
-            SELECT i, 'ann', 50, 'k01,k07', 4, 1700000060, '' FROM n;
-    """
+    return reservations(first, count, CANCELED)
 
 
-def kept_replies(count: int) -> str:
+def reservations(first: int, count: int, state: int) -> Rows:
+    return rows("reservations", first, count, number="i", owner="'ann'", priority="50", tags="'k01,k07'", state=str(state),
+                deadline="1700000060")
+
+
+def kept_replies(count: int) -> Rows:
     """Replies of submissions, kept for twenty callers."""
-    return f"""
-        INSERT INTO kept WITH RECURSIVE n(i) AS (SELECT 1 UNION ALL SELECT i + 1 FROM n LIMIT {count})
-            SELECT printf('user-%02d', i % 20), printf('key-%08d', i), 5, 1 + i % 1000, 0, 0 FROM n;
-    """
+    return rows("kept", 1, count, caller="printf('user-%02d', i % 20)", ckey="printf('key-%08d', i)", kind="5", a="1 + i % 1000")
 
 
-def jobs(first: int, count: int, kind: str, state: int, outcome: int, board: str) -> str:
-    """Single jobs of 300 bytes, numbered from `first` on; `kind` and `board` are terms of SQL."""
-    return f"""
-        INSERT INTO jobs WITH RECURSIVE n(i) AS (SELECT {first} UNION ALL SELECT i + 1 FROM n LIMIT {count})
-            SELECT i, i, 0, 'ann', 50, {kind}, 'k01,k07', '', {state}, {outcome}, {board}, '{JOB_FILE}' FROM n;
-    """
+def jobs(first: int, count: int, state: int, **values: str) -> Rows:
+    """Single jobs of 300 bytes, numbered from `first` on."""
+    usual = {"number": "i", "grp": "i", "owner": "'ann'", "priority": "50", "kind": "'aaa'", "tags": "'k01,k07'",
+             "state": str(state), "body": f"'{JOB_FILE}'"}
+    return Rows("jobs", first, count, usual | values)
 
 
-def waiting_jobs(count: int, kind: str = "'aaa'") -> str:
+def waiting_jobs(count: int, kind: str = "'aaa'") -> Rows:
     """Jobs that wait, numbered from 1 on."""
-    return jobs(1, count, kind, SUBMITTED, 0, "''")
+    return jobs(1, count, SUBMITTED, kind=kind)
 
 
-def finished_jobs(first: int, count: int) -> str:
-    return jobs(first, count, "'aaa'", FINISHED, 1, "printf('board-%04d', i % 64)")
+def finished_jobs(first: int, count: int) -> Rows:
+    return jobs(first, count, FINISHED, outcome="1", board="printf('board-%04d', i % 64)")
 
 
-def running_jobs(first: int) -> str:
-    """A job that runs on each of 64 boards, numbered from `first` on."""
+def running_jobs(first: int) -> tuple[Rows, str]:
+    """A job that runs on each of 64 boards, numbered from `first` on, and the boards that they hold."""
     place = "CAST(substr(name, 7) AS INTEGER)"
     held = f"UPDATE boards SET state = 2, holder = 1, held_by = {first} + {place} WHERE {place} < {BOARDS};"
-    return jobs(first, BOARDS, "'aaa'", RUNNING, 0, f"printf('board-%04d', i - {first})") + held
+    return jobs(first, BOARDS, RUNNING, board=f"printf('board-%04d', i - {first})"), held
 
 
 def of_the_first_edition() -> str:

@@ -1,15 +1,23 @@
 #!/usr/bin/env python3
 """Writes docs/openapi.json, the wire for programs: python3 docs/openapi.py > docs/openapi.json
 
-The tables below have what only they say: schemas, and which one each route takes and answers. The
-routes' texts, their refusals, the codes and the examples are those of docs/API.md, read from there.
-tests/program/openapi.py demands that the file is what this prints, and what a built program answers.
+The tables below have what only they say: which schema each route takes and answers, and how far a
+field's values go. The fields of answers are those of the Python package's views
+(python/src/fizgruk/models.py); the routes' texts, their refusals, the codes and the examples those of
+docs/API.md, read from there. tests/program/openapi.py demands that the file is what this prints, and
+what a built program answers.
 """
+import dataclasses
 import json
 import os
 import re
+import sys
+from typing import Literal, get_args, get_origin
 
 HERE = os.path.dirname(os.path.abspath(__file__))
+sys.path.insert(0, os.path.join(HERE, "..", "python", "src"))
+
+from fizgruk import models  # noqa: E402
 ABOUT = """\
 The wire of a board farm's desk, as docs/API.md has it in words and bytes; docs/MACHINE.md says what
 the commands mean. A path that isn't here is answered by the response NoSuchRoute, another method of
@@ -55,13 +63,26 @@ def ref(name):
     return {"$ref": f"#/components/schemas/{name}"}
 
 
-def words(*texts):
-    return {"type": "string", "enum": list(texts)}
+def words(kind):
+    """One of the words of a view's field."""
+    return {"type": "string", "enum": list(get_args(kind))}
+
+
+def kind_of(field):
+    """What a view says of a field."""
+    if get_origin(field.type) is Literal:
+        return words(field.type)
+    return {int: COUNT, str: {"type": "string"}, models.Tags: ref("Tags")}[field.type]
 
 
 def row(**fields):
     """An answer's object, which has exactly these fields."""
     return {**body(**fields), "required": sorted(fields), "additionalProperties": False}
+
+
+def view(kind, **narrower):
+    """An answer's object with the fields of a view, of which some are narrower than it says."""
+    return row(**{it.name: kind_of(it) for it in dataclasses.fields(kind)} | narrower)
 
 
 def body(**fields):
@@ -79,8 +100,8 @@ def rows(field, name):
 
 LETTER = "[A-Za-z0-9_.-]"
 COUNT = {"type": "integer", "minimum": 0}
-HEALTHS = words("Good", "Bad", "Unknown", "Maintenance", "Retired")
 NUMBER = {"type": "integer", "minimum": 1, "maximum": 999_999_999}
+PRIORITY = {"type": "integer", "minimum": 0, "maximum": 100}
 NAME_OR_NOTHING = {"type": "string", "pattern": f"^{LETTER}{{0,48}}$"}
 
 SCHEMAS = {
@@ -94,8 +115,8 @@ SCHEMAS = {
     "BoardTags": {"type": "array", "items": ref("BoardTag"), "maxItems": 16},
     "Priority": {
         "oneOf": [
-            {"type": "integer", "minimum": 0, "maximum": 100},
-            words("low", "medium", "high"),
+            PRIORITY,
+            {"type": "string", "enum": ["low", "medium", "high"]},
         ]
     },
     "Moment": {
@@ -104,7 +125,7 @@ SCHEMAS = {
     },
     "NewType": body(
         name=ref("Name"),
-        check_=words("none", "hours", "jobs"),
+        check_=words(models.Check),
         every_={
             "type": "integer", "minimum": 1, "maximum": 10_000,
             "description": "needed where check is hours or jobs",
@@ -112,71 +133,55 @@ SCHEMAS = {
     ),
     "NewBoard": body(name=ref("Name"), type=ref("Name"), tags_=ref("BoardTags")),
     "NewTags": body(tags=ref("BoardTags")),
-    "NewHealth": body(health=HEALTHS),
+    "NewHealth": body(health=words(models.Health)),
     "JobFile": {
         "type": "string", "maxLength": 65_536,
         "description": "TOML with job_name, device_type and tags, or roles, and priority",
     },
-    "End": body(outcome=words("Complete", "Incomplete", "Infra")),
+    "End": body(outcome=words(models.Outcome)),
     "NewReservation": body(tags=ref("Tags"), priority_=ref("Priority")),
     "Number": row(number=COUNT),
-    "PassCounts": row(checks=COUNT, expired=COUNT, served=COUNT),
+    "PassCounts": view(models.PassCounts),
     "Refusal": row(code={"type": "integer"}, text={"type": "string"}),
-    "Type": row(name=ref("Name"), check=words("none", "hours", "jobs"), every=COUNT),
+    "Type": view(models.TypeView, name=ref("Name")),
     "Types": rows("types", "Type"),
-    "Board": row(
+    "Board": view(
+        models.BoardView,
         name=ref("Name"),
         type=ref("Name"),
         tags=ref("BoardTags"),
-        health=HEALTHS,
-        state=words("Idle", "Reserved", "Running"),
         holder={"type": "string", "pattern": "^(none|(job|reservation) [1-9][0-9]{0,8})$"},
-        jobs_since=COUNT,
         last_check=ref("Moment"),
     ),
     "Boards": rows("boards", "Board"),
-    "Job": row(
+    "Job": view(
+        models.JobView,
         number=NUMBER,
         group=NUMBER,
-        kind=words("ordinary", "check"),
-        state=words("Submitted", "Scheduling", "Scheduled", "Running", "Canceling", "Finished"),
-        result=words("", "Complete", "Incomplete", "Infra", "Canceled"),
         board=NAME_OR_NOTHING,
         type=ref("Name"),
-        tags=ref("Tags"),
         role=NAME_OR_NOTHING,
         owner=ref("Name"),
-        priority={"type": "integer", "minimum": 0, "maximum": 100},
-        text={"type": "string"},
+        priority=PRIORITY,
     ),
-    "Claim": row(
+    "Claim": view(
+        models.Claim,
         number=NUMBER,
-        kind=words("group", "reservation"),
         owner=ref("Name"),
-        priority={"type": "integer", "minimum": 0, "maximum": 100},
+        priority=PRIORITY,
         boards={"type": "integer", "minimum": 1, "maximum": 4},
     ),
     "Queue": rows("queue", "Claim"),
-    "Reservation": row(
+    "Reservation": view(
+        models.ReservationView,
         number=NUMBER,
-        state=words("waiting", "allocated", "acquired", "expired", "canceled"),
         board=NAME_OR_NOTHING,
-        tags=ref("Tags"),
         owner=ref("Name"),
-        priority={"type": "integer", "minimum": 0, "maximum": 100},
+        priority=PRIORITY,
         deadline=ref("Moment"),
     ),
     "Reservations": rows("reservations", "Reservation"),
-    "Status": row(
-        boards=COUNT,
-        clock=ref("Moment"),
-        collector=COUNT,
-        count=COUNT,
-        jobs=COUNT,
-        next=NUMBER,
-        reservations=COUNT,
-        types=COUNT,
-    ),
+    "Status": view(models.Status, clock=ref("Moment"), next=NUMBER),
 }
 
 # What the examples of docs/API.md don't show by themselves.

@@ -1,8 +1,8 @@
 """The library's surface: the public names of each crate, read from its sources.
 
-python3 tests/gate/surface.py           compares the names with tests/gate/surface.txt and the page with
-                                   docs/LIBRARY.md; where they differ it shows how, and ends with 1
-python3 tests/gate/surface.py --write   writes both anew
+python3 tests/gate/surface.py           compares them with docs/LIBRARY.md; where they differ it shows how,
+                                   and ends with 1
+python3 tests/gate/surface.py --write   writes the page anew
 """
 from __future__ import annotations
 
@@ -13,7 +13,6 @@ import sys
 from dataclasses import dataclass, field
 
 TOP = pathlib.Path(__file__).resolve().parents[2]
-NAMES = TOP / "tests/gate/surface.txt"
 PAGE = TOP / "docs/LIBRARY.md"
 
 ITEM = re.compile(r"^pub (?:const )?(fn|struct|enum|trait|const|type) (\w+)", re.M)
@@ -251,20 +250,6 @@ def libraries() -> dict[str, Crate]:
             if (TOP / "crates" / name / "src/lib.rt").exists()}
 
 
-def names(crates: dict[str, Crate]) -> str:
-    """A line for each public name, with its kind; those of a type's functions too."""
-    lines: list[str] = []
-    for crate in crates.values():
-        own: list[str] = []
-        for group in groups_of(crate, crates):
-            for item in group.items:
-                where = f" {item.signature}" if item.kind == "of" else ""
-                own.append(f"{crate.name}::{item.name} {item.kind}{where}")
-                own += [f"{crate.name}::{item.name}::{it.name} fn" for it in item.methods]
-        lines += sorted(own)
-    return "\n".join(lines) + "\n"
-
-
 def entry(item: Item) -> list[str]:
     if item.kind == "of":
         return [f"- `{item.name}`, as `{item.signature}`"]
@@ -296,27 +281,25 @@ def page(crates: dict[str, Crate]) -> str:
     return "\n".join(lines).rstrip("\n") + "\n"
 
 
-def differs(file: pathlib.Path, made: str) -> bool:
-    """Shows how a kept file differs from what the sources say."""
-    kept = file.read_text() if file.exists() else ""
-    shown_name = file.relative_to(TOP).as_posix()
+def differs(made: str) -> bool:
+    """Shows how the kept page differs from what the sources say."""
+    kept = PAGE.read_text() if PAGE.exists() else ""
+    shown_name = PAGE.relative_to(TOP).as_posix()
     sys.stdout.writelines(difflib.unified_diff(kept.splitlines(True), made.splitlines(True),
                                                f"{shown_name} (kept)", f"{shown_name} (sources)"))
     return kept != made
 
 
 def main(arguments: list[str]) -> int:
-    crates = libraries()
-    made = {NAMES: names(crates), PAGE: page(crates)}
-    if arguments == ["--write"]:
-        for file, text in made.items():
-            file.write_text(text)
-        return 0
-    if arguments:
+    if arguments not in ([], ["--write"]):
         print(__doc__)
         return 2
-    wrong = [file for file, text in made.items() if differs(file, text)]
-    print(f"{len(made) - len(wrong)} passed, {len(wrong)} failed")
+    made = page(libraries())
+    if arguments:
+        PAGE.write_text(made)
+        return 0
+    wrong = differs(made)
+    print("0 passed, 1 failed" if wrong else "1 passed, 0 failed")
     return 1 if wrong else 0
 
 

@@ -79,8 +79,8 @@ pub small_board : (e : BoardEffect) → IsSmallEffect e → (b : BoardRow) → I
 small_board BoardEffect.Free low b s = record { held_by = omega arith; numbers = s.numbers }
 small_board (BoardEffect.State state) low b s = record { held_by = s.held_by; numbers = s.numbers }
 small_board (BoardEffect.Reserve holder) low b s = record { held_by = low; numbers = s.numbers }
-small_board (BoardEffect.End true outcome t) low b s = check_by (λ x. IsSmallBoard (freed_board x)) outcome t b (λ h. record { held_by = omega arith; numbers = s.numbers }) (λ h. record { held_by = omega arith; numbers = (omega arith, (low, s.numbers.1.1)) })
-small_board (BoardEffect.End false outcome t) low b s = job_by (λ x. IsSmallBoard (freed_board x)) outcome b (λ h. record { held_by = omega arith; numbers = (omega arith, s.numbers.1) })
+small_board (BoardEffect.End true outcome t) low b s = check_by (λ x. IsSmallBoard (freed_board x)) outcome t b (λ h. record { held_by = omega arith; numbers = s.numbers }) (λ h. record { held_by = omega arith; numbers = (low, grind (arith, s.numbers.1)) })
+small_board (BoardEffect.End false outcome t) low b s = job_by (λ x. IsSmallBoard (freed_board x)) outcome b (λ h. record { held_by = omega arith; numbers = (s.numbers.0, grind (arith, s.numbers.1)) })
 
 pub keeps_boards : (e : BoardEffect) → IsSmallEffect e → KeepsKeys (λ (b : BoardRow). b.name) IsSmallBoard (board_after e)
 keeps_boards e low = record { key = keeps_board e; fits = small_board e low }

@@ -1,11 +1,10 @@
 -- New members are put one after another.
-use Rattle.std.proofs.Common.{◌≡◌, ℕ, zero, suc, ◌+◌, ◌==◌, ◌<◌, ◌≤◌, List, [], ◌∷◌, length, drop, get_or, Option, None, false, refl, arith, add-one}
+use Rattle.std.proofs.Common.{◌≡◌, ℕ, zero, suc, ◌+◌, ◌==◌, ◌<◌, ◌≤◌, List, [], ◌∷◌, length, drop, get_or, Option, false, refl, arith, add-one}
 use Rattle.std.proofs.lemmas.Bool.Decides.{nat_tests}
 use Rattle.farm_core.specs.Edits.{text_at}
+use Rattle.farm_types.specs.Pass.{new_job}
 use Rattle.farm_types.specs.Change.{new_members}
 use Rattle.farm_types.specs.declared.rows.Want.{Want}
-use Rattle.farm_types.specs.declared.rows.JobRow.{JobRow}
-use Rattle.farm_types.specs.declared.rows.JobState.{JobState}
 
 pub text_next : (n : ℕ) (body : List ℕ) → text_at (n + 1) body ≡ []
 text_next n body = rw (not_first n)
@@ -13,25 +12,9 @@ text_next n body = rw (not_first n)
     not_first : (n : ℕ) → ((n + 1) == 0) ≡ false
     not_first n = grind (arith, nat_tests)
 
--- the row of a new member
-abbrev pub member : ℕ → ℕ → List ℕ → ℕ → Want → Option (List ℕ) → List ℕ → JobRow
-member number group owner priority want role body = record {
-  number = number;
-  group = group;
-  checking = false;
-  owner = owner;
-  priority = priority;
-  want = want;
-  role = role;
-  state = JobState.Submitted;
-  outcome = None;
-  board = None;
-  body = body;
-}
-
 module _ (group : ℕ) (owner : List ℕ) (priority : ℕ) where
   by_suc : (wants : List Want) (roles : List (Option (List ℕ))) (n number : ℕ) (text : List ℕ) (d : Want) (e : Option (List ℕ)) → n < length wants → length roles ≡ length wants
-      → new_members group number owner priority (drop n wants) (drop n roles) text ≡ member number group owner priority (get_or wants n d) (get_or roles n e) text ∷ new_members group (number + 1) owner priority (drop (suc n) wants) (drop (suc n) roles) []
+      → new_members group number owner priority (drop n wants) (drop n roles) text ≡ new_job number group owner priority (get_or wants n d) (get_or roles n e) text ∷ new_members group (number + 1) owner priority (drop (suc n) wants) (drop (suc n) roles) []
   by_suc [] roles n number text d e low same = absurd (omega arith)
   by_suc (w ∷ wants) [] n number text d e low same = absurd (omega arith)
   by_suc (w ∷ wants) (r ∷ roles) zero number text d e low same = refl
@@ -39,7 +22,7 @@ module _ (group : ℕ) (owner : List ℕ) (priority : ℕ) where
 
   -- one more member
   pub members_more : (wants : List Want) (roles : List (Option (List ℕ))) (n number : ℕ) (text : List ℕ) (d : Want) (e : Option (List ℕ)) → n < length wants → length roles ≡ length wants
-      → new_members group number owner priority (drop n wants) (drop n roles) text ≡ member number group owner priority (get_or wants n d) (get_or roles n e) text ∷ new_members group (number + 1) owner priority (drop (n + 1) wants) (drop (n + 1) roles) []
+      → new_members group number owner priority (drop n wants) (drop n roles) text ≡ new_job number group owner priority (get_or wants n d) (get_or roles n e) text ∷ new_members group (number + 1) owner priority (drop (n + 1) wants) (drop (n + 1) roles) []
   members_more wants roles n number text d e low same = rw (add-one n) (by_suc wants roles n number text d e low same)
 
   no_roles : (wants : List Want) (number : ℕ) (text : List ℕ) → new_members group number owner priority wants [] text ≡ []

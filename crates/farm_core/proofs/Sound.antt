@@ -37,7 +37,7 @@ module _ (F : Farm) (sound : IsSound F) where
   small_board : (b : BoardRow) → IsBoardRow F b × IsHeldBy F b b.holder → IsSmallBoard b
   small_board b is = record {
     held_by = small_holder b b.holder is.1;
-    numbers = (omega (arith, is.0.since), (omega (arith, is.0.checked, sound.steady.clock), tt));
+    numbers = (omega (arith, is.0.checked, sound.steady.clock), grind (arith, is.0.counts));
   }
 
   -- its rows can be tables

@@ -61,7 +61,7 @@ module _ (F : Farm) (steady : IsSteady F) where
       let low = low_from r.priority (res_row c r is).priority in omega (arith, same, low)
   priority_low c (inr (j, is)) =
       let same : c.priority ≡ j.priority = ap (λ (d : Claimed). d.priority) is.2 in
-      let low = low_from j.priority (job_row c j is).priority in omega (arith, same, low)
+      let low = low_from j.priority (job_row c j is).words.priority in omega (arith, same, low)
 
 -- no claim has the next number
 pub fresh_next : (F : Farm) → IsSound F → AllByRecursion (λ c. c.number ≡ F.next → ⊥) (queue F)

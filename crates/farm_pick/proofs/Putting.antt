@@ -1,5 +1,5 @@
 -- A new group and a new reservation put one claim into the queue.
-use Rattle.std.proofs.Common.{◌&&◌, ◌++◌, ◌+◌, ◌<◌, ◌==◌, ◌∙◌, ◌∷◌, ◌≡◌, ◌≤◌, Bool, List, None, Option, ap, arith, cond, false, length, map, refl, sym, true, ℕ, []}
+use Rattle.std.proofs.Common.{◌&&◌, ◌++◌, ◌+◌, ◌<◌, ◌==◌, ◌∙◌, ◌∷◌, ◌≡◌, ◌≤◌, Bool, List, Option, ap, arith, cond, false, length, map, refl, sym, true, ℕ, []}
 use Rattle.std.specs.Cmp.{nat_cmp_is}
 use Rattle.std.specs.List.{AllByRecursion, filter, list_all}
 use Rattle.std.specs.Ordering.{match_ordering}
@@ -11,12 +11,12 @@ use Rattle.std.proofs.lemmas.List.{append-nil, append_assoc, map-append}
 use Rattle.std.proofs.lemmas.List.Elements.{filter-append}
 use Rattle.std.proofs.lemmas.List.Sums.{fold-append}
 use Rattle.farm_types.specs.Change.{new_members}
+use Rattle.farm_types.specs.Pass.{new_job}
 use Rattle.farm_types.specs.Farm.{Farm, members, put_jobs, put_res}
 use Rattle.farm_types.specs.Pick.{Claimed, claim_cmp, claims, group_claim, is_waiting, leads_claim, queue, res_claim, waits}
 use Rattle.farm_types.specs.Sound.{IsSound}
 use Rattle.farm_types.specs.Table.{job_cmp, put, put_all, res_cmp}
 use Rattle.farm_types.specs.declared.rows.JobRow.{JobRow}
-use Rattle.farm_types.specs.declared.rows.JobState.{JobState}
 use Rattle.farm_types.specs.declared.rows.ResRow.{ResRow}
 use Rattle.farm_types.specs.declared.rows.Want.{Want}
 use Rattle.farm_types.proofs.Put.{AllByRecursion-weaker}
@@ -66,21 +66,6 @@ module _ (F G : Farm) (new : List JobRow) (jobs : G.jobs ≡ F.jobs ++ new) (res
 
 -- ---- the members of a new group
 
-abbrev member : ℕ → ℕ → List ℕ → ℕ → Want → Option (List ℕ) → List ℕ → JobRow
-member group number owner priority want role body = record {
-  number = number;
-  group = group;
-  checking = false;
-  owner = owner;
-  priority = priority;
-  want = want;
-  role = role;
-  state = JobState.Submitted;
-  outcome = None;
-  board = None;
-  body = body;
-}
-
 module _ (group : ℕ) (owner : List ℕ) (priority : ℕ) where
   -- they are put behind jobs with smaller numbers
   members_behind : (wants : List Want) (roles : List (Option (List ℕ))) (number : ℕ) (body : List ℕ) (jobs : List JobRow)
@@ -89,7 +74,7 @@ module _ (group : ℕ) (owner : List ℕ) (priority : ℕ) where
   members_behind [] roles number body jobs below = sym (append-nil jobs)
   members_behind (want ∷ wants) [] number body jobs below = sym (append-nil jobs)
   members_behind (want ∷ wants) (role ∷ roles) number body jobs below =
-      let one = member group number owner priority want role body in
+      let one = new_job number group owner priority want role body in
       ap (λ js. put_all job_cmp js (new_members group (number + 1) owner priority wants roles []))
       (put_behind job_cmp one jobs (AllByRecursion-weaker (λ j low. sym (nat_cmp_is number j.number Greater low)) jobs below))
       ∙ members_behind wants roles (number + 1) [] (jobs ++ one ∷ [])
@@ -124,7 +109,7 @@ all_hold test (x ∷ xs) all = and_from (test x) (list_all test xs) all.0 (all_h
 module _ (F : Farm) (sound : IsSound F) (caller : List ℕ) (priority : ℕ) (want : Want) (wants : List Want) (role : Option (List ℕ))
     (roles : List (Option (List ℕ))) (body : List ℕ) where
   abbrev one : JobRow
-  one = member F.next F.next caller priority want role body
+  one = new_job F.next F.next caller priority want role body
 
   abbrev more : List JobRow
   more = new_members F.next (F.next + 1) caller priority wants roles []

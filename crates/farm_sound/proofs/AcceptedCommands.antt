@@ -72,7 +72,7 @@ acted F t caller (Cmd.AddBoard name kind tags) is sound =
     (record {
       words = record { name = names.0; tags = more.1; no_name_tag = words.1 };
       kind = IsSome-from (type_of F kind) typed.0;
-      since = omega arith;
+      counts = grind (arith);
       checked = omega arith;
       retired = λ _. refl;
     })
@@ -88,7 +88,7 @@ acted F t caller (Cmd.SetTags name tags) is sound =
     (λ old. record {
       words = record { name = old.words.name; tags = more.1; no_name_tag = words.1 };
       kind = old.kind;
-      since = old.since;
+      counts = old.counts;
       checked = old.checked;
       retired = old.retired;
     }) sound))
@@ -105,7 +105,7 @@ acted F t caller (Cmd.SetHealth name health) is sound =
     (λ old. record {
       words = old.words;
       kind = old.kind;
-      since = old.since;
+      counts = old.counts;
       checked = old.checked;
       retired = retired_idle health b.0.holder (sym (ap last b.1) ∙ third.0);
     }) sound))
@@ -189,6 +189,6 @@ acted F t caller Cmd.Pass is sound =
       sound = IsSound-pass F sound;
       kept = pass_kept expired F.collector F.clock;
       first = omega (arith, steady.next.1);
-      second = omega (arith, length_filter (is_dead F.clock) F.reservations, sound.steady.few_reservations);
-      third = omega (arith, few_served checked F.collector F.clock, steady.few_jobs, steady.few_reservations);
+      second = grind (arith, length_filter (is_dead F.clock) F.reservations, sound.steady.few);
+      third = grind (arith, few_served checked F.collector F.clock, steady.few);
     }

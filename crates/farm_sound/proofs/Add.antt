@@ -83,7 +83,7 @@ module _ (F : Farm) (row : JobRow) where
         still_jobs = λ n p there. (p, job_still steady fresh n p there, refl, refl, refl, refl);
         higher = omega arith;
         jobs_sorted = put_sorted job_cmp job_total row F.jobs steady.jobs_sorted;
-        few_jobs = omega (arith, length_put job_cmp job_total row F.jobs);
+        few = grind (arith, steady.few, length_put job_cmp job_total row F.jobs);
         next = (omega arith, omega arith);
       })
       (λ grows. let old = rows_grow F (add_job row F) steady grows in
@@ -112,7 +112,7 @@ module _ (F : Farm) (row : ResRow) where
             ∙ ap (λ v. cond v (Some row) (res_of F n)) (differs_more row.number n (omega (arith, low, fresh))))) none;
         higher = omega arith;
         reservations_sorted = put_sorted res_cmp res_total row F.reservations steady.reservations_sorted;
-        few_reservations = omega (arith, length_put res_cmp res_total row F.reservations);
+        few = grind (arith, steady.few, length_put res_cmp res_total row F.reservations);
         next = (omega arith, omega arith);
       })
       (λ grows. let old = rows_grow F (add_res row F) steady grows in

@@ -29,7 +29,7 @@ IsSound-put_type F row is room sound = record {
         more_types = λ k. find_put type_cmp type_total row (λ r. bytes_eq r.name k) (λ r tie. ap (λ n. bytes_eq n k) (same_texts row.name r.name tie)) F.types;
         types_sorted = put_sorted type_cmp type_total row F.types sound.steady.types_sorted;
         types = AllByRecursion-put type_cmp type_total row IsTypeRow is F.types sound.steady.types;
-        few_types = omega (arith, length_put type_cmp type_total row F.types);
+        few = grind (arith, sound.steady.few, length_put type_cmp type_total row F.types);
       })
       (rows_grow F (put_type F row) sound.steady);
   held = IsHeldByKeys-same_rows F (put_type F row) refl refl refl sound.held;
@@ -58,7 +58,7 @@ IsSteady-put_board F row is few few_of_kind steady = IsSteady-edited
       farm = put_board F row;
       more_boards = λ k. find_put board_cmp board_total row (λ r. bytes_eq r.name k) (λ r tie. ap (λ n. bytes_eq n k) (same_texts row.name r.name tie)) F.boards;
       boards_sorted = put_sorted board_cmp board_total row F.boards steady.boards_sorted;
-      few_boards = few;
+      few = grind (arith, steady.few, few);
       few_of_kind = few_of_kind;
     })
     (λ grows. let old = rows_grow F (put_board F row) steady grows in
@@ -155,7 +155,7 @@ IsSound-replace_board F name b row found same is sound =
     let held_by : IsHeldBy F b b.holder = found_has (λ b. IsHeldBy F b b.holder) (λ r. bytes_eq r.name name) b F.boards sound.held.boards found in
     let named : board_of F row.name ≡ Some b = ap (board_of F) (same.name ∙ b_is) ∙ found in
     record {
-      steady = IsSteady-put_board F row (is old) (omega (arith, (counts []).1, sound.steady.few_boards))
+      steady = IsSteady-put_board F row (is old) (grind (arith, (counts []).1, sound.steady.few))
           (λ kind. omega (arith, (counts kind).0, sound.steady.few_of_kind kind)) sound.steady;
       held = IsHeldByKeys-put_board F row (subst (IsHeldBy F row) (sym same.holder) (held_by_same F b row b.holder same held_by))
           (λ h was. same.holder ∙ subst (λ o. IsSomeAnd o (λ b. b.holder ≡ h)) named was) sound.held;

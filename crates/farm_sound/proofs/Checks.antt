@@ -5,7 +5,7 @@ use Rattle.std.specs.Cmp.Lexicographic.{nat_list_eq_equiv}
 use Rattle.std.specs.List.Sorted.{IsStrictlySortedBy}
 use Rattle.std.specs.Ordering.{is_eq}
 use Rattle.std.proofs.lemmas.Map.Text.{is_eq-slice_cmp}
-use Rattle.farm_types.specs.Limits.{most_jobs, numbers_end}
+use Rattle.farm_types.specs.Limits.{highest_priority, most_jobs, numbers_end}
 use Rattle.farm_types.specs.Codes.{same_health}
 use Rattle.farm_types.specs.Pass.{check_job, check_one, checks, has_room, is_due, is_due_by, is_reached}
 use Rattle.farm_types.specs.Pick.{check_of, is_nobody}
@@ -20,6 +20,7 @@ use Rattle.farm_sound.proofs.Give.{IsFreeBoard, IsSteady-given_to, boards_on, gi
 use Rattle.farm_sound.proofs.Held.{IsHeldByKeys-given}
 use Rattle.farm_sound.proofs.Lists.{filter_all}
 use Rattle.farm_sound.proofs.Own.{fresh_job, fresh_res, itself, own_board}
+use Rattle.farm_sound.proofs.Rows.{new_words}
 use Rattle.farm_sound.proofs.Tests.{both, nobody_from, same_number}
 use Rattle.farm_sound.proofs.Where.{AllByRecursion-both, by_cases, either}
 use Rattle.farm_sound.proofs.Whole.{AreGroupsInPhase-add}
@@ -58,13 +59,9 @@ module _ (F : Farm) (b : BoardRow) (free : IsFreeBoard F b) (sound : IsSound F) 
   check_row = record {
     number = (sound.steady.next.0, omega arith);
     apart = subst IsNone (sym (fresh_res F sound.steady F.next (omega arith))) refl;
-    owner = admin_name;
-    priority = refl;
-    want = want_of_kind b.kind (kind_name F b.kind sound.steady row_b.kind);
+    words = new_words F.next F.next (codes "admin") highest_priority (record { kind = Some b.kind; tags = [] }) None [] admin_name refl
+        (want_of_kind b.kind (kind_name F b.kind sound.steady row_b.kind)) tt (omega arith) (no_text [] refl);
     kind = row_b.kind;
-    role = tt;
-    body = omega arith;
-    text = no_text [] refl;
     board = still_there F (Holder.Job F.next) b free;
     outcome = (λ e. absurd (false≢true e), λ e. cc);
     waits = λ e. cc;

@@ -4,8 +4,8 @@ use Rattle.farm_sound.proofs.Names.{AllByRecursion, AllByRecursion-weaker, Board
 use Rattle.std.specs.List.Sorted.{IsStrictlySortedBy}
 use Rattle.std.specs.Ordering.{is_eq}
 use Rattle.std.proofs.lemmas.Map.Text.{is_eq-slice_cmp}
-use Rattle.farm_types.specs.Limits.{last_moment, most_boards, most_boards_of_type, most_commands, most_jobs, most_replies, most_reservations, most_types, numbers_end}
-use Rattle.farm_types.specs.Sound.{Follows, IsBoardRow, IsJobRow, IsKeptRow, IsResRow, IsSteady, IsTypeRow}
+use Rattle.farm_types.specs.Limits.{last_moment, most_boards_of_type, most_commands, numbers_end}
+use Rattle.farm_types.specs.Sound.{Follows, IsBoardRow, IsJobRow, IsKeptRow, IsResRow, IsSteady, IsTypeRow, IsWithin, sizes_of}
 use Rattle.farm_types.specs.Table.{board_cmp, job_cmp, kept_cmp, res_cmp, type_cmp}
 use Rattle.farm_types.specs.Words.{text_cmp}
 
@@ -42,7 +42,7 @@ module _ (F G : Farm) (grows : Grows F G) where
   IsBoardRow-grows r is = record {
     words = is.words;
     kind = grows.types r.kind is.kind;
-    since = is.since;
+    counts = is.counts;
     checked = omega (arith, is.checked, grows.clock);
     retired = is.retired;
   }
@@ -64,13 +64,8 @@ module _ (F G : Farm) (grows : Grows F G) where
   IsJobRow-grows r is = record {
     number = (is.number.0, omega (arith, is.number.1, grows.next));
     apart = grows.reservations r.number is.number.1 is.apart;
-    owner = is.owner;
-    priority = is.priority;
-    want = is.want;
+    words = is.words;
     kind = IsSomeAnd-weaker _ _ grows.types r.want.kind is.kind;
-    role = is.role;
-    body = is.body;
-    text = is.text;
     board = IfSome-weaker _ _ grows.boards r.board is.board;
     outcome = is.outcome;
     waits = is.waits;
@@ -122,12 +117,8 @@ pub record Edit (F : Farm) : Type 0 where
   pub kept_sorted : IsStrictlySortedBy kept_cmp farm.kept
   pub types : AllByRecursion IsTypeRow farm.types
   pub kept : AllByRecursion IsKeptRow farm.kept
-  pub few_types : length farm.types ≤ most_types
-  pub few_boards : length farm.boards ≤ most_boards
+  pub few : AllByRecursion IsWithin (sizes_of farm)
   pub few_of_kind : (kind : List ℕ) → length (filter (λ b. bytes_eq b.kind kind) farm.boards) ≤ most_boards_of_type
-  pub few_jobs : length farm.jobs ≤ most_jobs
-  pub few_reservations : length farm.reservations ≤ most_reservations
-  pub few_kept : length farm.kept ≤ most_replies
   pub clock : farm.clock ≤ last_moment
   pub count : farm.count ≤ most_commands
   pub next : (1 ≤ farm.next) × (farm.next ≤ numbers_end)
@@ -149,12 +140,8 @@ no_edit F steady = record {
   kept_sorted = steady.kept_sorted;
   types = steady.types;
   kept = steady.kept;
-  few_types = steady.few_types;
-  few_boards = steady.few_boards;
+  few = steady.few;
   few_of_kind = steady.few_of_kind;
-  few_jobs = steady.few_jobs;
-  few_reservations = steady.few_reservations;
-  few_kept = steady.few_kept;
   clock = steady.clock;
   count = steady.count;
   next = steady.next;
@@ -181,12 +168,8 @@ IsSteady-edited e right =
       jobs = rows.1;
       reservations = rows.2;
       kept = e.kept;
-      few_types = e.few_types;
-      few_boards = e.few_boards;
+      few = e.few;
       few_of_kind = e.few_of_kind;
-      few_jobs = e.few_jobs;
-      few_reservations = e.few_reservations;
-      few_kept = e.few_kept;
       clock = e.clock;
       count = e.count;
       next = e.next;

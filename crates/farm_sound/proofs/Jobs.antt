@@ -4,7 +4,7 @@ use Rattle.farm_sound.proofs.Names.{AllByRecursion, AllByRecursion-weaker, Board
 use Rattle.farm_types.specs.Change.{after_check, after_job, cancel_group, finish_one, graded_board, in_state, is_unstarted, start_group}
 use Rattle.farm_types.specs.Codes.{same_health, same_job_state, same_outcome}
 use Rattle.farm_types.specs.Pass.{change_jobs, freed_board, giving_back, unplaced_job}
-use Rattle.farm_types.specs.Sound.{Description, IsBoardRow, IsCollecting, IsDescription, IsSound, description_of, hold, job_gives, job_hold, phase}
+use Rattle.farm_types.specs.Sound.{Description, IsBoardRow, IsCollecting, IsDescription, IsSound, IsWithin, counts_of, description_of, hold, job_gives, job_hold, phase}
 use Rattle.farm_types.specs.Table.{change_where}
 use Rattle.farm_types.specs.Limits.{most_jobs_since}
 use Rattle.farm_sound.proofs.Changes.{IsSound-change_jobs}
@@ -191,17 +191,17 @@ IsSound-back F sound =
 -- what a board keeps after a job
 record Used (F : Farm) (b c : BoardRow) : Type 0 where
   pub same : description_of c ≡ description_of b
-  pub since : c.jobs_since ≤ most_jobs_since
+  pub counts : AllByRecursion IsWithin (counts_of c)
   pub checked : c.last_check ≤ F.clock
 
 used_graded : (F : Farm) (h : Health) (b c : BoardRow) → Used F b c → Used F b (graded_board h c)
 used_graded F h b c is = by_cases (Used F b) (same_health c.health Health.Good || same_health c.health Health.Unknown) (record c { health = h }) c
-    (λ _. record { same = is.same; since = is.since; checked = is.checked }) (λ _. is)
+    (λ _. record { same = is.same; counts = is.counts; checked = is.checked }) (λ _. is)
 
 used_job : (F : Farm) (o : Outcome) (b : BoardRow) → IsBoardRow F b → Used F b (after_job o b)
 used_job F o b is =
     let used : Used F b (record b { jobs_since = min (b.jobs_since + 1) most_jobs_since }) =
-    record { same = refl; since = omega arith; checked = is.checked } in
+    record { same = refl; counts = grind (arith, is.counts); checked = is.checked } in
     by_cases (Used F b) (same_outcome o Outcome.Infra) (graded_board Health.Unknown (record b { jobs_since = min (b.jobs_since + 1) most_jobs_since }))
     (record b { jobs_since = min (b.jobs_since + 1) most_jobs_since })
     (λ _. used_graded F Health.Unknown b (record b { jobs_since = min (b.jobs_since + 1) most_jobs_since }) used) (λ _. used)
@@ -209,15 +209,15 @@ used_job F o b is =
 used_check : (F : Farm) (o : Outcome) (b : BoardRow) → IsBoardRow F b → Used F b (after_check o F.clock b)
 used_check F Outcome.Complete b is =
     used_graded F Health.Good b (record b { jobs_since = 0; last_check = F.clock })
-    (record { same = refl; since = omega arith; checked = omega arith })
-used_check F Outcome.Canceled b is = record { same = refl; since = is.since; checked = is.checked }
-used_check F o b is = used_graded F Health.Bad b b (record { same = refl; since = is.since; checked = is.checked })
+    (record { same = refl; counts = grind (arith, is.counts); checked = omega arith })
+used_check F Outcome.Canceled b is = record { same = refl; counts = is.counts; checked = is.checked }
+used_check F o b is = used_graded F Health.Bad b b (record { same = refl; counts = is.counts; checked = is.checked })
 
 idle_row : (F : Farm) (b c : BoardRow) → Used F b c → IsBoardRow F b → IsBoardRow F (freed_board c)
 idle_row F b c used is = record {
   words = subst IsDescription (sym used.same) is.words;
   kind = subst (λ (d : Description). IsSome (type_of F d.kind)) (sym used.same) is.kind;
-  since = used.since;
+  counts = used.counts;
   checked = used.checked;
   retired = λ _. refl;
 }

@@ -1,9 +1,9 @@
 -- A steady farm stays so where rows that pass a test change in their places.
-use Rattle.std.proofs.Common.{◌==◌, ◌∙◌, ◌≡◌, ◌≤◌, Bool, IsNone, IsSome, None, Option, Some, ap, map, refl, subst, sym, true}
+use Rattle.std.proofs.Common.{◌==◌, ◌∙◌, ◌≡◌, ◌≤◌, Bool, IsNone, IsSome, None, Option, Some, ap, arith, map, refl, subst, sym, true}
 use Rattle.farm_sound.proofs.Names.{AllByRecursion, AllByRecursion-weaker, BoardRow, Farm, JobRow, ResRow, board_of, bytes_eq, false≢true, option_map, res_of, true≢false}
 use Rattle.std.specs.Ordering.{nat_cmp}
 use Rattle.std.proofs.lemmas.List.{length-map}
-use Rattle.farm_types.specs.Limits.{most_boards, most_boards_of_type, most_jobs, most_reservations}
+use Rattle.farm_types.specs.Limits.{most_boards_of_type}
 use Rattle.farm_types.specs.Sound.{IsBoardRow, IsJobRow, IsResRow, IsSteady}
 use Rattle.farm_types.specs.Table.{board_cmp, change_where, job_cmp, res_cmp}
 use Rattle.farm_types.specs.Words.{text_cmp}
@@ -40,7 +40,7 @@ module _ (F : Farm) (steady : IsSteady F) where
         more_boards = λ k there. subst IsSome (sym (find_where (λ r. bytes_eq r.name k) test f (λ r. ap (λ n. bytes_eq n k) (names r)) F.boards))
             (some_map (changed test f) (board_of F k) there);
         boards_sorted = sorted_map board_cmp (changed test f) (λ a b i. text_cmp (name a i) (name b i)) F.boards steady.boards_sorted;
-        few_boards = subst (λ n. n ≤ most_boards) (sym (length-map F.boards (changed test f))) steady.few_boards;
+        few = grind (arith, steady.few, length-map F.boards (changed test f));
         few_of_kind = λ k. subst (λ n. n ≤ most_boards_of_type)
             (sym (count_map (λ r. bytes_eq r.kind k) (changed test f) (λ r. ap (λ n. bytes_eq n k) (kind r)) F.boards)) (steady.few_of_kind k);
       })
@@ -65,7 +65,7 @@ module _ (F : Farm) (steady : IsSteady F) where
           (same p).checking,
         );
         jobs_sorted = sorted_map job_cmp (changed test f) (λ a b i. nat_cmp ((same a).number i) ((same b).number i)) F.jobs steady.jobs_sorted;
-        few_jobs = subst (λ n. n ≤ most_jobs) (sym (length-map F.jobs (changed test f))) steady.few_jobs;
+        few = grind (arith, steady.few, length-map F.jobs (changed test f));
       })
       (λ grows. let old = rows_grow F G steady grows in
       (old.0, AllByRecursion-weaker (IsJobRow-grows F G grows) (map (changed test f) F.jobs) (all_changed (IsJobRow F) test f F.jobs right steady.jobs), old.2))
@@ -81,7 +81,7 @@ module _ (F : Farm) (steady : IsSteady F) where
         still_none = λ n low none. subst IsNone (sym (find_where (λ r. r.number == n) test f (λ r. ap (λ m. m == n) (numbers r)) F.reservations))
             (none_map (changed test f) (res_of F n) none);
         reservations_sorted = sorted_map res_cmp (changed test f) (λ a b i. nat_cmp (number a i) (number b i)) F.reservations steady.reservations_sorted;
-        few_reservations = subst (λ n. n ≤ most_reservations) (sym (length-map F.reservations (changed test f))) steady.few_reservations;
+        few = grind (arith, steady.few, length-map F.reservations (changed test f));
       })
       (λ grows. let old = rows_grow F G steady grows in
       (old.0, old.1, AllByRecursion-weaker (IsResRow-grows F G grows) (map (changed test f) F.reservations) (all_changed (IsResRow F) test f F.reservations right steady.reservations)))

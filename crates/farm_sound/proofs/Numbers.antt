@@ -26,12 +26,8 @@ IsSound-empty = record {
     jobs = tt;
     reservations = tt;
     kept = tt;
-    few_types = omega arith;
-    few_boards = omega arith;
+    few = grind (arith);
     few_of_kind = λ kind. omega arith;
-    few_jobs = omega arith;
-    few_reservations = omega arith;
-    few_kept = omega arith;
     clock = omega arith;
     count = omega arith;
     next = (omega arith, omega arith);
@@ -67,7 +63,7 @@ IsSound-noted F kept n sorted rows few low sound =
     let G : Farm = record F { kept = kept; count = n } in
     record {
       steady = IsSteady-edited
-          (record (no_edit F sound.steady) { farm = G; kept_sorted = sorted; kept = rows; few_kept = few; count = low }) (rows_grow F G sound.steady);
+          (record (no_edit F sound.steady) { farm = G; kept_sorted = sorted; kept = rows; few = grind (arith, sound.steady.few, few); count = low }) (rows_grow F G sound.steady);
       held = IsHeldByKeys-same_rows F G refl refl refl sound.held;
       whole = sound.whole;
       collecting = sound.collecting;
@@ -80,4 +76,4 @@ IsSound-put_kept F row is room sound =
     (omega (arith, length_put kept_cmp kept_total row F.kept)) sound.steady.count sound
 
 pub IsSound-counted : (F : Farm) (n : ℕ) → n ≤ most_commands → IsSound F → IsSound (record F { count = n })
-IsSound-counted F n low sound = IsSound-noted F F.kept n sound.steady.kept_sorted sound.steady.kept sound.steady.few_kept low sound
+IsSound-counted F n low sound = IsSound-noted F F.kept n sound.steady.kept_sorted sound.steady.kept (grind (arith, sound.steady.few)) low sound

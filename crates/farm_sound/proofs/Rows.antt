@@ -1,9 +1,20 @@
 -- Rows of jobs, reservations and boards in another state, and what they hold then.
-use Rattle.std.proofs.Common.{◌+◌, ◌↔◌, ◌≡◌, ◌≤◌, IsSome, IsTrue, List, None, Option, Some, ap, is_some, refl, subst, sym, true, ℕ}
-use Rattle.farm_sound.proofs.Names.{BoardRow, Farm, Health, Holder, JobRow, JobState, Outcome, ResRow, ResState, State}
+use Rattle.std.proofs.Common.{◌+◌, ◌↔◌, ◌≡◌, ◌≤◌, IfSome, IsSome, IsTrue, List, None, Option, Some, ap, is_some, length, refl, subst, sym, true, ℕ}
+use Rattle.farm_sound.proofs.Names.{BoardRow, Farm, Health, Holder, JobRow, JobState, Outcome, ResRow, ResState, State, Want}
+use Rattle.farm_types.specs.Limits.{longest_text}
+use Rattle.farm_types.specs.Words.{IsName, IsText}
+use Rattle.farm_types.specs.Proper.{is_priority, is_want}
+use Rattle.farm_types.specs.Pass.{new_job}
 use Rattle.farm_types.specs.Change.{in_state}
-use Rattle.farm_types.specs.Sound.{Hold, IsBoardOf, IsBoardRow, IsJobRow, IsResRow, hold, holds, job_gives, phase, res_gives, shown_hold}
+use Rattle.farm_types.specs.Sound.{Hold, IsBoardOf, IsBoardRow, IsJobRow, IsResRow, IsSubmission, hold, holds, job_gives, phase, res_gives, shown_hold, submission_of}
 use Rattle.farm_sound.proofs.Held.{IsLeft, Leaves}
+
+-- ---- a new job
+
+pub new_words : (number group : ℕ) (owner : List ℕ) (priority : ℕ) (want : Want) (role : Option (List ℕ)) (body : List ℕ) → IsName owner → IsTrue (is_priority priority)
+    → IsTrue (is_want want) → IfSome role IsName → length body ≤ longest_text → IsText body → IsSubmission (submission_of (new_job number group owner priority want role body))
+new_words number group owner priority want role body name prio wanted named few utf8 =
+    record { owner = name; priority = prio; want = wanted; role = named; body = few; text = utf8 }
 
 -- ---- rows in another state
 
@@ -13,13 +24,8 @@ pub job_row_at : (F : Farm) (j : JobRow) (s : JobState) (o : Option Outcome) (b 
 job_row_at F j s o b there ended holds waits checked is = record {
   number = is.number;
   apart = is.apart;
-  owner = is.owner;
-  priority = is.priority;
-  want = is.want;
+  words = is.words;
   kind = is.kind;
-  role = is.role;
-  body = is.body;
-  text = is.text;
   board = there;
   outcome = ended;
   waits = waits;
@@ -65,7 +71,7 @@ pub board_row_in : (F : Farm) (b : BoardRow) (h : Holder) (s : State) → (b.hea
 board_row_in F b h s retired is = record {
   words = is.words;
   kind = is.kind;
-  since = is.since;
+  counts = is.counts;
   checked = is.checked;
   retired = retired;
 }

@@ -1,8 +1,9 @@
 -- A group is submitted, member by member.
-use Rattle.std.proofs.Common.{◌+◌, ◌-◌, ◌<◌, ◌∙◌, ◌∷◌, ◌≡◌, ◌≢◌, ◌≤◌, IfSome, IsNone, IsSome, IsSomeAnd, IsTrue, List, None, Option, Some, ap, arith, cond, false, length, refl, subst, sym, ℕ, []}
+use Rattle.std.proofs.Common.{◌+◌, ◌-◌, ◌<◌, ◌∙◌, ◌∷◌, ◌≡◌, ◌≢◌, ◌≤◌, IfSome, IsNone, IsSome, IsSomeAnd, IsTrue, List, Option, Some, ap, arith, cond, false, length, refl, subst, sym, ℕ, []}
 use Rattle.farm_sound.proofs.Names.{AllByRecursion, AllByRecursion-put, AllByRecursion-weaker, Farm, JobRow, JobState, Want, false≢true, job_of, length_put, put_jobs, type_of}
 use Rattle.farm_types.specs.Limits.{longest_text, most_jobs, numbers_end}
 use Rattle.farm_types.specs.Change.{new_members}
+use Rattle.farm_types.specs.Pass.{new_job}
 use Rattle.farm_types.specs.Proper.{is_priority, is_want}
 use Rattle.farm_types.specs.Sound.{IsJobRow, IsSound, phase}
 use Rattle.farm_types.specs.Table.{job_cmp, put, put_all}
@@ -11,6 +12,7 @@ use Rattle.farm_types.specs.Words.{IsName, IsText}
 use Rattle.farm_sound.proofs.Add.{IsHeldByKeys-add_job, IsSteady-add_job, add_job, job_of-add, job_total}
 use Rattle.farm_sound.proofs.Collecting.{IsCollecting-add}
 use Rattle.farm_sound.proofs.Own.{differs_more, fresh_res, itself}
+use Rattle.farm_sound.proofs.Rows.{new_words}
 use Rattle.farm_sound.proofs.Whole.{AreGroupsInPhase-add}
 
 -- what holds before a member with the farm's next number is added
@@ -30,19 +32,7 @@ module _ (F : Farm) (group : ℕ) (owner : List ℕ) (priority : ℕ) (want : Wa
     (next : Next F group owner priority body) (name : IsName owner) (prio : IsTrue (is_priority priority)) (wanted : IsMemberWant F want)
     (named : IfSome role IsName) (in_group : F.next < group + 4) where
   abbrev row : JobRow
-  row = record {
-    number = F.next;
-    group = group;
-    checking = false;
-    owner = owner;
-    priority = priority;
-    want = want;
-    role = role;
-    state = JobState.Submitted;
-    outcome = None;
-    board = None;
-    body = body;
-  }
+  row = new_job F.next group owner priority want role body
 
   -- the previous member is found as before
   still : (p : JobRow) → F.next ≢ group → job_of F (F.next - 1) ≡ Some p → job_of (add_job row F) (F.next - 1) ≡ Some p
@@ -54,13 +44,8 @@ module _ (F : Farm) (group : ℕ) (owner : List ℕ) (priority : ℕ) (want : Wa
   member_row = record {
     number = (sound.steady.next.0, omega arith);
     apart = subst IsNone (sym (fresh_res F sound.steady F.next (omega arith))) refl;
-    owner = name;
-    priority = prio;
-    want = wanted.1;
+    words = new_words F.next group owner priority want role body name prio wanted.1 named next.few next.utf8;
     kind = wanted.0;
-    role = named;
-    body = next.few;
-    text = next.utf8;
     board = tt;
     outcome = (λ e. absurd (false≢true e), λ e. cc);
     waits = λ _. refl;
@@ -108,19 +93,7 @@ members_sound [] [] F group owner priority body sound next name prio wanted name
 members_sound [] (role ∷ roles) F group owner priority body sound next name prio wanted named long in_group room numbers = absurd (omega arith)
 members_sound (want ∷ wants) [] F group owner priority body sound next name prio wanted named long in_group room numbers = absurd (omega arith)
 members_sound (want ∷ wants) (role ∷ roles) F group owner priority body sound next name prio wanted named long in_group room numbers =
-    let one : JobRow = record {
-      number = F.next;
-      group = group;
-      checking = false;
-      owner = owner;
-      priority = priority;
-      want = want;
-      role = role;
-      state = JobState.Submitted;
-      outcome = None;
-      board = None;
-      body = body;
-    } in
+    let one = new_job F.next group owner priority want role body in
     let more : length (put job_cmp F.jobs one) ≤ length F.jobs + 1 = length_put job_cmp job_total one F.jobs in
     subst (λ n. IsSound (record F {
       jobs = put_all job_cmp (put job_cmp F.jobs one) (new_members group (F.next + 1) owner priority wants roles []);

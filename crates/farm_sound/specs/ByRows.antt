@@ -4,12 +4,10 @@ use Rattle.std.specs.Prelude.{is_some, length, IsTrue, IsSome, IsNone, IfSome, I
 use Rattle.std.specs.List.{filter, AllByRecursion}
 use Rattle.std.specs.List.Sorted.{IsStrictlySortedBy}
 use Rattle.std.specs.Str.{bytes_eq}
-use Rattle.farm_types.specs.Limits.{last_moment, longest_text, most_boards, most_boards_of_type, most_commands, most_jobs, most_replies, most_reservations, most_types, most_wants, numbers_end}
-use Rattle.farm_types.specs.Words.{IsName, IsText}
+use Rattle.farm_types.specs.Limits.{last_moment, most_boards_of_type, most_commands, most_wants, numbers_end}
 use Rattle.farm_types.specs.Table.{type_cmp, board_cmp, job_cmp, res_cmp, kept_cmp}
-use Rattle.farm_types.specs.Proper.{is_priority, is_want}
 use Rattle.farm_types.specs.Farm.{Farm, type_of, board_of, job_of, res_of}
-use Rattle.farm_types.specs.Sound.{IsBoardOf, IsCollecting, IsCheck, Follows, job_gives, res_gives}
+use Rattle.farm_types.specs.Sound.{IsBoardOf, IsCollecting, IsCheck, Follows, IsSubmission, IsWithin, job_gives, res_gives, sizes_of, submission_of}
 use Rattle.farm_types.specs.Sound.{phase, IsTypeRow, IsBoardRow, IsJobRow, IsResRow, IsKeptRow}
 use Rattle.farm_types.specs.declared.rows.Holder.{Holder}
 use Rattle.farm_types.specs.declared.rows.State.{State}
@@ -26,13 +24,8 @@ pub record IsJobNumbered (F : Farm) (r : JobRow) : Type 0 where
   pub group : (r.group ≤ r.number) × (r.number < r.group + most_wants)
 
 pub record IsJobWorded (F : Farm) (r : JobRow) : Type 0 where
-  pub owner : IsName r.owner
-  pub priority : IsTrue (is_priority r.priority)
-  pub want : IsTrue (is_want r.want)
+  pub words : IsSubmission (submission_of r)
   pub kind : IsSomeAnd r.want.kind (λ kind. IsSome (type_of F kind))
-  pub role : IfSome r.role IsName
-  pub body : length r.body ≤ longest_text
-  pub text : IsText r.body
 
 pub record IsJobPlaced (F : Farm) (r : JobRow) : Type 0 where
   pub board : IsBoardOf F r.board
@@ -87,11 +80,7 @@ pub record IsOrdered (F : Farm) : Type 0 where
 
 -- and their limits
 pub record IsFew (F : Farm) : Type 0 where
-  pub types : length F.types ≤ most_types
-  pub boards : length F.boards ≤ most_boards
-  pub jobs : length F.jobs ≤ most_jobs
-  pub reservations : length F.reservations ≤ most_reservations
-  pub kept : length F.kept ≤ most_replies
+  pub sizes : AllByRecursion IsWithin (sizes_of F)
   pub clock : F.clock ≤ last_moment
   pub count : F.count ≤ most_commands
   pub next : (1 ≤ F.next) × (F.next ≤ numbers_end)

@@ -144,9 +144,9 @@ abbrev kept_key : ℕ → List Term
 kept_key width = col 1 0 ∷ col 1 0 ∷ col 1 1 ∷ params (width + 3) (width - 1)
 
 abbrev boards_clause : Upsert
-boards_clause = the_clause (codes "boards") 2 boards_table.columns 9 (kept_key 9) (λ keys olds news. refl) (λ db. refl)
+boards_clause = the_clause (codes "boards") 2 boards_table.columns of_boards.width (kept_key of_boards.width) (λ keys olds news. refl) (λ db. refl)
 
-boards_is : (command_of (understood farm_schema PUT_BOARDS.now) ≡ InsertOr 1 Abort (Values (keyed_terms of_boards) 10) (boards_clause ∷ [])) × IsPlain (understood farm_schema PUT_BOARDS.now)
+boards_is : (command_of (understood farm_schema PUT_BOARDS.now) ≡ InsertOr 1 Abort (Values (keyed_terms of_boards) (suc of_boards.width)) (boards_clause ∷ [])) × IsPlain (understood farm_schema PUT_BOARDS.now)
 unfolding understood everything
 boards_is = (refl, (refl, refl))
 
@@ -155,9 +155,9 @@ puts_board r old new count T inside ran =
     let x = board_columns r in
     let db = old.now.trees in
     let casts : cast_row boards_table (Null ∷ x) ≡ Null ∷ x = ap₂ ◌∷◌ cast_null (all_stay boards_table.columns x refl) in
-    inserts of_boards boards_known (codes "boards") boards_table.columns None (1 ∷ []) ((1 ∷ []) ∷ []) (record { digits = 0 } ∷ []) Abort (boards_clause ∷ []) (λ why. refl) 1 PUT_BOARDS.now (keyed_terms of_boards) 10 refl boards_is.0 boards_is.1
+    inserts of_boards boards_known (codes "boards") boards_table.columns None (1 ∷ []) ((1 ∷ []) ∷ []) (record { digits = 0 } ∷ []) Abort (boards_clause ∷ []) (λ why. refl) 1 PUT_BOARDS.now (keyed_terms of_boards) (suc of_boards.width) refl boards_is.0 boards_is.1
     old new x (Null ∷ x) (Int (next_rowid (db 2)) ∷ x) refl (ap (with_rowid Chosen (db 2)) casts) count T inside ran
-    (λ it. judge (codes "boards") 2 boards_table.columns 9 (kept_key 9) (λ keys olds news. refl) (λ db. refl) (λ raw new. refl) (λ raw new. refl) (mode_of old) old.step_limit db T.boards it r.name (drop 1 x) refl refl (λ raw. refl) (λ raw. refl))
+    (λ it. judge (codes "boards") 2 boards_table.columns of_boards.width (kept_key of_boards.width) (λ keys olds news. refl) (λ db. refl) (λ raw new. refl) (λ raw new. refl) (mode_of old) old.step_limit db T.boards it r.name (drop 1 x) refl refl (λ raw. refl) (λ raw. refl))
 
 abbrev meta_clause : Upsert
 meta_clause = the_clause (codes "meta") 8 meta_table.columns 2 (kept_key 2) (λ keys olds news. refl) (λ db. refl)

@@ -41,8 +41,8 @@ sound_is_readable F sound =
     record {
       types = names;
       boards = AllByRecursion-weaker (λ r is. record { name = is.words.name; kind = found_name (λ t. t.name) F.types names r.kind is.kind; tags = is.words.tags }) F.boards steady.boards;
-      jobs = AllByRecursion-weaker (λ r is. let want = want_kind r.want is.want in
-          record { owner = is.owner; priority = is.priority; kind = want.0; tags = want.1; role = is.role; board = named_board F steady.boards r.board is.board; body = is.text }) F.jobs steady.jobs;
+      jobs = AllByRecursion-weaker (λ r is. let want = want_kind r.want is.words.want in
+          record { owner = is.words.owner; priority = is.words.priority; kind = want.0; tags = want.1; role = is.words.role; board = named_board F steady.boards r.board is.board; body = is.words.text }) F.jobs steady.jobs;
       reservations = AllByRecursion-weaker (λ r is. record { owner = is.owner; priority = is.priority; kind = is.kind; tags = (want_kind r.want is.want).1; board = named_board F steady.boards r.board is.board }) F.reservations steady.reservations;
       kept = AllByRecursion-weaker (λ r is. record { caller = is.caller; key = is.key }) F.kept steady.kept;
     }

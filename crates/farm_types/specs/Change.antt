@@ -1,11 +1,11 @@
 -- What an accepted command does.
-use Rattle.std.specs.Prelude.{ℕ, ◌==◌, ◌&&◌, ◌||◌, ◌+◌, ◌-◌, Bool, false, min, List, [], ◌∷◌, length, Option, Some, None, if◌then◌else◌}
+use Rattle.std.specs.Prelude.{ℕ, ◌==◌, ◌&&◌, ◌||◌, ◌+◌, ◌-◌, Bool, min, List, [], ◌∷◌, length, Option, Some, None, if◌then◌else◌}
 use Rattle.std.specs.List.{filter}
 use Rattle.std.specs.Option.{option_map_or}
 use Rattle.farm_types.specs.Limits.{lease, most_jobs_since}
 use Rattle.farm_types.specs.Codes.{same_health, same_job_state, same_outcome}
 use Rattle.farm_types.specs.Farm.{Farm, job_of, put_type, put_board, put_jobs, put_res, put_kept}
-use Rattle.farm_types.specs.Pass.{freed_board, with_board, change_jobs, change_res, is_dead, giving_back, expire, checks, serve_all}
+use Rattle.farm_types.specs.Pass.{freed_board, with_board, change_jobs, change_res, is_dead, giving_back, expire, new_job, checks, serve_all}
 use Rattle.farm_types.specs.Pick.{waits}
 use Rattle.farm_types.specs.Refuse.{moment, kind_of}
 use Rattle.farm_types.specs.declared.rows.Health.{Health}
@@ -48,19 +48,7 @@ new_board name kind tags = record {
 -- the members of a new group, numbered from `number` on; the first carries the text
 abbrev pub new_members : ℕ → ℕ → List ℕ → ℕ → List Want → List (Option (List ℕ)) → List ℕ → List JobRow
 new_members group number owner priority (want ∷ wants) (role ∷ roles) body =
-    record {
-      number = number;
-      group = group;
-      checking = false;
-      owner = owner;
-      priority = priority;
-      want = want;
-      role = role;
-      state = JobState.Submitted;
-      outcome = None;
-      board = None;
-      body = body;
-    } ∷ new_members group (number + 1) owner priority wants roles []
+    new_job number group owner priority want role body ∷ new_members group (number + 1) owner priority wants roles []
 new_members group number owner priority wants roles body = []
 
 abbrev pub new_res : ℕ → List ℕ → ℕ → List (List ℕ) → ℕ → ResRow

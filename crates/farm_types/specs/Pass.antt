@@ -80,20 +80,28 @@ is_due F t b = is_nobody b.holder && is_due_by (check_of F.types b.kind) t b
 abbrev pub has_room : Farm → ℕ → Bool
 has_room F n = nat_le (length F.jobs + n) most_jobs && nat_le (F.next + n) numbers_end
 
+-- a new job, which waits for its board
+abbrev pub new_job : ℕ → ℕ → List ℕ → ℕ → Want → Option (List ℕ) → List ℕ → JobRow
+new_job number group owner priority want role body = record {
+  number = number;
+  group = group;
+  checking = false;
+  owner = owner;
+  priority = priority;
+  want = want;
+  role = role;
+  state = JobState.Submitted;
+  outcome = None;
+  board = None;
+  body = body;
+}
+
 -- the job that checks a board
 abbrev pub check_job : ℕ → BoardRow → JobRow
-check_job number b = record {
-  number = number;
-  group = number;
+check_job number b = record (new_job number number (codes "admin") highest_priority (record { kind = Some b.kind; tags = [] }) None []) {
   checking = true;
-  owner = codes "admin";
-  priority = highest_priority;
-  want = record { kind = Some b.kind; tags = [] };
-  role = None;
   state = JobState.Scheduled;
-  outcome = None;
   board = Some b.name;
-  body = [];
 }
 
 abbrev pub check_one : Farm → BoardRow → Farm

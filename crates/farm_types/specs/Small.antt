@@ -1,7 +1,8 @@
 -- The numbers that a store can keep.
-use Rattle.std.specs.Prelude.{◌≤◌, ℕ, List, [], ◌∷◌}
+use Rattle.std.specs.Prelude.{◌≤◌, ℕ, List, ◌∷◌, map}
 use Rattle.std.specs.List.{AllByRecursion}
 use Rattle.farm_types.specs.Limits.{largest_stored}
+use Rattle.farm_types.specs.Sound.{counts_of}
 use Rattle.farm_types.specs.declared.calls.Rows.{Rows}
 use Rattle.farm_types.specs.declared.rows.Check.{Check}
 use Rattle.farm_types.specs.declared.rows.Holder.{Holder}
@@ -29,9 +30,9 @@ held_by (Holder.Res n) = n
 abbrev pub IsSmallType : TypeRow → Type 0
 IsSmallType r = IsSmall (every_of r.check)
 
--- the numbers of a board, but its holder's
+-- the numbers of a board, but its holder's: the moment of its last check, and those that have a limit
 abbrev pub board_numbers : BoardRow → List ℕ
-board_numbers r = r.jobs_since ∷ r.last_check ∷ []
+board_numbers r = r.last_check ∷ map (λ c. c.0) (counts_of r)
 
 pub record IsSmallBoard (r : BoardRow) : Type 0 where
   pub held_by : IsSmall (held_by r.holder)

@@ -14,6 +14,7 @@ use Rattle.farm_types.specs.declared.rows.State.{State}
 use Rattle.farm_types.specs.declared.rows.Holder.{Holder}
 use Rattle.farm_types.specs.declared.rows.JobState.{JobState}
 use Rattle.farm_types.specs.declared.rows.ResState.{ResState}
+use Rattle.farm_types.specs.declared.rows.Want.{Want}
 use Rattle.farm_types.specs.declared.rows.TypeRow.{TypeRow}
 use Rattle.farm_types.specs.declared.rows.BoardRow.{BoardRow}
 use Rattle.farm_types.specs.declared.rows.JobRow.{JobRow}
@@ -128,12 +129,38 @@ pub record IsDescription (d : Description) : Type 0 where
   pub tags : IsTags d.tags
   pub no_name_tag : IsTrue (has_no_name_tag d.tags)
 
+-- the numbers of a board that have a limit, each with its own
+abbrev pub counts_of : BoardRow → List (ℕ × ℕ)
+counts_of r = (r.jobs_since, most_jobs_since) ∷ []
+
+abbrev pub IsWithin : ℕ × ℕ → Type 0
+IsWithin (number, most) = number ≤ most
+
 pub record IsBoardRow (F : Farm) (r : BoardRow) : Type 0 where
   pub words : IsDescription (description_of r)
   pub kind : IsSome (type_of F r.kind)
-  pub since : r.jobs_since ≤ most_jobs_since
+  pub counts : AllByRecursion IsWithin (counts_of r)
   pub checked : r.last_check ≤ F.clock
   pub retired : r.health ≡ Health.Retired → r.holder ≡ Holder.Nobody
+
+-- what a job comes with; nothing that happens to it changes it
+pub record Submission : Type 0 where
+  pub owner : List ℕ
+  pub priority : ℕ
+  pub want : Want
+  pub role : Option (List ℕ)
+  pub body : List ℕ
+
+abbrev pub submission_of : JobRow → Submission
+submission_of r = record { owner = r.owner; priority = r.priority; want = r.want; role = r.role; body = r.body }
+
+pub record IsSubmission (s : Submission) : Type 0 where
+  pub owner : IsName s.owner
+  pub priority : IsTrue (is_priority s.priority)
+  pub want : IsTrue (is_want s.want)
+  pub role : IfSome s.role IsName
+  pub body : length s.body ≤ longest_text
+  pub text : IsText s.body
 
 -- a check is a group of one, of the admin, with the highest priority, that never waits for boards, without tags, role and text
 pub record IsCheck (r : JobRow) : Type 0 where
@@ -158,13 +185,8 @@ pub record Follows (F : Farm) (r : JobRow) : Type 0 where
 pub record IsJobRow (F : Farm) (r : JobRow) : Type 0 where
   pub number : (1 ≤ r.number) × (r.number < F.next)
   pub apart : IsNone (res_of F r.number)
-  pub owner : IsName r.owner
-  pub priority : IsTrue (is_priority r.priority)
-  pub want : IsTrue (is_want r.want)
+  pub words : IsSubmission (submission_of r)
   pub kind : IsSomeAnd r.want.kind (λ kind. IsSome (type_of F kind))
-  pub role : IfSome r.role IsName
-  pub body : length r.body ≤ longest_text
-  pub text : IsText r.body
   pub board : IsBoardOf F r.board
   pub outcome : IsTrue (is_some r.outcome) ↔ (r.state ≡ JobState.Finished)
   pub waits : r.state ≡ JobState.Submitted → r.board ≡ None
@@ -190,6 +212,10 @@ pub record IsKeptRow (r : KeptRow) : Type 0 where
   pub kind : (1 ≤ r.kind) × (r.kind ≤ last_kind)
   pub reply : (r.reply.0 ≤ numbers_end) × (r.reply.1 ≤ numbers_end) × (r.reply.2 ≤ numbers_end)
 
+-- how many rows of each kind a farm has, each with its limit
+abbrev pub sizes_of : Farm → List (ℕ × ℕ)
+sizes_of F = (length F.types, most_types) ∷ (length F.boards, most_boards) ∷ (length F.jobs, most_jobs) ∷ (length F.reservations, most_reservations) ∷ (length F.kept, most_replies) ∷ []
+
 -- words, limits and what each row says of the others: all lines but those of holders and groups
 pub record IsSteady (F : Farm) : Type 0 where
   pub types_sorted : IsStrictlySortedBy type_cmp F.types
@@ -202,12 +228,8 @@ pub record IsSteady (F : Farm) : Type 0 where
   pub jobs : AllByRecursion (IsJobRow F) F.jobs
   pub reservations : AllByRecursion (IsResRow F) F.reservations
   pub kept : AllByRecursion IsKeptRow F.kept
-  pub few_types : length F.types ≤ most_types
-  pub few_boards : length F.boards ≤ most_boards
+  pub few : AllByRecursion IsWithin (sizes_of F)
   pub few_of_kind : (kind : List ℕ) → length (filter (λ b. bytes_eq b.kind kind) F.boards) ≤ most_boards_of_type
-  pub few_jobs : length F.jobs ≤ most_jobs
-  pub few_reservations : length F.reservations ≤ most_reservations
-  pub few_kept : length F.kept ≤ most_replies
   pub clock : F.clock ≤ last_moment
   pub count : F.count ≤ most_commands
   pub next : (1 ≤ F.next) × (F.next ≤ numbers_end)

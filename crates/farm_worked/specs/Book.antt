@@ -17,7 +17,7 @@ use Rattle.farm_types.specs.Machine.{Denied, run}
 use Rattle.farm_types.specs.Change.{reply_of}
 use Rattle.farm_types.specs.Sound.{holds, IsHeldOnce, AreGroupsInPhase}
 use Rattle.farm_types.specs.Small.{IsSmall, every_of, held_by}
-use Rattle.farm_worked.specs.Worked.{answers, a_board}
+use Rattle.farm_worked.specs.Worked.{answers, call_under, a_board}
 use Rattle.farm_types.specs.declared.rows.Check.{Check}
 use Rattle.farm_types.specs.declared.rows.Health.{Health}
 use Rattle.farm_types.specs.declared.rows.State.{State}
@@ -34,7 +34,6 @@ use Rattle.farm_types.specs.declared.calls.Cmd.{Cmd}
 use Rattle.farm_types.specs.declared.calls.Call.{Call}
 use Rattle.farm_worked.specs.Groups.{after_group_starts, after_one_member_ends, after_first_member_collects}
 use Rattle.farm_worked.specs.Reservations.{after_one_counter, after_lease_begins}
-use Rattle.farm_worked.specs.Kept.{call_under}
 use Rattle.farm_worked.specs.Limits.{board_named, many_types}
 
 -- ---- words

@@ -1,7 +1,8 @@
 -- Worked scripts of checks, and of the board that they check, up to its retirement.
-use Rattle.std.specs.Prelude.{◌≡◌, List, [], ◌∷◌, Some, None, codes, refl, true, false}
+use Rattle.std.specs.Prelude.{◌≡◌, ℕ, List, [], ◌∷◌, Some, None, codes, refl, true}
 use Rattle.std.specs.Char.{encode_utf8}
 use Rattle.std.specs.Str.{is_utf8, chars}
+use Rattle.farm_types.specs.Pass.{new_job}
 use Rattle.farm_types.specs.Change.{new_board as board_row}
 use Rattle.farm_types.specs.Words.{is_word, is_tag, is_tags}
 use Rattle.farm_types.specs.Proper.{is_proper_cmd}
@@ -14,6 +15,7 @@ use Rattle.farm_types.specs.declared.rows.State.{State}
 use Rattle.farm_types.specs.declared.rows.Holder.{Holder}
 use Rattle.farm_types.specs.declared.rows.JobState.{JobState}
 use Rattle.farm_types.specs.declared.rows.Outcome.{Outcome}
+use Rattle.farm_types.specs.declared.rows.JobRow.{JobRow}
 use Rattle.farm_types.specs.declared.calls.Cmd.{Cmd}
 use Rattle.farm_types.specs.declared.calls.Call.{Call}
 
@@ -28,7 +30,13 @@ check_is_made =
     ∷ by_dispatcher 30 Cmd.Pass refl
     ∷ []
 
--- the check is a group of one, of the admin, with priority 100, the board's type alone as want, no role and no text
+abbrev pub ann_job : JobRow
+ann_job = new_job 1 1 (codes "ann") 100 (a_board []) None (codes "one board")
+
+-- a check is a group of one, of the admin, with priority 100, the board's type alone as want, no role and no text
+abbrev pub check_row : ℕ → JobRow
+check_row n = record (new_job n n (codes "admin") 100 (a_board []) None []) { checking = true; board = Some (codes "b1") }
+
 abbrev pub after_check_is_made : Farm
 after_check_is_made = record {
   types = record { name = codes "bbb"; check = Check.Hours 1 } ∷ [];
@@ -36,8 +44,8 @@ after_check_is_made = record {
       record (board_row (codes "b1") (codes "bbb") (codes "hdmi" ∷ [])) { health = Health.Unknown; state = State.Reserved; holder = Holder.Job 2 }
       ∷ [];
   jobs =
-      record { number = 1; group = 1; checking = false; owner = codes "ann"; priority = 100; want = a_board []; role = None; state = JobState.Submitted; outcome = None; board = None; body = codes "one board" }
-      ∷ record { number = 2; group = 2; checking = true; owner = codes "admin"; priority = 100; want = a_board []; role = None; state = JobState.Scheduled; outcome = None; board = Some (codes "b1"); body = [] }
+      ann_job
+      ∷ record (check_row 2) { state = JobState.Scheduled }
       ∷ [];
   reservations = [];
   kept = [];
@@ -62,8 +70,8 @@ after_check_ends_well = record after_check_is_made {
       record (board_row (codes "b1") (codes "bbb") (codes "hdmi" ∷ [])) { health = Health.Good; state = State.Reserved; holder = Holder.Job 1; last_check = 90 }
       ∷ [];
   jobs =
-      record { number = 1; group = 1; checking = false; owner = codes "ann"; priority = 100; want = a_board []; role = None; state = JobState.Scheduled; outcome = None; board = Some (codes "b1"); body = codes "one board" }
-      ∷ record { number = 2; group = 2; checking = true; owner = codes "admin"; priority = 100; want = a_board []; role = None; state = JobState.Finished; outcome = Some Outcome.Complete; board = Some (codes "b1"); body = [] }
+      record ann_job { state = JobState.Scheduled; board = Some (codes "b1") }
+      ∷ record (check_row 2) { state = JobState.Finished; outcome = Some Outcome.Complete }
       ∷ [];
   clock = 100;
   count = 8;
@@ -85,9 +93,9 @@ after_lab_fault = record after_check_is_made {
       record (board_row (codes "b1") (codes "bbb") (codes "hdmi" ∷ [])) { health = Health.Unknown; state = State.Running; holder = Holder.Job 3; jobs_since = 1; last_check = 90 }
       ∷ [];
   jobs =
-      record { number = 1; group = 1; checking = false; owner = codes "ann"; priority = 100; want = a_board []; role = None; state = JobState.Finished; outcome = Some Outcome.Infra; board = Some (codes "b1"); body = codes "one board" }
-      ∷ record { number = 2; group = 2; checking = true; owner = codes "admin"; priority = 100; want = a_board []; role = None; state = JobState.Finished; outcome = Some Outcome.Complete; board = Some (codes "b1"); body = [] }
-      ∷ record { number = 3; group = 3; checking = true; owner = codes "admin"; priority = 100; want = a_board []; role = None; state = JobState.Running; outcome = None; board = Some (codes "b1"); body = [] }
+      record ann_job { state = JobState.Finished; outcome = Some Outcome.Infra; board = Some (codes "b1") }
+      ∷ record (check_row 2) { state = JobState.Finished; outcome = Some Outcome.Complete }
+      ∷ record (check_row 3) { state = JobState.Running }
       ∷ [];
   clock = 131;
   count = 12;
@@ -110,9 +118,9 @@ after_board_is_retired = record after_check_is_made {
       record (board_row (codes "b1") (codes "bbb") (codes "hdmi" ∷ [])) { health = Health.Retired; jobs_since = 1; last_check = 90 }
       ∷ [];
   jobs =
-      record { number = 1; group = 1; checking = false; owner = codes "ann"; priority = 100; want = a_board []; role = None; state = JobState.Finished; outcome = Some Outcome.Infra; board = Some (codes "b1"); body = codes "one board" }
-      ∷ record { number = 2; group = 2; checking = true; owner = codes "admin"; priority = 100; want = a_board []; role = None; state = JobState.Finished; outcome = Some Outcome.Complete; board = Some (codes "b1"); body = [] }
-      ∷ record { number = 3; group = 3; checking = true; owner = codes "admin"; priority = 100; want = a_board []; role = None; state = JobState.Finished; outcome = Some Outcome.Incomplete; board = Some (codes "b1"); body = [] }
+      record ann_job { state = JobState.Finished; outcome = Some Outcome.Infra; board = Some (codes "b1") }
+      ∷ record (check_row 2) { state = JobState.Finished; outcome = Some Outcome.Complete }
+      ∷ record (check_row 3) { state = JobState.Finished; outcome = Some Outcome.Incomplete }
       ∷ [];
   clock = 160;
   count = 15;

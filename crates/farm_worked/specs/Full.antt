@@ -1,14 +1,14 @@
 -- Worked scripts at the greatest tables: 100,000 jobs, 100,000 reservations and 300,000 kept replies.
-use Rattle.std.specs.Prelude.{◌≡◌, ℕ, ◌+◌, ◌/◌, ◌%◌, List, [], ◌∷◌, map, length, Some, None, codes, refl, false}
+use Rattle.std.specs.Prelude.{◌≡◌, ℕ, ◌+◌, ◌/◌, ◌%◌, List, [], ◌∷◌, map, length, Some, None, codes, refl}
 use Rattle.std.specs.List.{range_with_len}
 use Rattle.std.specs.Str.{is_utf8, chars}
 use Rattle.farm_types.specs.Words.{is_word, is_tag, is_tags}
 use Rattle.farm_types.specs.Proper.{is_proper_cmd}
 use Rattle.farm_types.specs.Farm.{Farm, empty_farm}
-use Rattle.farm_types.specs.Pass.{checks}
+use Rattle.farm_types.specs.Pass.{checks, new_job}
 use Rattle.farm_types.specs.Machine.{Denied, Repeated, run}
-use Rattle.farm_types.specs.Change.{reply_of}
-use Rattle.farm_worked.specs.Worked.{answers, did, by_admin, by_ann, new_type, a_board, pair, any_board}
+use Rattle.farm_types.specs.Change.{new_res, reply_of}
+use Rattle.farm_worked.specs.Worked.{answers, call_under, did, by_admin, by_ann, new_type, a_board, pair, any_board}
 use Rattle.farm_types.specs.declared.rows.Check.{Check}
 use Rattle.farm_types.specs.declared.rows.Health.{Health}
 use Rattle.farm_types.specs.declared.rows.JobState.{JobState}
@@ -19,12 +19,11 @@ use Rattle.farm_types.specs.declared.rows.ResRow.{ResRow}
 use Rattle.farm_types.specs.declared.rows.KeptRow.{KeptRow}
 use Rattle.farm_types.specs.declared.calls.Cmd.{Cmd}
 use Rattle.farm_types.specs.declared.calls.Call.{Call}
-use Rattle.farm_worked.specs.Kept.{call_under}
 use Rattle.farm_worked.specs.Limits.{board_named}
 
 -- canceled before they had a board
 abbrev pub ended_job : ℕ → JobRow
-ended_job n = record { number = n; group = n; checking = false; owner = codes "ann"; priority = 50; want = a_board []; role = None; state = JobState.Finished; outcome = Some Outcome.Canceled; board = None; body = [] }
+ended_job n = record (new_job n n (codes "ann") 50 (a_board []) None []) { state = JobState.Finished; outcome = Some Outcome.Canceled }
 
 abbrev pub farm_of_jobs : ℕ → Farm
 farm_of_jobs n = record empty_farm {
@@ -49,7 +48,7 @@ with_due_board n = record (farm_of_jobs n) {
 }
 
 abbrev pub ended_reservation : ℕ → ResRow
-ended_reservation n = record { number = n; owner = codes "ann"; priority = 50; want = record { kind = None; tags = [] }; state = ResState.Canceled; deadline = 60; board = None }
+ended_reservation n = record (new_res n (codes "ann") 50 [] 60) { state = ResState.Canceled }
 
 abbrev pub with_reservations : ℕ → Farm
 with_reservations n = record (farm_of_jobs 0) { reservations = map ended_reservation (range_with_len 1 n); next = n + 1 }

@@ -14,6 +14,7 @@ use Rattle.farm_types.specs.declared.rows.State.{State}
 use Rattle.farm_types.specs.declared.rows.Holder.{Holder}
 use Rattle.farm_types.specs.declared.rows.JobState.{JobState}
 use Rattle.farm_types.specs.declared.rows.Outcome.{Outcome}
+use Rattle.farm_types.specs.declared.rows.JobRow.{JobRow}
 use Rattle.farm_types.specs.declared.calls.Cmd.{Cmd}
 use Rattle.farm_types.specs.declared.calls.Call.{Call}
 
@@ -29,7 +30,25 @@ group_asks =
     ∷ by_ann 20 (Cmd.Submit 70 (a_board [] ∷ a_board (codes "hdmi" ∷ []) ∷ []) (Some (codes "client") ∷ Some (codes "server") ∷ []) (codes "two boards")) refl
     ∷ []
 
--- only the first member carries the text
+-- both members; only the first carries the text
+abbrev pub client : JobRow
+client = record {
+  number = 1;
+  group = 1;
+  checking = false;
+  owner = codes "ann";
+  priority = 70;
+  want = a_board [];
+  role = Some (codes "client");
+  state = JobState.Submitted;
+  outcome = None;
+  board = None;
+  body = codes "two boards";
+}
+
+abbrev pub server : JobRow
+server = record client { number = 2; want = a_board (codes "hdmi" ∷ []); role = Some (codes "server"); body = [] }
+
 abbrev pub after_group_asks : Farm
 after_group_asks = record {
   types = record { name = codes "bbb"; check = Check.Never } ∷ [];
@@ -38,8 +57,8 @@ after_group_asks = record {
       ∷ record (board_row (codes "b2") (codes "bbb") []) { health = Health.Good }
       ∷ [];
   jobs =
-      record { number = 1; group = 1; checking = false; owner = codes "ann"; priority = 70; want = a_board []; role = Some (codes "client"); state = JobState.Submitted; outcome = None; board = None; body = codes "two boards" }
-      ∷ record { number = 2; group = 1; checking = false; owner = codes "ann"; priority = 70; want = a_board (codes "hdmi" ∷ []); role = Some (codes "server"); state = JobState.Submitted; outcome = None; board = None; body = [] }
+      client
+      ∷ server
       ∷ [];
   reservations = [];
   kept = [];
@@ -63,8 +82,8 @@ after_group_is_served = record after_group_asks {
       ∷ record (board_row (codes "b2") (codes "bbb") []) { health = Health.Good; state = State.Reserved; holder = Holder.Job 1 }
       ∷ [];
   jobs =
-      record { number = 1; group = 1; checking = false; owner = codes "ann"; priority = 70; want = a_board []; role = Some (codes "client"); state = JobState.Scheduled; outcome = None; board = Some (codes "b2"); body = codes "two boards" }
-      ∷ record { number = 2; group = 1; checking = false; owner = codes "ann"; priority = 70; want = a_board (codes "hdmi" ∷ []); role = Some (codes "server"); state = JobState.Scheduled; outcome = None; board = Some (codes "b1"); body = [] }
+      record client { state = JobState.Scheduled; board = Some (codes "b2") }
+      ∷ record server { state = JobState.Scheduled; board = Some (codes "b1") }
       ∷ [];
   clock = 30;
   count = 7;
@@ -84,8 +103,8 @@ after_group_starts = record after_group_asks {
       ∷ record (board_row (codes "b2") (codes "bbb") []) { health = Health.Good; state = State.Running; holder = Holder.Job 1 }
       ∷ [];
   jobs =
-      record { number = 1; group = 1; checking = false; owner = codes "ann"; priority = 70; want = a_board []; role = Some (codes "client"); state = JobState.Running; outcome = None; board = Some (codes "b2"); body = codes "two boards" }
-      ∷ record { number = 2; group = 1; checking = false; owner = codes "ann"; priority = 70; want = a_board (codes "hdmi" ∷ []); role = Some (codes "server"); state = JobState.Running; outcome = None; board = Some (codes "b1"); body = [] }
+      record client { state = JobState.Running; board = Some (codes "b2") }
+      ∷ record server { state = JobState.Running; board = Some (codes "b1") }
       ∷ [];
   clock = 31;
   count = 8;
@@ -107,8 +126,8 @@ after_one_member_ends = record after_group_asks {
       ∷ record (board_row (codes "b2") (codes "bbb") []) { health = Health.Good; jobs_since = 1 }
       ∷ [];
   jobs =
-      record { number = 1; group = 1; checking = false; owner = codes "ann"; priority = 70; want = a_board []; role = Some (codes "client"); state = JobState.Finished; outcome = Some Outcome.Incomplete; board = Some (codes "b2"); body = codes "two boards" }
-      ∷ record { number = 2; group = 1; checking = false; owner = codes "ann"; priority = 70; want = a_board (codes "hdmi" ∷ []); role = Some (codes "server"); state = JobState.Canceling; outcome = None; board = Some (codes "b1"); body = [] }
+      record client { state = JobState.Finished; outcome = Some Outcome.Incomplete; board = Some (codes "b2") }
+      ∷ record server { state = JobState.Canceling; board = Some (codes "b1") }
       ∷ [];
   clock = 41;
   count = 10;
@@ -128,8 +147,8 @@ after_the_other_ends = record after_group_asks {
       ∷ record (board_row (codes "b2") (codes "bbb") []) { health = Health.Good; jobs_since = 1 }
       ∷ [];
   jobs =
-      record { number = 1; group = 1; checking = false; owner = codes "ann"; priority = 70; want = a_board []; role = Some (codes "client"); state = JobState.Finished; outcome = Some Outcome.Incomplete; board = Some (codes "b2"); body = codes "two boards" }
-      ∷ record { number = 2; group = 1; checking = false; owner = codes "ann"; priority = 70; want = a_board (codes "hdmi" ∷ []); role = Some (codes "server"); state = JobState.Finished; outcome = Some Outcome.Canceled; board = Some (codes "b1"); body = [] }
+      record client { state = JobState.Finished; outcome = Some Outcome.Incomplete; board = Some (codes "b2") }
+      ∷ record server { state = JobState.Finished; outcome = Some Outcome.Canceled; board = Some (codes "b1") }
       ∷ [];
   clock = 42;
   count = 11;
@@ -145,8 +164,8 @@ canceled_while_it_waits =
 abbrev pub after_canceled_while_it_waits : Farm
 after_canceled_while_it_waits = record after_group_asks {
   jobs =
-      record { number = 1; group = 1; checking = false; owner = codes "ann"; priority = 70; want = a_board []; role = Some (codes "client"); state = JobState.Finished; outcome = Some Outcome.Canceled; board = None; body = codes "two boards" }
-      ∷ record { number = 2; group = 1; checking = false; owner = codes "ann"; priority = 70; want = a_board (codes "hdmi" ∷ []); role = Some (codes "server"); state = JobState.Finished; outcome = Some Outcome.Canceled; board = None; body = [] }
+      record client { state = JobState.Finished; outcome = Some Outcome.Canceled }
+      ∷ record server { state = JobState.Finished; outcome = Some Outcome.Canceled }
       ∷ [];
   clock = 25;
   count = 7;
@@ -167,8 +186,8 @@ after_first_member_collects = record after_group_asks {
       ∷ board_row (codes "b2") (codes "bbb") []
       ∷ [];
   jobs =
-      record { number = 1; group = 1; checking = false; owner = codes "ann"; priority = 70; want = a_board []; role = Some (codes "client"); state = JobState.Scheduling; outcome = None; board = Some (codes "b1"); body = codes "two boards" }
-      ∷ record { number = 2; group = 1; checking = false; owner = codes "ann"; priority = 70; want = a_board (codes "hdmi" ∷ []); role = Some (codes "server"); state = JobState.Submitted; outcome = None; board = None; body = [] }
+      record client { state = JobState.Scheduling; board = Some (codes "b1") }
+      ∷ server
       ∷ [];
   clock = 23;
   collector = 1;
@@ -200,8 +219,8 @@ after_canceled_while_it_collects = record after_group_asks {
       ∷ board_row (codes "b2") (codes "bbb") []
       ∷ [];
   jobs =
-      record { number = 1; group = 1; checking = false; owner = codes "ann"; priority = 70; want = a_board []; role = Some (codes "client"); state = JobState.Finished; outcome = Some Outcome.Canceled; board = Some (codes "b1"); body = codes "two boards" }
-      ∷ record { number = 2; group = 1; checking = false; owner = codes "ann"; priority = 70; want = a_board (codes "hdmi" ∷ []); role = Some (codes "server"); state = JobState.Finished; outcome = Some Outcome.Canceled; board = None; body = [] }
+      record client { state = JobState.Finished; outcome = Some Outcome.Canceled; board = Some (codes "b1") }
+      ∷ record server { state = JobState.Finished; outcome = Some Outcome.Canceled }
       ∷ [];
   clock = 24;
   count = 9;

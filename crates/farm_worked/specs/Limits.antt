@@ -1,13 +1,14 @@
 -- Worked scripts at the limits: the last number or row that is taken, and the first that isn't. They start from farms that are written out.
-use Rattle.std.specs.Prelude.{◌≡◌, ℕ, List, [], ◌∷◌, map, length, Some, None, codes, refl, false}
+use Rattle.std.specs.Prelude.{◌≡◌, ℕ, List, [], ◌∷◌, map, length, Some, None, codes, refl}
 use Rattle.std.specs.List.{flat_map}
 use Rattle.std.specs.Str.{is_utf8, chars}
 use Rattle.farm_types.specs.Words.{is_word, is_tag, is_tags}
 use Rattle.farm_types.specs.Proper.{is_proper_cmd}
 use Rattle.farm_types.specs.Farm.{Farm, empty_farm}
 use Rattle.farm_types.specs.Machine.{Denied, run}
+use Rattle.farm_types.specs.Pass.{new_job}
 use Rattle.farm_types.specs.Change.{new_board as board_row, reply_of}
-use Rattle.farm_worked.specs.Worked.{answers, board_shows, res_shows, did, passed, by_admin, by_dispatcher, by_ann, new_type, a_board, single, any_board}
+use Rattle.farm_worked.specs.Worked.{answers, call_under, board_shows, res_shows, did, passed, by_admin, by_dispatcher, by_ann, new_type, a_board, single, any_board}
 use Rattle.farm_types.specs.declared.rows.Check.{Check}
 use Rattle.farm_types.specs.declared.rows.Health.{Health}
 use Rattle.farm_types.specs.declared.rows.State.{State}
@@ -19,7 +20,6 @@ use Rattle.farm_types.specs.declared.rows.TypeRow.{TypeRow}
 use Rattle.farm_types.specs.declared.rows.BoardRow.{BoardRow}
 use Rattle.farm_types.specs.declared.calls.Cmd.{Cmd}
 use Rattle.farm_types.specs.declared.calls.Call.{Call}
-use Rattle.farm_worked.specs.Kept.{call_under}
 
 -- sixty-four names of one byte each, in order: all but the full stop
 abbrev pub letters : List ℕ
@@ -115,7 +115,7 @@ a_million_jobs = record empty_farm {
       record (board_row (codes "b1") (codes "bbb") []) { health = Health.Good; state = State.Running; holder = Holder.Job 1; jobs_since = 1000000 }
       ∷ [];
   jobs =
-      record { number = 1; group = 1; checking = false; owner = codes "ann"; priority = 50; want = a_board []; role = None; state = JobState.Running; outcome = None; board = Some (codes "b1"); body = [] }
+      record (new_job 1 1 (codes "ann") 50 (a_board []) None []) { state = JobState.Running; board = Some (codes "b1") }
       ∷ [];
   next = 2;
 }

@@ -1,7 +1,8 @@
 -- Worked scripts of reservations beside jobs: one counter of numbers, and deadlines.
-use Rattle.std.specs.Prelude.{◌≡◌, List, [], ◌∷◌, Some, None, codes, refl, false}
+use Rattle.std.specs.Prelude.{◌≡◌, ℕ, List, [], ◌∷◌, Some, None, codes, refl}
 use Rattle.std.specs.Str.{is_utf8, chars}
-use Rattle.farm_types.specs.Change.{new_board as board_row}
+use Rattle.farm_types.specs.Pass.{new_job}
+use Rattle.farm_types.specs.Change.{new_res, new_board as board_row}
 use Rattle.farm_types.specs.Words.{is_word, is_tag, is_tags}
 use Rattle.farm_types.specs.Proper.{is_proper_cmd}
 use Rattle.farm_types.specs.Farm.{Farm, empty_farm}
@@ -13,6 +14,8 @@ use Rattle.farm_types.specs.declared.rows.State.{State}
 use Rattle.farm_types.specs.declared.rows.Holder.{Holder}
 use Rattle.farm_types.specs.declared.rows.JobState.{JobState}
 use Rattle.farm_types.specs.declared.rows.ResState.{ResState}
+use Rattle.farm_types.specs.declared.rows.JobRow.{JobRow}
+use Rattle.farm_types.specs.declared.rows.ResRow.{ResRow}
 use Rattle.farm_types.specs.declared.calls.Cmd.{Cmd}
 use Rattle.farm_types.specs.declared.calls.Call.{Call}
 
@@ -29,7 +32,29 @@ one_counter =
     ∷ by_ann 23 (single 0) refl
     ∷ []
 
--- a new board is in Maintenance; a reservation's deadline is 60 seconds behind its moment
+-- a member of bob's group of two, and ann's job
+abbrev pub bob_member : ℕ → JobRow
+bob_member n = new_job n 2 (codes "bob") 50 (a_board []) None []
+
+abbrev pub ann_job : JobRow
+ann_job = new_job 5 5 (codes "ann") 0 (a_board []) None []
+
+-- a reservation's deadline is 60 seconds behind its moment
+abbrev pub ann_reservation : ResRow
+ann_reservation = record {
+  number = 1;
+  owner = codes "ann";
+  priority = 50;
+  want = record { kind = None; tags = [] };
+  state = ResState.Waiting;
+  deadline = 80;
+  board = None;
+}
+
+abbrev pub bob_reservation : ResRow
+bob_reservation = new_res 4 (codes "bob") 60 (codes "name=b1" ∷ []) 82
+
+-- a new board is in Maintenance
 abbrev pub after_one_counter : Farm
 after_one_counter = record {
   types = record { name = codes "bbb"; check = Check.Never } ∷ [];
@@ -38,13 +63,13 @@ after_one_counter = record {
       ∷ board_row (codes "b2") (codes "bbb") []
       ∷ [];
   jobs =
-      record { number = 2; group = 2; checking = false; owner = codes "bob"; priority = 50; want = a_board []; role = None; state = JobState.Submitted; outcome = None; board = None; body = [] }
-      ∷ record { number = 3; group = 2; checking = false; owner = codes "bob"; priority = 50; want = a_board []; role = None; state = JobState.Submitted; outcome = None; board = None; body = [] }
-      ∷ record { number = 5; group = 5; checking = false; owner = codes "ann"; priority = 0; want = a_board []; role = None; state = JobState.Submitted; outcome = None; board = None; body = [] }
+      bob_member 2
+      ∷ bob_member 3
+      ∷ ann_job
       ∷ [];
   reservations =
-      record { number = 1; owner = codes "ann"; priority = 50; want = record { kind = None; tags = [] }; state = ResState.Waiting; deadline = 80; board = None }
-      ∷ record { number = 4; owner = codes "bob"; priority = 60; want = record { kind = None; tags = codes "name=b1" ∷ [] }; state = ResState.Waiting; deadline = 82; board = None }
+      ann_reservation
+      ∷ bob_reservation
       ∷ [];
   kept = [];
   clock = 23;
@@ -68,8 +93,8 @@ after_lease_begins = record after_one_counter {
       ∷ board_row (codes "b2") (codes "bbb") []
       ∷ [];
   reservations =
-      record { number = 1; owner = codes "ann"; priority = 50; want = record { kind = None; tags = [] }; state = ResState.Waiting; deadline = 80; board = None }
-      ∷ record { number = 4; owner = codes "bob"; priority = 60; want = record { kind = None; tags = codes "name=b1" ∷ [] }; state = ResState.Allocated; deadline = 100; board = Some (codes "b1") }
+      ann_reservation
+      ∷ record bob_reservation { state = ResState.Allocated; deadline = 100; board = Some (codes "b1") }
       ∷ [];
   clock = 40;
   collector = 2;
@@ -91,8 +116,8 @@ after_one_is_acquired = record after_one_counter {
       ∷ board_row (codes "b2") (codes "bbb") []
       ∷ [];
   reservations =
-      record { number = 1; owner = codes "ann"; priority = 50; want = record { kind = None; tags = [] }; state = ResState.Expired; deadline = 80; board = None }
-      ∷ record { number = 4; owner = codes "bob"; priority = 60; want = record { kind = None; tags = codes "name=b1" ∷ [] }; state = ResState.Acquired; deadline = 100; board = Some (codes "b1") }
+      record ann_reservation { state = ResState.Expired }
+      ∷ record bob_reservation { state = ResState.Acquired; deadline = 100; board = Some (codes "b1") }
       ∷ [];
   clock = 101;
   collector = 2;
@@ -114,8 +139,8 @@ after_lease_goes_on = record after_one_counter {
       ∷ board_row (codes "b2") (codes "bbb") []
       ∷ [];
   reservations =
-      record { number = 1; owner = codes "ann"; priority = 50; want = record { kind = None; tags = [] }; state = ResState.Expired; deadline = 80; board = None }
-      ∷ record { number = 4; owner = codes "bob"; priority = 60; want = record { kind = None; tags = codes "name=b1" ∷ [] }; state = ResState.Allocated; deadline = 270; board = Some (codes "b1") }
+      record ann_reservation { state = ResState.Expired }
+      ∷ record bob_reservation { state = ResState.Allocated; deadline = 270; board = Some (codes "b1") }
       ∷ [];
   clock = 210;
   collector = 2;
@@ -138,14 +163,14 @@ after_lease_is_over = record after_one_counter {
       ∷ board_row (codes "b2") (codes "bbb") []
       ∷ [];
   jobs =
-      record { number = 2; group = 2; checking = false; owner = codes "bob"; priority = 50; want = a_board []; role = None; state = JobState.Scheduling; outcome = None; board = Some (codes "b1"); body = [] }
-      ∷ record { number = 3; group = 2; checking = false; owner = codes "bob"; priority = 50; want = a_board []; role = None; state = JobState.Submitted; outcome = None; board = None; body = [] }
-      ∷ record { number = 5; group = 5; checking = false; owner = codes "ann"; priority = 0; want = a_board []; role = None; state = JobState.Submitted; outcome = None; board = None; body = [] }
+      record (bob_member 2) { state = JobState.Scheduling; board = Some (codes "b1") }
+      ∷ bob_member 3
+      ∷ ann_job
       ∷ [];
   reservations =
-      record { number = 1; owner = codes "ann"; priority = 50; want = record { kind = None; tags = [] }; state = ResState.Expired; deadline = 80; board = None }
-      ∷ record { number = 4; owner = codes "bob"; priority = 60; want = record { kind = None; tags = codes "name=b1" ∷ [] }; state = ResState.Expired; deadline = 270; board = Some (codes "b1") }
-      ∷ record { number = 6; owner = codes "ann"; priority = 100; want = record { kind = None; tags = [] }; state = ResState.Canceled; deadline = 341; board = None }
+      record ann_reservation { state = ResState.Expired }
+      ∷ record bob_reservation { state = ResState.Expired; deadline = 270; board = Some (codes "b1") }
+      ∷ record (new_res 6 (codes "ann") 100 [] 341) { state = ResState.Canceled }
       ∷ [];
   clock = 282;
   collector = 2;

@@ -20,6 +20,10 @@ use Rattle.farm_types.specs.declared.calls.Call.{Call}
 abbrev pub asks : (caller : List ℕ) (now : ℕ) (cmd : Cmd) → is_proper caller None cmd ≡ true → Call
 asks caller now cmd proper = record { caller = caller; key = None; now = now; cmd = cmd; proper = proper }
 
+-- a call under a key
+abbrev pub call_under : (caller key : List ℕ) (now : ℕ) (cmd : Cmd) → is_proper caller (Some key) cmd ≡ true → Call
+call_under caller key now cmd proper = record { caller = caller; key = Some key; now = now; cmd = cmd; proper = proper }
+
 -- the answers of a run
 abbrev pub answers : Farm → List Call → List Answered
 answers F [] = []
@@ -56,7 +60,7 @@ by_bob = asks (codes "bob")
 
 -- a call by the admin under a key
 abbrev pub with_key : (key : List ℕ) (cmd : Cmd) → is_proper (codes "admin") (Some key) cmd ≡ true → Call
-with_key key cmd proper = record { caller = codes "admin"; key = Some key; now = 10; cmd = cmd; proper = proper }
+with_key key = call_under (codes "admin") key 10
 
 -- their commands: one type, its boards, and jobs and reservations of them
 abbrev pub new_type : Check → Cmd

@@ -4,7 +4,8 @@ use Rattle.farm_types.specs.Pick.{least}
 use Rattle.farm_types.specs.Refuse.{refusal, early_refusal, own_refusal}
 use Rattle.farm_types.specs.Change.{change}
 use Rattle.farm_types.specs.Machine.{answer, step}
-use Rattle.farm_worked.specs.Kept.{every_kind, refused_under_a_key}
+use Rattle.farm_worked.specs.Kept.{refused_under_a_key}
+use Rattle.farm_worked.specs.WorkedWhole.{every_kind}
 use Rattle.farm_worked.proofs.laws.kept_as_worked.Goals as goal
 
 pub returns : goal.returns

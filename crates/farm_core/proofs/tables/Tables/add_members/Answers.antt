@@ -1,10 +1,11 @@
 use Rattle.std.proofs.Common.{◌≡◌, ℕ, List, ◌+◌, ◌∷◌, [], drop, ap, sym, ◌∙◌, arith}
 use Rattle.farm_types.specs.Farm.{put_jobs}
+use Rattle.farm_types.specs.Pass.{new_job}
 use Rattle.farm_types.specs.Change.{new_members}
 use Rattle.farm_types.specs.declared.rows.JobRow.{JobRow}
 use Rattle.farm_core.specs.Came.{Seen, seen, seen_at}
 use Rattle.farm_core.specs.Edits.{text_at}
-use Rattle.farm_core.proofs.Members.{text_next, member, members_more, members_end}
+use Rattle.farm_core.proofs.Members.{text_next, members_more, members_end}
 use Rattle.farm_core.proofs.Steps.{jobs_lead}
 use Rattle.farm_core.proofs.tables.Tables.add_members.Goals as goal
 
@@ -20,8 +21,8 @@ loop-at-preserved c =
     let more = members_more c.args.group c.args.owner.now c.args.priority c.args.wants.now c.args.roles.now n (c.args.group + n) (text_at n c.args.body.now) c.index-wants-at.result c.index-roles-at.result (omega arith) c.requires.roles in
     record {
       now = (λ i. let F = record s.farm { jobs = c.in_ok-put.ensures.rows i } in seen_at (put_jobs F (rest c (next i) (text_next n c.args.body.now i))) (record s { farm = F }))
-          ∙ (λ i. seen_at (put_jobs s.farm (member (c.args.group + n) c.args.group (c.in_ok-copy.ensures.same i) c.args.priority (c.in_ok-copy-2.ensures i) (c.in_ok-copy_name.ensures i) (c.in_ok-member_text.ensures i) ∷ rest c (c.args.group + n + 1) [])) s)
-          ∙ (λ i. seen_at (put_jobs s.farm (member (c.args.group + n) c.args.group c.args.owner.now c.args.priority (c.index-wants-at.is i) (c.index-roles-at.is i) (text_at n c.args.body.now) ∷ rest c (c.args.group + n + 1) [])) s)
+          ∙ (λ i. seen_at (put_jobs s.farm (new_job (c.args.group + n) c.args.group (c.in_ok-copy.ensures.same i) c.args.priority (c.in_ok-copy-2.ensures i) (c.in_ok-copy_name.ensures i) (c.in_ok-member_text.ensures i) ∷ rest c (c.args.group + n + 1) [])) s)
+          ∙ (λ i. seen_at (put_jobs s.farm (new_job (c.args.group + n) c.args.group c.args.owner.now c.args.priority (c.index-wants-at.is i) (c.index-roles-at.is i) (text_at n c.args.body.now) ∷ rest c (c.args.group + n + 1) [])) s)
           ∙ ap (λ rows. seen_at (put_jobs s.farm rows) s) (sym more)
           ∙ c.loop-at.invariant.now;
       logs = jobs_lead _ _ _ c.loop-at.invariant.logs c.in_ok-put.ensures.leads;

@@ -22,7 +22,7 @@ try_claim-requires-clause-small c =
 
 pub overflow_add-count : goal.overflow_add-count
 overflow_add-count c =
-    omega (arith, one_at_most c.in_ok-served.served c.from-count.result c.from-count.ensures, c.loop-misses.invariant.trying.few, queue_few (plain_farm c.args.self.now), c.requires.sound.steady.few_jobs, c.requires.sound.steady.few_reservations)
+    grind (arith, one_at_most c.in_ok-served.served c.from-count.result c.from-count.ensures, c.loop-misses.invariant.trying.few, queue_few (plain_farm c.args.self.now), c.requires.sound.steady.few)
 
 -- a claim that is tried
 pub loop-misses-smaller-then-not-is_of_group : goal.loop-misses-smaller-then-not-is_of_group
