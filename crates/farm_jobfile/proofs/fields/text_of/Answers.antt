@@ -1,6 +1,6 @@
 use Rattle.std.proofs.Common.{◌∙◌, ap, sym, Ok}
 use Rattle.farm_jobfile.proofs.DocumentLemmas.{text_read, text_unread}
-use Rattle.farm_jobfile.proofs.document.text_of.Goals as goal
+use Rattle.farm_jobfile.proofs.fields.text_of.Goals as goal
 
 pub returns-in-Ok-clause-text : goal.returns-in-Ok-clause-text
 returns-in-Ok-clause-text c =
