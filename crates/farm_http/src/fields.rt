@@ -69,18 +69,9 @@ fn declared(value: &[u8]) -> Result<usize, Refusal>
     ensures number { refusal_by_number result ≡ declared_length value.now }
     ensures small { IfOk result (λ n. n ≤ longest_body) }
 {
-    if !is_number(value) {
+    if value.is_empty() || !is_digits(value) {
         return Err(Refusal { code: BAD_REQUEST });
     }
-    match number_within(value, LONGEST_BODY as u32) {
-        Some(number) => Ok(number as usize),
-        None => Err(Refusal { code: TOO_LARGE }),
-    }
-}
-
-/// Whether the value is one digit or more, and nothing else.
-fn is_number(value: &[u8]) -> bool
-    ensures { result ≡ nat_lt 0 (length value.now) && list_all is_ascii_digit value.now }
-{
-    !value.is_empty() && is_digits(value)
+    let number = number_within(value, LONGEST_BODY as u32).ok_or(Refusal { code: TOO_LARGE })?;
+    Ok(number as usize)
 }

@@ -11,11 +11,10 @@ ghost use Rattle.farm_http.specs.Heads.{IsHead, IsHopeless, IsOpenBelow, FindsHe
 ghost use Rattle.farm_http.specs.Counts.{nothing_read, reader_of, reading_of, IsSameReader, IsSpent};
 ghost use Rattle.farm_http.specs.Requests.{IsRequest};
 
-use crate::counted_reader::CountedReader;
+use crate::counted_reader::{CountedReader, read_some};
 use crate::fault::WireFault;
 use crate::fields::declared_among;
 use crate::input::Input;
-use crate::read_some::read_some;
 use crate::taken::Taken;
 use farm_types::{
     BAD_REQUEST, LONGEST_BODY, LONGEST_HEAD, MOST_FIELDS, MOST_READS, Refusal, TOO_LARGE,

@@ -3,7 +3,7 @@ use Rattle.std.proofs.Common.{◌≡◌, ◌-◌, ◌≤◌, false}
 use Rattle.std.specs.Io.KnownBytes.{Keeps}
 use Rattle.farm_types.specs.Limits.{most_reads}
 use Rattle.farm_http.specs.Counts.{reader_of, reading_of, IsSameReader}
-use Rattle.farm_http.proofs.read_some.read_some.Given as goal
+use Rattle.farm_http.proofs.counted_reader.read_some.Given as goal
 
 abbrev pub invariant-loop-reader : goal.invariant-loop-reader
 invariant-loop-reader g l = record {

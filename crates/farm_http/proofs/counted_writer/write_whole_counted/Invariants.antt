@@ -3,7 +3,7 @@ use Rattle.std.proofs.Common.{◌≡◌, ◌-◌, ◌≤◌, ◌⊎◌, length, 
 use Rattle.std.specs.Io.KnownBytes.{Appends}
 use Rattle.farm_http.specs.Room.{KeepsRoom}
 use Rattle.farm_http.specs.Counts.{writer_of, writing_of, IsSameWriter}
-use Rattle.farm_http.proofs.write.write_whole_counted.Given as goal
+use Rattle.farm_http.proofs.counted_writer.write_whole_counted.Given as goal
 
 abbrev pub invariant-loop-done : goal.invariant-loop-done
 invariant-loop-done g l = record {

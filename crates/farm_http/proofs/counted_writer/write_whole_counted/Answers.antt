@@ -5,7 +5,7 @@ use Rattle.std.proofs.Math.Seq.{take-add}
 use Rattle.std.proofs.lemmas.List.{take-take, length-take, length-drop}
 use Rattle.farm_http.specs.Counts.{writer_of}
 use Rattle.farm_http.proofs.Room.{room_left, takes_all, took}
-use Rattle.farm_http.proofs.write.write_whole_counted.Goals as goal
+use Rattle.farm_http.proofs.counted_writer.write_whole_counted.Goals as goal
 
 pub loop-done-preserved : goal.loop-done-preserved
 loop-done-preserved g c =

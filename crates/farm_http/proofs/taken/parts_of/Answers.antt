@@ -5,7 +5,7 @@ use Rattle.std.proofs.Math.Logic.{∥∥₁_elim}
 use Rattle.httparse.specs.Spans.{span_bytes, header_bytes}
 use Rattle.farm_http.specs.Fields.{fields_of}
 use Rattle.farm_http.proofs.Whole.{front_is_head}
-use Rattle.farm_http.proofs.parts.parts_of.Goals as goal
+use Rattle.farm_http.proofs.taken.parts_of.Goals as goal
 
 pub invariant_of-result : goal.invariant_of-result
 invariant_of-result c = ∥∥₁_elim c.args.taken.now.placed (hlevel props) (λ is. search (rules, is.within))
