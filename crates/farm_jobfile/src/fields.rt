@@ -1,10 +1,10 @@
 //! The tree of a file, and the words in it.
 ghost use Rattle.std.specs.Prelude.{◌≡◌, ◌≤◌, length, IfOk, map, Err, IsOk};
 ghost use Rattle.toml.specs.View.{view, items_view, table_view};
+ghost use Rattle.toml.specs.Data.{as_table};
 ghost use Rattle.farm_types.specs.Reads.{OrNoMemory, viewed};
 ghost use Rattle.farm_jobfile.specs.Reading.{text_fault, kind_or};
 ghost use Rattle.farm_jobfile.specs.Document.{text_in, tree_in};
-ghost use Rattle.toml.specs.Data.{as_table};
 ghost use Rattle.farm_jobfile.specs.Fields.{name_or, name_from, name_in, texts_in, tags_from};
 ghost use Rattle.farm_jobfile.specs.Fields.{tags_in, natural_of, natural_in};
 
@@ -31,7 +31,7 @@ pub(crate) fn text_of(file: FileKind, most: usize, bytes: &[u8]) -> Result<&str,
 /// The tree of a text, a table. TOML 1.1 as the crate `toml` reads it: a whole number outside
 /// `i64`, a float out of range and values nested beyond its limit are no TOML.
 #[tactic(auto, unfolding(crate::specs::Document::tree_in))]
-pub(crate) fn tree_of(alloc: Global, file: FileKind, text: &str) -> Result<Value, FileFault>
+pub(crate) fn tree_of(alloc: Global, file: FileKind, text: &str) -> FileResult<Value>
     ensures { OrNoMemory text_fault (λ tree. view tree) result (tree_in file text.now) }
 {
     match toml::table_from_str(alloc, text) {
@@ -50,7 +50,7 @@ pub(crate) fn table_of<'v>(file: FileKind, value: &'v Value) -> Result<&'v Table
 }
 
 /// The name that a text spells; memory is wanted only where it spells one.
-pub(crate) fn name_of(alloc: Global, text: &str) -> Result<Name, FileFault>
+pub(crate) fn name_of(alloc: Global, text: &str) -> FileResult<Name>
     ensures spells { OrNoMemory text_fault (λ name. name) result (name_or text.now) }
     ensures memory { result ≡ Err FileFault.NoMemory → IsOk (name_or text.now) }
 {
@@ -59,7 +59,7 @@ pub(crate) fn name_of(alloc: Global, text: &str) -> Result<Name, FileFault>
 
 /// The name that a value spells, a text; memory is wanted only where it spells one.
 #[tactic(auto, unfolding(crate::specs::Fields::name_from))]
-pub(crate) fn name_from(alloc: Global, file: FileKind, value: &Value) -> Result<Name, FileFault>
+pub(crate) fn name_from(alloc: Global, file: FileKind, value: &Value) -> FileResult<Name>
     ensures spells { OrNoMemory text_fault (λ name. name) result (name_from file (view value.now)) }
     ensures memory { result ≡ Err FileFault.NoMemory → IsOk (name_from file (view value.now)) }
 {
@@ -80,7 +80,7 @@ pub(crate) fn name_at(alloc: Global, file: FileKind, value: &Value, key: &str) -
 }
 
 /// The texts of an array's items.
-fn texts_of(alloc: Global, file: FileKind, items: &[Value]) -> Result<Vec<&[u8]>, FileFault>
+fn texts_of(alloc: Global, file: FileKind, items: &[Value]) -> FileResult<Vec<&[u8]>>
     ensures { OrNoMemory text_fault (λ texts. map (λ text. text.now) texts.items) result
         (texts_in file (items_view items.now)) }
 {
@@ -94,7 +94,7 @@ fn texts_of(alloc: Global, file: FileKind, items: &[Value]) -> Result<Vec<&[u8]>
 
 /// The tags that a value spells, an array of texts.
 #[tactic(auto, unfolding(crate::specs::Fields::tags_from))]
-pub(crate) fn tags_from(alloc: Global, file: FileKind, value: &Value) -> Result<Tags, FileFault>
+pub(crate) fn tags_from(alloc: Global, file: FileKind, value: &Value) -> FileResult<Tags>
     ensures { OrNoMemory text_fault (λ tags. tags) result (tags_from file (view value.now)) }
 {
     let items = value.as_array().ok_or(file.bad(Reason::WrongKind))?;
@@ -104,7 +104,7 @@ pub(crate) fn tags_from(alloc: Global, file: FileKind, value: &Value) -> Result<
 
 /// The tags under the key `tags`; absent means none.
 #[tactic(auto, unfolding(crate::specs::Fields::tags_in))]
-pub(crate) fn tags_at(alloc: Global, file: FileKind, value: &Value) -> Result<Tags, FileFault>
+pub(crate) fn tags_at(alloc: Global, file: FileKind, value: &Value) -> FileResult<Tags>
     ensures { OrNoMemory text_fault (λ tags. tags) result (tags_in file (view value.now)) }
 {
     let Some(field) = value.get("tags") else {

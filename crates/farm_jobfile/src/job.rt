@@ -1,15 +1,13 @@
 //! The job that a job file asks for.
 ghost use Rattle.std.specs.Prelude.{◌≡◌, Some, replicate, IfOk, IsTrue};
 ghost use Rattle.toml.specs.View.{view, table_view};
-ghost use Rattle.farm_types.specs.Called.{priority_called};
-ghost use Rattle.farm_jobfile.specs.Job.{priority_or, named_or, priority_from, priority_in};
-ghost use Rattle.farm_jobfile.specs.Job.{count_or, count_in, role_in, roles_in, roles_from};
-ghost use Rattle.farm_jobfile.specs.Job.{title_or, title_in, single_in, members_in, job};
 ghost use Rattle.farm_types.specs.Reads.{OrNoMemory, viewed};
-ghost use Rattle.farm_jobfile.specs.Reading.{text_fault};
 ghost use Rattle.farm_types.specs.Proper.{is_proper_cmd};
+ghost use Rattle.farm_jobfile.specs.Job.{priority_from, priority_in, count_in, role_in, roles_in};
+ghost use Rattle.farm_jobfile.specs.Job.{roles_from, title_in, single_in, members_in, job};
+ghost use Rattle.farm_jobfile.specs.Reading.{text_fault};
 
-use crate::fault::{Fault, FileFault, FileKind, Reason};
+use crate::fault::{Fault, FileFault, FileKind, FileResult, Reason};
 use crate::fields::{
     name_at, name_from, name_of, natural, natural_at, table_of, tags_at, text_of, tree_of,
 };
@@ -38,13 +36,11 @@ fn priority_from(field: &Value) -> Result<Priority, Fault>
 
 /// The priority under the key `priority`; absent means medium.
 #[tactic(auto, unfolding(crate::specs::Job::priority_in))]
-pub(crate) fn priority_at(value: &Value) -> Result<Priority, Fault>
+fn priority_at(value: &Value) -> Result<Priority, Fault>
     ensures { result ≡ priority_in (view value.now) }
 {
-    match value.get("priority") {
-        Some(field) => priority_from(field),
-        None => Ok(Priority::medium()),
-    }
+    let field = value.get("priority");
+    field.map_or(Ok(Priority::medium()), priority_from)
 }
 
 /// The number of members that play a role.
@@ -71,7 +67,7 @@ fn copies(alloc: Global, member: &Member, count: u64) -> Result<Vec<Member>, All
 
 /// The members that play one role.
 #[tactic(auto, unfolding(crate::specs::Job::role_in))]
-fn role_of(alloc: Global, name: &str, value: &Value) -> Result<Vec<Member>, FileFault>
+fn role_of(alloc: Global, name: &str, value: &Value) -> FileResult<Vec<Member>>
     ensures { OrNoMemory text_fault (λ members. members.items) result
         (role_in name.now (view value.now)) }
 {
@@ -84,7 +80,7 @@ fn role_of(alloc: Global, name: &str, value: &Value) -> Result<Vec<Member>, File
 }
 
 /// The members of all roles, which a table has in the byte order of their names.
-fn roles_of(alloc: Global, table: &Table) -> Result<Vec<Member>, FileFault>
+fn roles_of(alloc: Global, table: &Table) -> FileResult<Vec<Member>>
     ensures { OrNoMemory text_fault (λ members. members.items) result
         (roles_in (table_view table.now)) }
 {
@@ -94,15 +90,6 @@ fn roles_of(alloc: Global, table: &Table) -> Result<Vec<Member>, FileFault>
         members.append(&mut here)?;
     }
     Ok(members)
-}
-
-/// The members that the value of the key `roles` spells, a table of tables.
-#[tactic(auto, unfolding(crate::specs::Job::roles_from))]
-pub(crate) fn roles_from(alloc: Global, value: &Value) -> Result<Vec<Member>, FileFault>
-    ensures { OrNoMemory text_fault (λ members. members.items) result
-        (roles_from (view value.now)) }
-{
-    roles_of(alloc, table_of(FileKind::JobFile, value)?)
 }
 
 /// Whether the text under the key `job_name` is there and not empty.
@@ -120,7 +107,7 @@ fn title_of(value: &Value) -> Result<&str, Fault>
 
 /// The one member of a job for one board.
 #[tactic(auto, unfolding(crate::specs::Job::single_in))]
-fn single_of(alloc: Global, kind: &Value, value: &Value) -> Result<Vec<Member>, FileFault>
+fn single_of(alloc: Global, kind: &Value, value: &Value) -> FileResult<Vec<Member>>
     ensures { OrNoMemory text_fault (λ members. members.items) result
         (single_in (view kind.now) (view value.now)) }
 {
@@ -131,8 +118,8 @@ fn single_of(alloc: Global, kind: &Value, value: &Value) -> Result<Vec<Member>, 
 }
 
 /// The members of the job: exactly one of `device_type` and `roles` is there.
-#[tactic(auto, unfolding(crate::specs::Job::members_in))]
-fn members_of(alloc: Global, value: &Value) -> Result<Vec<Member>, FileFault>
+#[tactic(auto, unfolding(crate::specs::Job::members_in, crate::specs::Job::roles_from))]
+fn members_of(alloc: Global, value: &Value) -> FileResult<Vec<Member>>
     ensures { OrNoMemory text_fault (λ members. members.items) result
         (members_in (view value.now)) }
 {
@@ -142,7 +129,7 @@ fn members_of(alloc: Global, value: &Value) -> Result<Vec<Member>, FileFault>
         value.get("tags"),
     ) {
         (Some(kind), None, _) => single_of(alloc, kind, value),
-        (None, Some(roles), None) => roles_from(alloc, roles),
+        (None, Some(roles), None) => roles_of(alloc, table_of(FileKind::JobFile, roles)?),
         (None, None, _) => Err(FileKind::JobFile.bad(Reason::Missing)),
         _ => Err(FileKind::JobFile.bad(Reason::Both)),
     }

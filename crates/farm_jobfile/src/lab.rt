@@ -1,16 +1,16 @@
 //! The calls that a lab file asks for.
-ghost use Rattle.std.specs.Prelude.{◌≡◌, ◌≤◌, ◌++◌, codes, length, true, IsTrue, IfOk, map, All};
+ghost use Rattle.std.specs.Prelude.{◌≡◌, ◌≤◌, length, true, IsTrue, IfOk, map, All};
 ghost use Rattle.std.specs.List.{list_all};
+ghost use Rattle.toml.specs.View.{view, table_view};
+ghost use Rattle.toml.specs.Data.{get};
 ghost use Rattle.farm_types.specs.Limits.{longest_name, is_every};
 ghost use Rattle.farm_types.specs.Words.{is_word, is_name_byte};
 ghost use Rattle.farm_types.specs.Proper.{is_proper_cmd, is_frequency, has_no_name_tag};
+ghost use Rattle.farm_types.specs.Reads.{OrNoMemory};
 ghost use Rattle.farm_jobfile.specs.Lab.{given_entry, entry_of, unit_in, every_in, check_in};
 ghost use Rattle.farm_jobfile.specs.Lab.{type_in, own_tags, board_in, entry_in, entries_of};
 ghost use Rattle.farm_jobfile.specs.Lab.{section, calls_in, lab, IsAddition};
-ghost use Rattle.toml.specs.View.{view, table_view};
-ghost use Rattle.farm_types.specs.Reads.{OrNoMemory};
 ghost use Rattle.farm_jobfile.specs.Reading.{text_fault};
-ghost use Rattle.toml.specs.Data.{get};
 
 use crate::fault::{Fault, FileFault, FileKind, FileResult, Reason};
 use crate::fields::{name_at, name_of, natural_at, table_of, tags_at, text_of, tree_of};
@@ -90,10 +90,8 @@ fn own_tags(tags: Tags) -> Result<Tags, Fault>
     ensures tags { result ≡ own_tags tags }
     ensures own { IfOk result (λ tags. IsTrue (has_no_name_tag tags)) }
 {
-    let are_own = tags.has_no_name_tag();
-    are_own
-        .then_some(tags)
-        .ok_or(Fault::Word(Refusal { code: BAD_TAG }))
+    let own = tags.has_no_name_tag().then_some(tags);
+    own.ok_or(Fault::Word(Refusal { code: BAD_TAG }))
 }
 
 /// The call that adds one board.
@@ -165,7 +163,7 @@ fn section_of(
 
 /// The calls that add the types, then those that add the boards.
 #[tactic(auto, unfolding(crate::specs::Lab::calls_in))]
-fn calls_of(alloc: Global, tree: &Value, now: u64) -> Result<Vec<Call>, FileFault>
+fn calls_of(alloc: Global, tree: &Value, now: u64) -> FileResult<Vec<Call>>
     ensures { OrNoMemory text_fault (λ calls. map entry_of calls.items) result
         (calls_in now (view tree.now)) }
 {
