@@ -1,6 +1,6 @@
 //! A writer that counts its calls, and writing an answer. No contract over a writer can say that it
 //! failed, so its count says it; only `CountedWriter::write` calls the writer, and only it counts.
-ghost use Rattle.std.specs.Prelude.{◌≡◌, ◌↔◌, ℕ, ◌+◌, ◌^◌, ◌<◌, ◌≤◌, true, false, length, take, Ok};
+ghost use Rattle.std.specs.Prelude.{◌≡◌, ◌↔◌, ◌+◌, ◌^◌, ◌<◌, ◌≤◌, true, false, length, take, Ok};
 ghost use Rattle.std.specs.Prelude.{IfErr, IfOk, IsErr, IsOk, IsTrue, OnErr, OnOk};
 ghost use Rattle.std.specs.Io.KnownBytes.{Appends, Keeps};
 ghost use Rattle.farm_http.specs.Turns.{IsOneMore};

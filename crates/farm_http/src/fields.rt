@@ -1,8 +1,5 @@
 //! The fields of a head (RFC 9112, section 5): one by its name, and how long the body is.
 ghost use Rattle.std.specs.Prelude.{◌≡◌, ◌≤◌, length, map, All, IfOk};
-ghost use Rattle.std.specs.Prelude.{nat_lt, ◌&&◌};
-ghost use Rattle.std.specs.Char.{is_ascii_digit};
-ghost use Rattle.std.specs.List.{list_all};
 ghost use Rattle.std.specs.Str.{str_eq_ignore_ascii_case};
 ghost use Rattle.httparse.specs.Spans.{IsHeaderWithin, header_bytes};
 ghost use Rattle.farm_types.specs.Limits.{longest_body};
