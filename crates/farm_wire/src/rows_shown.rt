@@ -4,9 +4,8 @@ ghost use Rattle.farm_types.specs.Codes.{outcome_word};
 ghost use Rattle.farm_types.specs.Small.{every_of};
 ghost use Rattle.farm_wire.specs.Shown.{job_kind};
 
-use crate::json_value::{JsonValue, put_object};
-use crate::shown::ToJson;
-use crate::sink::Sink;
+use crate::shown::{JsonValue, ToJson, put_object};
+use crate::text::Sink;
 use farm_types::{
     BoardRow, Check, Claim, JobRow, Outcome, Refusal, Reply, ResRow, Status, TypeRow,
 };
@@ -68,10 +67,7 @@ fn job_kind(checking: bool) -> &'static str
 fn result_text(outcome: Option<Outcome>) -> &'static str
     ensures { result.now ≡ unwrap_or (option_map outcome_word outcome) [] }
 {
-    match outcome {
-        Some(outcome) => outcome.word(),
-        None => "",
-    }
+    outcome.map_or("", Outcome::word)
 }
 
 impl ToJson for JobRow {
@@ -139,19 +135,16 @@ const PASS: u64 = 14;
 
 /// A reply to the command of that number.
 #[derive(Drop)]
-pub(crate) struct ReplyTo {
-    pub kind: u64,
-    pub reply: Reply,
-}
+pub(crate) struct ReplyTo(pub u64, pub Reply);
 
 impl ToJson for ReplyTo {
     ghost use Rattle.farm_wire.specs.Shown.{reply_data};
 
-    ghost json = { λ shown. reply_data shown.kind shown.reply };
+    ghost json = { λ shown. reply_data shown.0 shown.1 };
 
     fn print<S: Sink>(&self, sink: &mut S) -> Result<(), AllocError> {
-        let Reply(first, second, third) = self.reply;
-        if self.kind == PASS {
+        let Reply(first, second, third) = self.1;
+        if self.0 == PASS {
             let members = [
                 ("checks", JsonValue::Number(first)),
                 ("expired", JsonValue::Number(second)),
