@@ -1,5 +1,5 @@
 //! The job that a job file asks for.
-ghost use Rattle.std.specs.Prelude.{◌≡◌, Some, replicate, IfOk, IsTrue};
+ghost use Rattle.std.specs.Prelude.{◌≡◌, replicate, IfOk, IsTrue};
 ghost use Rattle.toml.specs.View.{view, table_view};
 ghost use Rattle.farm_types.specs.Reads.{OrNoMemory, viewed};
 ghost use Rattle.farm_types.specs.Proper.{is_proper_cmd};
@@ -123,11 +123,8 @@ fn members_of(alloc: Global, value: &Value) -> FileResult<Vec<Member>>
     ensures { OrNoMemory text_fault (λ members. members.items) result
         (members_in (view value.now)) }
 {
-    match (
-        value.get("device_type"),
-        value.get("roles"),
-        value.get("tags"),
-    ) {
+    let (roles, tags) = (value.get("roles"), value.get("tags"));
+    match (value.get("device_type"), roles, tags) {
         (Some(kind), None, _) => single_of(alloc, kind, value),
         (None, Some(roles), None) => roles_of(alloc, table_of(FileKind::JobFile, roles)?),
         (None, None, _) => Err(FileKind::JobFile.bad(Reason::Missing)),

@@ -116,17 +116,11 @@ pub enum Section {
 }
 
 /// The call that adds a member of a table.
-fn member_of(
-    alloc: Global,
-    section: Section,
-    name: &str,
-    value: &Value,
-    now: u64,
-) -> FileResult<Call>
+fn member_of(alloc: Global, which: Section, name: &str, value: &Value, now: u64) -> FileResult<Call>
     ensures { OrNoMemory text_fault (λ call. entry_of call) result
-        (entry_in section now name.now (view value.now)) }
+        (entry_in which now name.now (view value.now)) }
 {
-    match section {
+    match which {
         Section::Types => type_of(alloc, name, value, now),
         Section::Boards => board_of(alloc, name, value, now),
     }
