@@ -25,7 +25,7 @@ pub const METHOD_NOT_ALLOWED: u16 = 405;
 /// The status of a fault that the table gives none.
 pub const UNAVAILABLE: u16 = 503;
 
-/// The methods that a path has (RFC 9110, section 9.1).
+/// The methods that a path has.
 #[derive(Clone, Copy, Debug, PartialEq, Eq)]
 pub enum Allowed {
     Get,

@@ -10,9 +10,7 @@ ghost use Rattle.farm_wire.specs.Commands.{command_in};
 ghost use Rattle.farm_wire.specs.Routes.{rows, path_in, route_in};
 ghost use Rattle.farm_wire.specs.Reading.{denial_of};
 
-use crate::bodies::{
-    add_board_of, add_type_of, finish_of, reserve_of, set_health_of, set_tags_of, submit_of,
-};
+use crate::bodies;
 use crate::fault::AskFault;
 use crate::fields::{BAD, Read};
 use crate::head::{caller_of, job_of, key_of, reservation_of};
@@ -162,15 +160,15 @@ fn command_of(alloc: Global, kind: CommandKind, path: &str, body: &[u8]) -> Read
     ensures proper { IfOk result (λ cmd. IsTrue (is_proper_cmd cmd)) }
 {
     match kind {
-        CommandKind::AddType => add_type_of(alloc, body),
-        CommandKind::AddBoard => add_board_of(alloc, body),
-        CommandKind::SetTags => set_tags_of(alloc, path, body),
-        CommandKind::SetHealth => set_health_of(alloc, path, body),
-        CommandKind::Submit => submit_of(alloc, body),
+        CommandKind::AddType => bodies::add_type_of(alloc, body),
+        CommandKind::AddBoard => bodies::add_board_of(alloc, body),
+        CommandKind::SetTags => bodies::set_tags_of(alloc, path, body),
+        CommandKind::SetHealth => bodies::set_health_of(alloc, path, body),
+        CommandKind::Submit => bodies::submit_of(alloc, body),
         CommandKind::Cancel => Ok(Cmd::Cancel(job_of(path)?)),
         CommandKind::Start => Ok(Cmd::Start(job_of(path)?)),
-        CommandKind::Finish => finish_of(alloc, path, body),
-        CommandKind::Reserve => reserve_of(alloc, body),
+        CommandKind::Finish => bodies::finish_of(alloc, path, body),
+        CommandKind::Reserve => bodies::reserve_of(alloc, body),
         CommandKind::Acquire => Ok(Cmd::Acquire(reservation_of(path)?)),
         CommandKind::Release => Ok(Cmd::Release(reservation_of(path)?)),
         CommandKind::Refresh => Ok(Cmd::Refresh(reservation_of(path)?)),

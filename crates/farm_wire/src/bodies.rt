@@ -72,10 +72,8 @@ pub(crate) fn add_type_of(alloc: Global, body: &[u8]) -> Read<Cmd>
 fn new_tags_of(alloc: Global, value: &Value) -> Read<Tags>
     ensures { OrNoMemory refused_code (λ tags. tags) result (new_tags_in (view value.now)) }
 {
-    match value.get("tags") {
-        Some(field) => tags_from(alloc, field),
-        None => Ok(Tags::none(alloc)),
-    }
+    let field = value.get("tags");
+    field.map_or(Ok(Tags::none(alloc)), |field| tags_from(alloc, field))
 }
 
 /// The board that a body adds.

@@ -113,9 +113,6 @@ pub(crate) fn key_of(alloc: Global, parts: &Parts<'_>) -> Read<Option<Key>>
     ensures reads { OrNoMemory refused_code (λ key. key) result (key_in parts.now.fields) }
     ensures memory { result ≡ Err WordFault.NoMemory → IsOk (key_in parts.now.fields) }
 {
-    match parts.field(b"x-key") {
-        Ok(None) => Ok(None),
-        Ok(Some(value)) => Ok(Some(Key::parse(alloc, value)?)),
-        Err(_) => Err(WordFault::Refused(BAD)),
-    }
+    let value = parts.field(b"x-key").map_err(|_| BAD)?;
+    value.map(|value| Key::parse(alloc, value)).transpose()
 }

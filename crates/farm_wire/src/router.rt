@@ -1,4 +1,4 @@
-//! The paths: where each leads, and which methods it has.
+//! The paths: where each leads, and which methods it has (RFC 9110, section 9.1).
 ghost use Rattle.std.specs.Prelude.{◌≡◌, IfOk, map, []};
 ghost use Rattle.farm_wire.specs.Routes.{allowed_at, endpoint_at, is_get, is_post, rows};
 ghost use Rattle.farm_wire.specs.Routes.{with_routes};

@@ -132,16 +132,6 @@ fn put_name<S: Sink>(sink: &mut S, name: &Name) -> Result<(), AllocError>
     put_word(sink, name.as_str())
 }
 
-/// Puts a name; the empty text where there is none.
-fn put_name_or_none<S: Sink>(sink: &mut S, name: &Option<Name>) -> Result<(), AllocError>
-    ensures { OnOk result (S.Takes sink.old sink.new (quoted (unwrap_or name.now []))) }
-{
-    match name {
-        Some(name) => put_name(sink, name),
-        None => put_word(sink, ""),
-    }
-}
-
 /// Puts what stands behind a key.
 fn put_part<S: Sink>(sink: &mut S, part: JsonValue<'_>) -> Result<(), AllocError>
     ensures { OnOk result (S.Takes sink.old sink.new (compact_text (part_data part.entry))) }
@@ -150,7 +140,8 @@ fn put_part<S: Sink>(sink: &mut S, part: JsonValue<'_>) -> Result<(), AllocError
         JsonValue::Number(number) => put_number(sink, number),
         JsonValue::Text(text) => put_text(sink, text),
         JsonValue::Name(name) => put_name(sink, name),
-        JsonValue::NameOrNone(name) => put_name_or_none(sink, name),
+        JsonValue::NameOrNone(Some(name)) => put_name(sink, name),
+        JsonValue::NameOrNone(None) => put_word(sink, ""),
         JsonValue::Holder(holder) => put_holder(sink, holder),
         JsonValue::Tags(tags) => put_rows(sink, tags.items()),
     }
