@@ -107,10 +107,8 @@ pub(crate) fn tags_from(alloc: Global, file: FileKind, value: &Value) -> FileRes
 pub(crate) fn tags_at(alloc: Global, file: FileKind, value: &Value) -> FileResult<Tags>
     ensures { OrNoMemory text_fault (λ tags. tags) result (tags_in file (view value.now)) }
 {
-    let Some(field) = value.get("tags") else {
-        return Ok(Tags::none(alloc));
-    };
-    tags_from(alloc, file, field)
+    let field = value.get("tags");
+    field.map_or(Ok(Tags::none(alloc)), |field| tags_from(alloc, file, field))
 }
 
 /// The number, where it is not below zero.
