@@ -128,6 +128,7 @@ fn router_of(alloc: Global, paths: &[(&str, Route)]) -> Result<Router<Route>, Al
 }
 
 /// The router of all the paths.
+#[tactic(auto, unfolding(crate::specs::Routes::rows))]
 pub(crate) fn all_paths(alloc: Global) -> Result<Router<Route>, AllocError>
     ensures { IfOk result (λ r. r ≡ rows) }
 {

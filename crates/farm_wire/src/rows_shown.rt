@@ -1,6 +1,5 @@
 //! What answers show as JSON: rows, claims, replies, refusals and the numbers of the farm.
-ghost use Rattle.std.specs.Prelude.{◌≡◌, [], option_map, unwrap_or};
-ghost use Rattle.farm_types.specs.Codes.{outcome_word};
+ghost use Rattle.std.specs.Prelude.{◌≡◌};
 ghost use Rattle.farm_types.specs.Small.{every_of};
 ghost use Rattle.farm_wire.specs.Shown.{job_kind};
 
@@ -63,19 +62,14 @@ fn job_kind(checking: bool) -> &'static str
     if checking { "check" } else { "ordinary" }
 }
 
-/// How a job ended; the empty text where it hasn't.
-fn result_text(outcome: Option<Outcome>) -> &'static str
-    ensures { result.now ≡ unwrap_or (option_map outcome_word outcome) [] }
-{
-    outcome.map_or("", Outcome::word)
-}
-
 impl ToJson for JobRow {
     ghost use Rattle.farm_wire.specs.Shown.{job_data};
 
     ghost json = { job_data };
 
     fn print<S: Sink>(&self, sink: &mut S) -> Result<(), AllocError> {
+        // How it ended; the empty text where it hasn't.
+        let ended = self.outcome.map_or("", Outcome::word);
         let members = [
             ("board", JsonValue::NameOrNone(&self.board)),
             ("group", JsonValue::Number(self.group)),
@@ -83,7 +77,7 @@ impl ToJson for JobRow {
             ("number", JsonValue::Number(self.number)),
             ("owner", JsonValue::Name(&self.owner)),
             ("priority", JsonValue::Number(self.priority.get())),
-            ("result", JsonValue::Text(result_text(self.outcome))),
+            ("result", JsonValue::Text(ended)),
             ("role", JsonValue::NameOrNone(&self.role)),
             ("state", JsonValue::Text(self.state.word())),
             ("tags", JsonValue::Tags(&self.want.tags)),

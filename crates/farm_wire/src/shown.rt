@@ -1,5 +1,5 @@
 //! What answers show as JSON: texts, numbers, rows, and objects by their members.
-ghost use Rattle.std.specs.Prelude.{◌∷◌, OnOk, map, decimal, ◌++◌, [], IsTrue, unwrap_or};
+ghost use Rattle.std.specs.Prelude.{◌∷◌, OnOk, map, decimal, ◌++◌, IsTrue};
 ghost use Rattle.std.specs.List.{list_all};
 ghost use Rattle.json.specs.Print.{quoted};
 ghost use Rattle.serde_json.specs.Data.{array};
