@@ -1,6 +1,6 @@
 -- At a reader whose bytes are known, the end is the end of the input.
 use Rattle.std.proofs.Common.{◌≡◌, ℕ, List, ◌++◌, ap, sym, ◌∙◌, refl, append-nil, Ok, Err, inl, inr}
-use Rattle.std.specs.Prelude.{Option, Some, None, Result, IfOk, IfErr, IfSome}
+use Rattle.std.specs.Prelude.{Option, Some, None, Result, IfErr, IfSome}
 use Rattle.std.specs.Io.KnownBytes.{Consumes, IsAtEnd}
 use Rattle.farm_http.specs.Requests.{IsRefused, IsRequest}
 use Rattle.farm_http.specs.Faults.{Fails, FailsAfter, TakesBytes, TakesFrom}
