@@ -3,8 +3,8 @@
 ghost use Rattle.std.specs.Prelude.{◌≡◌, ◌==◌, drop, Err, IsOk, position};
 ghost use Rattle.std.specs.List.{before_first};
 ghost use Rattle.farm_types.specs.Reads.{OrNoMemory, by_code, refused_code};
-ghost use Rattle.farm_wire.specs.Parameters.{parameter, begins_with_zero, is_number_text};
-ghost use Rattle.farm_wire.specs.Parameters.{number_in, board_in, job_in, reservation_in};
+ghost use Rattle.farm_wire.specs.Parameters.{parameter, is_number_text, number_in, board_in};
+ghost use Rattle.farm_wire.specs.Parameters.{job_in, reservation_in};
 ghost use Rattle.farm_wire.specs.Sender.{caller_in, key_in};
 
 use crate::fields::{BAD, Read};
@@ -30,10 +30,7 @@ fn slash_in(rest: &[u8]) -> Option<usize>
 fn first_segment(rest: &[u8]) -> &[u8]
     ensures { result.now ≡ before_first (λ b. b == 47) rest.now }
 {
-    match slash_in(rest) {
-        Some(end) => &rest[..end],
-        None => rest,
-    }
+    &rest[..slash_in(rest).unwrap_or(rest.len())]
 }
 
 /// The first segment behind the front of a path.
@@ -43,18 +40,11 @@ fn parameter<'p>(front: &str, path: &'p str) -> &'p [u8]
     first_segment(behind(path.as_bytes(), front.len()))
 }
 
-/// Whether the first byte is a zero.
-fn begins_with_zero(text: &[u8]) -> bool
-    ensures { result ≡ begins_with_zero text.now }
-{
-    text.first().is_some_and(|byte| *byte == b'0')
-}
-
 /// Whether a text is digits that begin with 1 to 9.
 fn is_number_text(text: &[u8]) -> bool
     ensures { result ≡ is_number_text text.now }
 {
-    !text.is_empty() && !begins_with_zero(text) && is_digits(text)
+    !text.is_empty() && text[0] != b'0' && is_digits(text)
 }
 
 /// The number that a segment writes: one to nine digits that begin with 1 to 9.
