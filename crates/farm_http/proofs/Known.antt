@@ -1,9 +1,9 @@
 -- At a reader whose bytes are known, the end is the end of the input.
 use Rattle.std.proofs.Common.{◌≡◌, ℕ, List, ◌++◌, ap, sym, ◌∙◌, refl, append-nil, Ok, Err, inl, inr}
-use Rattle.std.specs.Prelude.{Option, Some, None, Result, IfOk, IfErr, IfSome}
+use Rattle.std.specs.Prelude.{Option, Some, None, Result, IfErr, IfSome}
 use Rattle.std.specs.Io.KnownBytes.{Consumes, IsAtEnd}
 use Rattle.farm_http.specs.Requests.{IsRefused, IsRequest}
-use Rattle.farm_http.specs.Faults.{Fails, FailsAfter, TakesBytes}
+use Rattle.farm_http.specs.Faults.{Fails, FailsAfter, TakesBytes, TakesFrom}
 use Rattle.farm_http.specs.declared.taken.Taken.{Taken}
 use Rattle.farm_http.specs.declared.fault.WireFault.{WireFault}
 use Rattle.farm_http.specs.declared.fault.WireFault.TheVariants.{NoMemory, Read, Write, Refused}
@@ -28,13 +28,16 @@ ended : (input used : List ℕ) (b : Option (List ℕ)) → Consumes (Some input
 ended input used None c e = absurd c
 ended input used (Some rest) c e = sym (c ∙ ap (λ l. used ++ l) e ∙ append-nil used)
 
--- what holds at every reader says it of one whose bytes are known
-pub known_gives : (a b : Option (List ℕ)) (Spent : Type 0) (r : Result Taken WireFault)
-    → IfOk r (λ t. IsRequest t.bytes.items t.head) → IfOk r (λ t. Consumes a b t.bytes.items) → IfErr r (FailsAfter a b Spent)
-    → IfSome a (λ input. (used : List ℕ) × Consumes (Some input) b used × TakesBytes input used Spent r)
-known_gives None b Spent r whole taken err = tt
-known_gives (Some input) b Spent (Ok t) whole taken err = (t.bytes.items, taken, (refl, whole))
-known_gives (Some input) b Spent (Err e) whole taken err =
+-- what holds at every reader says it of one whose bytes are known: of a request that was taken
+pub known_taken : (a b : Option (List ℕ)) (request : List ℕ) (head : ℕ) → Consumes a b request → IsRequest request head
+    → IfSome a (λ input. (used : List ℕ) × Consumes (Some input) b used × ((used ≡ request) × IsRequest used head))
+known_taken None b request head taken whole = tt
+known_taken (Some input) b request head taken whole = (request, taken, (refl, whole))
+
+-- and of a fault
+pub known_fails : (a b : Option (List ℕ)) (Spent : Type 0) (e : WireFault) → FailsAfter a b Spent e → IfSome a (λ input. TakesFrom input b Spent (Err e))
+known_fails None b Spent e err = tt
+known_fails (Some input) b Spent e err =
     (err.0, err.1, fails_map (IsAtEnd b) (err.0 ≡ input) Spent Spent (ended input err.0 b err.1) (λ spent. spent) err.0 e err.2)
 
 -- the same clauses, asking nothing of the reader

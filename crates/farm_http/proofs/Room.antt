@@ -3,10 +3,10 @@ use Rattle.std.proofs.Common.{◌≡◌, ◌⊎◌, ℕ, ◌+◌, ◌-◌, ◌<�
 use Rattle.std.specs.Prelude.{Option, Some, None, Result}
 use Rattle.std.specs.Io.KnownBytes.{Appends}
 use Rattle.farm_http.specs.Room.{KeepsRoom}
-use Rattle.farm_http.specs.declared.counted_writer.NotTaken.{NotTaken}
+use Rattle.farm_http.specs.declared.fault.WireFault.{WireFault}
 
 -- nothing was written yet, and the write that comes takes all
-pub takes_all : {W : Type 0} (room : W → ℕ → Type 0) (first at : W) (len done rest : ℕ) (r : Result ℕ NotTaken)
+pub takes_all : {W : Type 0} (room : W → ℕ → Type 0) (first at : W) (len done rest : ℕ) (r : Result ℕ WireFault)
     → (done ≡ 0 → at ≡ first) → rest ≡ len - done → (room at rest → r ≡ Ok rest) → (done ≡ 0) ⊎ (done ≡ len) → done < len → room first len
     → (done ≡ 0) × (r ≡ Ok len)
 takes_all room first at len done rest r same size sure (inl none) before roomy =
@@ -15,7 +15,7 @@ takes_all room first at len done rest r same size sure (inl none) before roomy =
 takes_all room first at len done rest r same size sure (inr all) before roomy = absurd (omega (arith, all, before))
 
 -- so it took that many
-pub took : (n len : ℕ) (r : Result ℕ NotTaken) → r ≡ Ok n → r ≡ Ok len → n ≡ len
+pub took : (n len : ℕ) (r : Result ℕ WireFault) → r ≡ Ok n → r ≡ Ok len → n ≡ len
 took n len r x y = cc
 
 -- ---- the room that is left

@@ -1,13 +1,17 @@
 //! A reader that counts its calls. No contract over a reader can say that it failed, so its count
 //! says it; only `CountedReader::read` calls the reader, and only it counts.
-ghost use Rattle.std.specs.Prelude.{◌≡◌, ◌+◌, ◌^◌, ◌<◌, false, IsOk};
+ghost use Rattle.std.specs.Prelude.{◌≡◌, ◌+◌, ◌^◌, ◌<◌, ◌≤◌, false, length, take, IfOk, IfErr};
+ghost use Rattle.std.specs.Prelude.{IsOk, OnOk, OnErr};
 ghost use Rattle.std.specs.Io.{ReadsAtMost};
-ghost use Rattle.std.specs.Io.KnownBytes.{ReadConsumes};
+ghost use Rattle.std.specs.Io.KnownBytes.{Consumes, IsAtEnd, Keeps, ReadConsumes};
+ghost use Rattle.farm_types.specs.Limits.{most_reads};
 ghost use Rattle.farm_http.specs.Turns.{IsOneMore};
+ghost use Rattle.farm_http.specs.Counts.{reader_of, reading_of, IsSameReader, IsSpent};
 
+use crate::fault::WireFault;
 use crate::input::Input;
-use std::io;
-use std::io::ErrorKind;
+use farm_types::MOST_READS;
+use std::io::{self, ErrorKind};
 
 /// A lent reader, how often it was called for one request, and whether it failed.
 #[derive(Drop)]
@@ -69,4 +73,41 @@ impl<'a, R: Input> CountedReader<'a, R> {
         }
         result
     }
+}
+
+/// Reads some bytes, none only at the end of the input. An interrupted read is tried again. The
+/// fault Read says that no byte came: the reader failed, or the calls ran out.
+pub(crate) fn read_some<R: Input>(
+    reader: &mut CountedReader<'_, R>,
+    buf: &mut [u8],
+) -> Result<usize, WireFault>
+    requires room { 0 < length buf.old }
+    requires turns { (reading_of reader.old).calls ≤ most_reads }
+    requires alive { (reading_of reader.old).failed ≡ false }
+    ensures same { IsSameReader reader.old reader.new }
+    ensures within { IfOk result (λ n. n ≤ length buf.new) }
+    ensures ok { IfOk result
+        (λ n. Consumes (R.remaining (reader_of reader.old)) (R.remaining (reader_of reader.new))
+        (take n buf.new)) }
+    ensures end { IfOk result (λ n. n ≡ 0 → IsAtEnd (R.remaining (reader_of reader.new))) }
+    ensures alive { OnOk result ((reading_of reader.new).failed ≡ false) }
+    ensures kept { OnErr result (Keeps (R.remaining (reader_of reader.old))
+        (R.remaining (reader_of reader.new))) }
+    ensures fault { IfErr result (λ e. e ≡ WireFault.Read) }
+    ensures spent { OnErr result (IsSpent (reading_of reader.new)) }
+    ensures turns { (reading_of reader.new).calls ≤ most_reads }
+
+    // Of a reader that never fails one call gives them, where one is left.
+    ensures sure { R.never_fails → (reading_of reader.old).calls < most_reads → IsOk result }
+    ensures once { R.never_fails
+        → (reading_of reader.new).calls ≤ (reading_of reader.old).calls + 1 }
+{
+    while reader.calls() < MOST_READS {
+        match reader.read(buf) {
+            Ok(count) => return Ok(count),
+            Err(error) if error.kind() == ErrorKind::Interrupted => {}
+            Err(_) => return Err(WireFault::Read),
+        }
+    }
+    Err(WireFault::Read)
 }

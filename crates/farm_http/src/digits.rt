@@ -15,10 +15,7 @@ pub fn is_digits(text: &[u8]) -> bool
 fn value_of(digit: u8) -> u64
     ensures { result ≡ digit_value digit }
 {
-    match (digit as char).to_digit(36) {
-        Some(value) => value as u64,
-        None => 36,
-    }
+    (digit as char).to_digit(36).map_or(36, u64::from)
 }
 
 /// The number that digits write, if it is at most this.

@@ -1,8 +1,6 @@
 //! Why no request was read, or no answer written.
 ghost use Rattle.std.specs.Prelude.{◌≡◌};
 
-use crate::counted_writer::NotTaken;
-use crate::read_some::NoBytes;
 use farm_types::{NO_MEMORY, READ, Refusal, WRITE};
 use thiserror::Error;
 
@@ -21,26 +19,6 @@ pub enum WireFault {
     /// The bytes that came are no request that the desk reads.
     #[error("{0}")]
     Refused(Refusal),
-}
-
-impl From<NoBytes> for WireFault {
-    ghost use Rattle.farm_http.specs.declared.fault.WireFault.TheVariants.{Read as read_fault};
-
-    ghost from_gives = { λ _ e. e ≡ read_fault };
-
-    fn from(_none: NoBytes) -> WireFault {
-        WireFault::Read
-    }
-}
-
-impl From<NotTaken> for WireFault {
-    ghost use Rattle.farm_http.specs.declared.fault.WireFault.TheVariants.{Write as write_fault};
-
-    ghost from_gives = { λ _ e. e ≡ write_fault };
-
-    fn from(_none: NotTaken) -> WireFault {
-        WireFault::Write
-    }
 }
 
 impl From<Refusal> for WireFault {

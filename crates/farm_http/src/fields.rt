@@ -1,8 +1,5 @@
 //! The fields of a head (RFC 9112, section 5): one by its name, and how long the body is.
 ghost use Rattle.std.specs.Prelude.{◌≡◌, ◌≤◌, length, map, All, IfOk};
-ghost use Rattle.std.specs.Prelude.{nat_lt, ◌&&◌};
-ghost use Rattle.std.specs.Char.{is_ascii_digit};
-ghost use Rattle.std.specs.List.{list_all};
 ghost use Rattle.std.specs.Str.{str_eq_ignore_ascii_case};
 ghost use Rattle.httparse.specs.Spans.{IsHeaderWithin, header_bytes};
 ghost use Rattle.farm_types.specs.Limits.{longest_body};
@@ -69,18 +66,9 @@ fn declared(value: &[u8]) -> Result<usize, Refusal>
     ensures number { refusal_by_number result ≡ declared_length value.now }
     ensures small { IfOk result (λ n. n ≤ longest_body) }
 {
-    if !is_number(value) {
+    if value.is_empty() || !is_digits(value) {
         return Err(Refusal { code: BAD_REQUEST });
     }
-    match number_within(value, LONGEST_BODY as u32) {
-        Some(number) => Ok(number as usize),
-        None => Err(Refusal { code: TOO_LARGE }),
-    }
-}
-
-/// Whether the value is one digit or more, and nothing else.
-fn is_number(value: &[u8]) -> bool
-    ensures { result ≡ nat_lt 0 (length value.now) && list_all is_ascii_digit value.now }
-{
-    !value.is_empty() && is_digits(value)
+    let number = number_within(value, LONGEST_BODY as u32).ok_or(Refusal { code: TOO_LARGE })?;
+    Ok(number as usize)
 }

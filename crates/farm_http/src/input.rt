@@ -5,8 +5,7 @@ ghost use Rattle.std.specs.Io.KnownBytes.{ReadConsumes};
 ghost use Rattle.farm_http.specs.Turns.{IsOneMore};
 
 use std::alloc::Allocator;
-use std::io;
-use std::io::{BufReader, Read, Stdin};
+use std::io::{self, BufReader, Read, Stdin};
 
 /// A reader, and what `Read` does not say of it: that it never fails, where that is so, and how
 /// often it was called, where it counts that.

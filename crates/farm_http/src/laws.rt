@@ -10,10 +10,10 @@ ghost use Rattle.farm_http.specs.Counts.{Reading, IsSpent};
 ghost use Rattle.farm_http.specs.Requests.{IsRequest};
 ghost use Rattle.farm_http.specs.Faults.{TakesBytes, IsTaken, TakesFrom, WritesPrefix};
 
+use crate::counted_writer::write_whole;
 use crate::fault::WireFault;
 use crate::request::read_request;
 use crate::taken::Taken;
-use crate::write::write_whole;
 use std::alloc::Global;
 
 /// Where a head stands at the front of the input, nothing is refused for want of a head.

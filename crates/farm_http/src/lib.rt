@@ -21,11 +21,8 @@ mod fields;
 mod input;
 mod laws;
 mod output;
-mod parts;
-mod read_some;
 mod request;
 mod taken;
-mod write;
 
 // One request, read from an input.
 pub use request::{read_request, read_request_counted};
@@ -33,13 +30,13 @@ pub use taken::Taken;
 
 // The parts of a request: method, target, fields and body.
 pub use fields::Repeated;
-pub use parts::{Parts, parts_of};
+pub use taken::{Parts, parts_of};
 
 // What decimal digits write.
 pub use digits::{is_digits, number_within};
 
 // Bytes written whole to an output.
-pub use write::{write_whole, write_whole_counted};
+pub use counted_writer::{write_whole, write_whole_counted};
 
 // What goes wrong between a desk and its client.
 pub use fault::WireFault;

@@ -5,8 +5,7 @@ ghost use Rattle.std.specs.Io.KnownBytes.{WriteAppends};
 ghost use Rattle.farm_http.specs.Turns.{IsOneMore};
 ghost use Rattle.farm_http.specs.Room.{KeepsRoom};
 
-use std::io;
-use std::io::{Stderr, Stdout, Write};
+use std::io::{self, Stderr, Stdout, Write};
 
 /// A writer, and what `Write` does not say of it: that it takes so many bytes in one call, where
 /// that is known, and how often it was called, where it counts that.

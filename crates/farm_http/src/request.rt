@@ -11,11 +11,10 @@ ghost use Rattle.farm_http.specs.Heads.{IsHead, IsHopeless, IsOpenBelow, FindsHe
 ghost use Rattle.farm_http.specs.Counts.{nothing_read, reader_of, reading_of, IsSameReader, IsSpent};
 ghost use Rattle.farm_http.specs.Requests.{IsRequest};
 
-use crate::counted_reader::CountedReader;
+use crate::counted_reader::{CountedReader, read_some};
 use crate::fault::WireFault;
 use crate::fields::declared_among;
 use crate::input::Input;
-use crate::read_some::read_some;
 use crate::taken::Taken;
 use farm_types::{
     BAD_REQUEST, LONGEST_BODY, LONGEST_HEAD, MOST_FIELDS, MOST_READS, Refusal, TOO_LARGE,
@@ -73,27 +72,6 @@ pub fn read_request_counted<R: Input>(
         (IsSpent (reading_of reader.new)) result) }
 
     // One that never fails, as bytes in memory, is never blamed.
-    ensures sure { R.never_fails → IfErr result (λ e. e ≢ WireFault.Read) }
-{
-    take_request(alloc, reader)
-}
-
-/// The same, as it is said of any reader.
-fn take_request<R: Input>(
-    alloc: Global,
-    reader: &mut CountedReader<'_, R>,
-) -> Result<Taken, WireFault>
-    requires { reading_of reader.old ≡ nothing_read }
-    ensures same { IsSameReader reader.old reader.new }
-    ensures taken { IfOk result
-        (λ taken. Consumes (R.remaining (reader_of reader.old)) (R.remaining (reader_of reader.new))
-        taken.bytes.items) }
-    ensures request { IfOk result (λ taken. IsRequest taken.bytes.items taken.head) }
-    ensures fault { IfErr result
-        (FailsAfter (R.remaining (reader_of reader.old)) (R.remaining (reader_of reader.new))
-        (IsSpent (reading_of reader.new))) }
-    ensures failed { IsTrue (reading_of reader.new).failed → IsErrOf result WireFault.Read }
-    ensures turns { (reading_of reader.new).calls ≤ most_reads }
     ensures sure { R.never_fails → IfErr result (λ e. e ≢ WireFault.Read) }
 {
     let Ok(mut bytes) = Vec::with_capacity(alloc, LONGEST_HEAD + LONGEST_BODY) else {

@@ -17,7 +17,7 @@ use Rattle.farm_jobfile.specs.Document.{text_in, tree_in}
 use Rattle.farm_jobfile.specs.Fields.{natural_of, natural_in, name_or, name_from, name_in, tags_in}
 use Rattle.farm_jobfile.specs.declared.fault.FileKind.TheVariants.{JobFile}
 use Rattle.farm_jobfile.specs.declared.fault.Reason.{Reason}
-use Rattle.farm_jobfile.specs.declared.member.Member.{Member}
+use Rattle.farm_jobfile.specs.declared.group.Member.{Member}
 
 -- ---- the name
 

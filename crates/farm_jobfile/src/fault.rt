@@ -50,6 +50,9 @@ pub enum FileFault {
     NoMemory,
 }
 
+/// What reading a file gives.
+pub(crate) type FileResult<T> = Result<T, FileFault>;
+
 impl FileKind {
     ghost use Rattle.farm_jobfile.specs.Reading.{code_of_kind};
     ghost use Rattle.farm_jobfile.specs.declared.fault.FileFault.{FileFault};

@@ -1,5 +1,5 @@
 //! The command that submits a group.
-ghost use Rattle.std.specs.Prelude.{◌≡◌, ◌≤◌, IsTrue, IfOk, Some, map, length, true};
+ghost use Rattle.std.specs.Prelude.{◌≡◌, IfOk, ◌≤◌, IsTrue, Some, map, length, true};
 ghost use Rattle.std.specs.List.{list_all};
 ghost use Rattle.farm_types.specs.Limits.{longest_text};
 ghost use Rattle.farm_types.specs.Proper.{is_proper_cmd};
@@ -8,10 +8,32 @@ ghost use Rattle.farm_types.specs.Reads.{OrNoMemory};
 ghost use Rattle.farm_jobfile.specs.Reading.{text_fault};
 ghost use Rattle.farm_jobfile.specs.Job.{is_full_want, is_role, want_of, role_of, group_of};
 
-use crate::fault::FileFault;
-use crate::member::Member;
-use farm_types::{Body, Cmd, Name, Priority, Roles, Tags, Want, Wants};
+use crate::fault::{FileFault, FileResult};
+use farm_types::{Body, Cmd, Name, Priority, Roles, Tags, Want, Wants, copy_name};
 use std::alloc::{AllocError, Global};
+
+/// What one job of a group asks for.
+#[derive(Debug, Drop)]
+pub struct Member {
+    /// The role that it plays, where the file names roles.
+    pub role: Option<Name>,
+    /// The type of its board.
+    pub kind: Name,
+    /// The tags that its board is to carry.
+    pub tags: Tags,
+}
+
+impl Member {
+    /// An equal member.
+    pub(crate) fn copy(&self) -> Result<Member, AllocError>
+        ensures { IfOk result (λ member. member ≡ self.now) }
+    {
+        let role = copy_name(&self.role)?;
+        let kind = self.kind.copy()?;
+        let tags = self.tags.copy()?;
+        Ok(Member { role, kind, tags })
+    }
+}
 
 // Each word is read before it goes into a want or a command: what `as_str`, `items` and `get` ensure is
 // how its rule is known there.
@@ -23,10 +45,8 @@ fn want_of(kind: Name, tags: Tags) -> Want
     ensures full { is_full_want result ≡ true }
 {
     let (_kind, _tags) = (kind.as_str(), tags.items());
-    Want {
-        kind: Some(kind),
-        tags,
-    }
+    let kind = Some(kind);
+    Want { kind, tags }
 }
 
 /// The role as it is: a name, or none.
@@ -80,7 +100,7 @@ pub(crate) fn group_of(
     priority: Priority,
     members: Vec<Member>,
     text: &str,
-) -> Result<Cmd, FileFault>
+) -> FileResult<Cmd>
     requires { length text.now ≤ longest_text }
     ensures meaning { OrNoMemory text_fault (λ cmd. cmd) result
         (group_of priority members.items text.now) }

@@ -1,21 +1,96 @@
 //! The job that a job file asks for.
-ghost use Rattle.std.specs.Prelude.{◌≡◌, IsTrue, IfOk};
-ghost use Rattle.toml.specs.View.{view};
-ghost use Rattle.farm_types.specs.Proper.{is_proper_cmd};
+ghost use Rattle.std.specs.Prelude.{◌≡◌, replicate, IfOk, IsTrue};
+ghost use Rattle.toml.specs.View.{view, table_view};
 ghost use Rattle.farm_types.specs.Reads.{OrNoMemory, viewed};
+ghost use Rattle.farm_types.specs.Proper.{is_proper_cmd};
+ghost use Rattle.farm_jobfile.specs.Job.{priority_from, priority_in, count_in, role_in, roles_in};
+ghost use Rattle.farm_jobfile.specs.Job.{roles_from, title_in, single_in, members_in, job};
 ghost use Rattle.farm_jobfile.specs.Reading.{text_fault};
-ghost use Rattle.farm_jobfile.specs.Job.{title_or, title_in, single_in, members_in, job};
 
-use crate::document::{text_of, tree_of};
-use crate::fault::{Fault, FileFault, FileKind, Reason};
-use crate::fields::{name_from, tags_at};
-use crate::group::group_of;
-use crate::member::Member;
-use crate::priority::priority_at;
-use crate::roles::roles_from;
-use farm_types::{Cmd, LONGEST_JOB_FILE};
-use std::alloc::Global;
-use toml::Value;
+use crate::fault::{Fault, FileFault, FileKind, FileResult, Reason};
+use crate::fields::{
+    name_at, name_from, name_of, natural, natural_at, table_of, tags_at, text_of, tree_of,
+};
+use crate::group::{Member, group_of};
+use farm_types::{BAD_COUNT, BAD_PRIORITY, Cmd, LONGEST_JOB_FILE, MOST_WANTS, Priority, Refusal};
+use std::alloc::{AllocError, Global};
+use toml::{Table, Value};
+
+/// The fault of a word or a number that is no priority.
+const NO_PRIORITY: Fault = Fault::Word(Refusal { code: BAD_PRIORITY });
+
+/// The priority that a value spells: a word, or a whole number.
+#[tactic(auto, unfolding(crate::specs::Job::priority_from))]
+fn priority_from(field: &Value) -> Result<Priority, Fault>
+    ensures { result ≡ priority_from (view field.now) }
+{
+    match field {
+        Value::String(word) => Priority::called(word.as_str()).ok_or(NO_PRIORITY),
+        Value::Integer(number) => {
+            Priority::of(natural(*number).ok_or(NO_PRIORITY)?).map_err(Fault::Word)
+        }
+        Value::Float(_) => Err(NO_PRIORITY),
+        _ => Err(Fault::Bad(FileKind::JobFile, Reason::WrongKind)),
+    }
+}
+
+/// The priority under the key `priority`; absent means medium.
+#[tactic(auto, unfolding(crate::specs::Job::priority_in))]
+fn priority_at(value: &Value) -> Result<Priority, Fault>
+    ensures { result ≡ priority_in (view value.now) }
+{
+    let field = value.get("priority");
+    field.map_or(Ok(Priority::medium()), priority_from)
+}
+
+/// The number of members that play a role.
+#[tactic(auto, unfolding(crate::specs::Job::count_in))]
+fn count_of(value: &Value) -> Result<u64, Fault>
+    ensures { result ≡ count_in (view value.now) }
+{
+    match natural_at(FileKind::JobFile, value, "count")? {
+        Some(count) if count >= 1 && count <= MOST_WANTS as u64 => Ok(count),
+        _ => Err(Fault::Word(Refusal { code: BAD_COUNT })),
+    }
+}
+
+/// So many equal members.
+fn copies(alloc: Global, member: &Member, count: u64) -> Result<Vec<Member>, AllocError>
+    ensures { IfOk result (λ members. members.items ≡ replicate count member.now) }
+{
+    let mut members = Vec::new(alloc);
+    for _ in 0..count {
+        members.push(member.copy()?)?;
+    }
+    Ok(members)
+}
+
+/// The members that play one role.
+#[tactic(auto, unfolding(crate::specs::Job::role_in))]
+fn role_of(alloc: Global, name: &str, value: &Value) -> FileResult<Vec<Member>>
+    ensures { OrNoMemory text_fault (λ members. members.items) result
+        (role_in name.now (view value.now)) }
+{
+    let role = Some(name_of(alloc, name)?);
+    let _table = table_of(FileKind::JobFile, value)?;
+    let kind = name_at(alloc, FileKind::JobFile, value, "device_type")?;
+    let count = count_of(value)?;
+    let tags = tags_at(alloc, FileKind::JobFile, value)?;
+    Ok(copies(alloc, &Member { role, kind, tags }, count)?)
+}
+
+/// The members of all roles, which a table has in the byte order of their names.
+fn roles_of(alloc: Global, table: &Table) -> FileResult<Vec<Member>>
+    ensures { OrNoMemory text_fault (λ members. members.items) result
+        (roles_in (table_view table.now)) }
+{
+    let mut members = Vec::new(alloc);
+    for (name, value) in table.iter() {
+        let mut here = role_of(alloc, name.as_str(), value)?;
+        members.append(&mut here)?;
+    }
+    Ok(members)
+}
 
 /// Whether the text under the key `job_name` is there and not empty.
 #[tactic(auto, unfolding(crate::specs::Job::title_in))]
@@ -32,34 +107,28 @@ fn title_of(value: &Value) -> Result<&str, Fault>
 
 /// The one member of a job for one board.
 #[tactic(auto, unfolding(crate::specs::Job::single_in))]
-fn single_of(alloc: Global, kind: &Value, value: &Value) -> Result<Vec<Member>, FileFault>
+fn single_of(alloc: Global, kind: &Value, value: &Value) -> FileResult<Vec<Member>>
     ensures { OrNoMemory text_fault (λ members. members.items) result
         (single_in (view kind.now) (view value.now)) }
 {
+    let role = None;
     let kind = name_from(alloc, FileKind::JobFile, kind)?;
     let tags = tags_at(alloc, FileKind::JobFile, value)?;
-    let member = Member {
-        role: None,
-        kind,
-        tags,
-    };
-    Ok(vec![in alloc; member]?)
+    Ok(vec![in alloc; Member { role, kind, tags }]?)
 }
 
 /// The members of the job: exactly one of `device_type` and `roles` is there.
-#[tactic(auto, unfolding(crate::specs::Job::members_in))]
-fn members_of(alloc: Global, value: &Value) -> Result<Vec<Member>, FileFault>
+#[tactic(auto, unfolding(crate::specs::Job::members_in, crate::specs::Job::roles_from))]
+fn members_of(alloc: Global, value: &Value) -> FileResult<Vec<Member>>
     ensures { OrNoMemory text_fault (λ members. members.items) result
         (members_in (view value.now)) }
 {
-    match (value.get("device_type"), value.get("roles")) {
-        (Some(_), Some(_)) => Err(FileKind::JobFile.bad(Reason::Both)),
-        (Some(kind), None) => single_of(alloc, kind, value),
-        (None, Some(roles)) => match value.get("tags") {
-            Some(_) => Err(FileKind::JobFile.bad(Reason::Both)),
-            None => roles_from(alloc, roles),
-        },
-        (None, None) => Err(FileKind::JobFile.bad(Reason::Missing)),
+    let (roles, tags) = (value.get("roles"), value.get("tags"));
+    match (value.get("device_type"), roles, tags) {
+        (Some(kind), None, _) => single_of(alloc, kind, value),
+        (None, Some(roles), None) => roles_of(alloc, table_of(FileKind::JobFile, roles)?),
+        (None, None, _) => Err(FileKind::JobFile.bad(Reason::Missing)),
+        _ => Err(FileKind::JobFile.bad(Reason::Both)),
     }
 }
 

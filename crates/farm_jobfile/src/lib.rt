@@ -7,19 +7,11 @@
 //! Read `specs/` in the order Reading, Document, Fields, Job, Lab.
 #![tactic(auto)]
 
-mod boards;
-mod call;
-mod document;
 mod fault;
 mod fields;
 mod group;
 mod job;
 mod lab;
-mod member;
-mod natural;
-mod priority;
-mod roles;
-mod types;
 
 // A job file, and the command that it spells.
 pub use job::job_of;

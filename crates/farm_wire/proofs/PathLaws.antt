@@ -7,8 +7,8 @@ use Rattle.matchit.specs.Seek.{step, own, has_slash, cuts, longest_suffix, with_
 use Rattle.matchit.specs.Route.{scan}
 use Rattle.std.proofs.lemmas.Bool.Decides.{nat_tests}
 use Rattle.farm_wire.specs.Routes.{rows, route_at}
-use Rattle.farm_wire.specs.declared.route.Route.{Route}
-use Rattle.farm_wire.specs.declared.route.ViewKind.{ViewKind}
+use Rattle.farm_wire.specs.declared.router.Route.{Route}
+use Rattle.farm_wire.specs.declared.router.ViewKind.{ViewKind}
 use Rattle.farm_wire.proofs.RouteLemmas.{steps, seek_word, seek_end, last_param, middle_param, whole_segment, cut_segment, no_cut, slash_cut}
 
 -- behind the front only a parameter goes on, and what follows it begins with a slash

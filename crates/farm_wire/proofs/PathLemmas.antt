@@ -10,7 +10,7 @@ use Rattle.matchit.specs.Rows.{RowsOf}
 use Rattle.matchit.specs.Seek.{first}
 use Rattle.farm_types.specs.Refusals.{bad_request, no_route}
 use Rattle.farm_wire.specs.Routes.{path_in, route_in, route_or, rows}
-use Rattle.farm_wire.specs.declared.route.Route.{Route}
+use Rattle.farm_wire.specs.declared.router.Route.{Route}
 
 pub path_of_text : (target : List ℕ) → IsUtf8 target → path_in target ≡ Ok (before_first (λ b. b == 63) target)
 unfolding path_in

@@ -14,7 +14,7 @@ use Rattle.std.proofs.lemmas.Grind.{flat_map-append}
 use Rattle.serde_json.specs.Written.{compact_text, comma_if, members_text}
 use Rattle.farm_wire.specs.Parts.{part_data, member_of, has_plain_key}
 use Rattle.farm_wire.specs.Shown.{object_members}
-use Rattle.farm_wire.specs.declared.json_value.JsonValue.{JsonValue}
+use Rattle.farm_wire.specs.declared.shown.JsonValue.{JsonValue}
 
 pub escape_more : (xs : List ℕ) (i : ℕ) → i < length xs → escape (take i xs) ++ escape_byte (get_or xs i 0) ≡ escape (take (i + 1) xs)
 escape_more xs i within = flat_map_more escape_byte [] (take i xs) (get_or xs i 0) ∙ ap escape (sym (take_more xs i 0 within))

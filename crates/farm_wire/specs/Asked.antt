@@ -8,13 +8,13 @@ use Rattle.farm_wire.specs.Routes.{path_in, route_in, allowed_at, endpoint_at}
 use Rattle.farm_wire.specs.Sender.{caller_in, key_in}
 use Rattle.farm_wire.specs.Parameters.{job_in}
 use Rattle.farm_wire.specs.Commands.{command_in}
-use Rattle.farm_wire.specs.declared.allowed.Allowed.{Allowed}
+use Rattle.farm_wire.specs.declared.answers.Allowed.{Allowed}
 use Rattle.farm_wire.specs.declared.ask.Ask.{Ask}
 use Rattle.farm_wire.specs.declared.ask.View.{View}
-use Rattle.farm_wire.specs.declared.route.CommandKind.{CommandKind}
-use Rattle.farm_wire.specs.declared.route.Endpoint.{Endpoint}
-use Rattle.farm_wire.specs.declared.route.Route.{Route}
-use Rattle.farm_wire.specs.declared.route.ViewKind.{ViewKind}
+use Rattle.farm_wire.specs.declared.router.CommandKind.{CommandKind}
+use Rattle.farm_wire.specs.declared.router.Endpoint.{Endpoint}
+use Rattle.farm_wire.specs.declared.router.Route.{Route}
+use Rattle.farm_wire.specs.declared.router.ViewKind.{ViewKind}
 
 -- a command with its caller, its key and its moment, or one of the views
 pub data Asked : Type 0 where

@@ -16,7 +16,7 @@ use Rattle.farm_types.specs.Reads.{◌>>=◌}
 use Rattle.farm_wire.specs.Fields.{there_or, object_in, text_in, name_in, tags_from, tags_in}
 use Rattle.farm_wire.specs.Fields.{board_tags}
 use Rattle.farm_wire.specs.Parameters.{board_in, job_in, reservation_in}
-use Rattle.farm_wire.specs.declared.route.CommandKind.{CommandKind}
+use Rattle.farm_wire.specs.declared.router.CommandKind.{CommandKind}
 
 -- ---- types
 

@@ -6,7 +6,7 @@ use Rattle.serde_json.specs.Data.{Data, string}
 use Rattle.farm_types.specs.Called.{holder_text}
 use Rattle.farm_wire.specs.Shown.{count, texts, word_or_none}
 use Rattle.farm_wire.specs.Plain.{is_plain}
-use Rattle.farm_wire.specs.declared.json_value.JsonValue.{JsonValue}
+use Rattle.farm_wire.specs.declared.shown.JsonValue.{JsonValue}
 
 -- what stands behind a key
 abbrev pub part_data : JsonValue → Data

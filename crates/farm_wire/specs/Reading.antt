@@ -3,7 +3,7 @@ use Rattle.std.specs.Prelude.{ℕ, Option, Some, None, Result, Ok, Err}
 use Rattle.farm_types.specs.declared.fault.WordFault.{WordFault}
 use Rattle.farm_jobfile.specs.Reading.{code_of_kind}
 use Rattle.farm_jobfile.specs.declared.fault.FileFault.{FileFault}
-use Rattle.farm_wire.specs.declared.allowed.Allowed.{Allowed}
+use Rattle.farm_wire.specs.declared.answers.Allowed.{Allowed}
 use Rattle.farm_wire.specs.declared.fault.AskFault.{AskFault}
 
 -- the number of a refusal, or the methods that the path has in place of the one asked

@@ -7,7 +7,7 @@ use Rattle.farm_types.specs.Refusals.{wrong_method}
 use Rattle.farm_wire.specs.Routes.{allow_text}
 use Rattle.farm_wire.specs.Shown.{listing, reply_data, refusal_data, type_data, board_data}
 use Rattle.farm_wire.specs.Shown.{claim_data, res_data, job_data, status_data}
-use Rattle.farm_wire.specs.declared.allowed.Allowed.{Allowed}
+use Rattle.farm_wire.specs.declared.answers.Allowed.{Allowed}
 use Rattle.farm_wire.specs.declared.answers.Out.{Out}
 
 -- the statuses of an answer that is no refusal, of a wrong method, and of a fault that the table of refusals gives none

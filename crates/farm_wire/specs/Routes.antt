@@ -12,11 +12,11 @@ use Rattle.matchit.specs.Order.{placed}
 use Rattle.matchit.specs.Seek.{first, has_slash}
 use Rattle.matchit.specs.declared.error.InsertError.{InsertError}
 use Rattle.farm_types.specs.Refusals.{bad_request, no_route}
-use Rattle.farm_wire.specs.declared.route.Route.{Route}
-use Rattle.farm_wire.specs.declared.allowed.Allowed.{Allowed}
-use Rattle.farm_wire.specs.declared.route.CommandKind.{CommandKind}
-use Rattle.farm_wire.specs.declared.route.Endpoint.{Endpoint}
-use Rattle.farm_wire.specs.declared.route.ViewKind.{ViewKind}
+use Rattle.farm_wire.specs.declared.router.Route.{Route}
+use Rattle.farm_wire.specs.declared.answers.Allowed.{Allowed}
+use Rattle.farm_wire.specs.declared.router.CommandKind.{CommandKind}
+use Rattle.farm_wire.specs.declared.router.Endpoint.{Endpoint}
+use Rattle.farm_wire.specs.declared.router.ViewKind.{ViewKind}
 
 -- each path with its route
 abbrev pub route_table : List (List ℕ × Route)

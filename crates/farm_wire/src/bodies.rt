@@ -1,22 +1,16 @@
 //! The commands that bodies spell.
-ghost use Rattle.std.specs.Prelude.{◌≡◌, IsTrue, IfOk, false};
+ghost use Rattle.std.specs.Prelude.{◌≡◌, IsTrue, IfOk};
 ghost use Rattle.serde_json.specs.View.{view};
-ghost use Rattle.farm_types.specs.Called.{health_called, outcome_called, priority_called};
-ghost use Rattle.farm_types.specs.Codes.{same_outcome};
 ghost use Rattle.farm_types.specs.Limits.{is_every};
 ghost use Rattle.farm_types.specs.Proper.{is_frequency, is_proper_cmd};
 ghost use Rattle.farm_types.specs.Reads.{OrNoMemory, by_code, refused_code};
-ghost use Rattle.farm_types.specs.declared.rows.Outcome.{Outcome};
-ghost use Rattle.farm_wire.specs.Commands.{unit_in, every_in, check_in, add_type};
-ghost use Rattle.farm_wire.specs.Commands.{new_tags_in, add_board, set_tags, set_health};
-ghost use Rattle.farm_wire.specs.Commands.{finish, submit};
-ghost use Rattle.farm_wire.specs.Commands.{named_or, priority_from, priority_in};
-ghost use Rattle.farm_wire.specs.Commands.{reserve};
-ghost use Rattle.farm_wire.specs.Fields.{there_or};
+ghost use Rattle.farm_wire.specs.Commands.{unit_in, every_in, check_in, add_type, new_tags_in};
+ghost use Rattle.farm_wire.specs.Commands.{add_board, set_tags, set_health, finish, submit};
+ghost use Rattle.farm_wire.specs.Commands.{priority_from, priority_in, reserve};
 ghost use Rattle.farm_wire.specs.Reading.{fault_of_file};
 
-use crate::fields::{BAD, board_tags, name_of, object_of, tags_from, tags_of, text_of};
-use crate::parameter::{board_of, job_of};
+use crate::fields::{BAD, Read, board_tags, name_of, object_of, tags_from, tags_of, text_of};
+use crate::head::{board_of, job_of};
 use farm_jobfile::FileFault;
 use farm_types::{
     BAD_PRIORITY, Check, CheckUnit, Cmd, Health, Outcome, Priority, Refusal, Tags, WordFault,
@@ -63,7 +57,7 @@ fn check_of(value: &Value) -> Result<Check, Refusal>
 
 /// The type that a body adds.
 #[tactic(auto, unfolding(crate::specs::Commands::add_type))]
-pub(crate) fn add_type_of(alloc: Global, body: &[u8]) -> Result<Cmd, WordFault>
+pub(crate) fn add_type_of(alloc: Global, body: &[u8]) -> Read<Cmd>
     ensures meaning { OrNoMemory refused_code (λ cmd. cmd) result (add_type body.now) }
     ensures proper { IfOk result (λ cmd. IsTrue (is_proper_cmd cmd)) }
 {
@@ -75,18 +69,16 @@ pub(crate) fn add_type_of(alloc: Global, body: &[u8]) -> Result<Cmd, WordFault>
 
 /// A new board's tags: those under the key `tags`, or none where it is absent.
 #[tactic(auto, unfolding(crate::specs::Commands::new_tags_in))]
-fn new_tags_of(alloc: Global, value: &Value) -> Result<Tags, WordFault>
+fn new_tags_of(alloc: Global, value: &Value) -> Read<Tags>
     ensures { OrNoMemory refused_code (λ tags. tags) result (new_tags_in (view value.now)) }
 {
-    match value.get("tags") {
-        Some(field) => tags_from(alloc, field),
-        None => Ok(Tags::none(alloc)),
-    }
+    let field = value.get("tags");
+    field.map_or(Ok(Tags::none(alloc)), |field| tags_from(alloc, field))
 }
 
 /// The board that a body adds.
 #[tactic(auto, unfolding(crate::specs::Commands::add_board))]
-pub(crate) fn add_board_of(alloc: Global, body: &[u8]) -> Result<Cmd, WordFault>
+pub(crate) fn add_board_of(alloc: Global, body: &[u8]) -> Read<Cmd>
     ensures meaning { OrNoMemory refused_code (λ cmd. cmd) result (add_board body.now) }
     ensures proper { IfOk result (λ cmd. IsTrue (is_proper_cmd cmd)) }
 {
@@ -99,7 +91,7 @@ pub(crate) fn add_board_of(alloc: Global, body: &[u8]) -> Result<Cmd, WordFault>
 
 /// The tags that the board of a path gets.
 #[tactic(auto, unfolding(crate::specs::Commands::set_tags))]
-pub(crate) fn set_tags_of(alloc: Global, path: &str, body: &[u8]) -> Result<Cmd, WordFault>
+pub(crate) fn set_tags_of(alloc: Global, path: &str, body: &[u8]) -> Read<Cmd>
     ensures meaning { OrNoMemory refused_code (λ cmd. cmd) result (set_tags path.now body.now) }
     ensures proper { IfOk result (λ cmd. IsTrue (is_proper_cmd cmd)) }
 {
@@ -109,40 +101,22 @@ pub(crate) fn set_tags_of(alloc: Global, path: &str, body: &[u8]) -> Result<Cmd,
     Ok(Cmd::set_tags(name, tags))
 }
 
-/// The health that a word names.
-fn health_of(text: &str) -> Result<Health, Refusal>
-    ensures { by_code result ≡ there_or (health_called text.now) }
-{
-    Health::called(text).ok_or(BAD)
-}
-
 /// The health that the board of a path gets.
 #[tactic(auto, unfolding(crate::specs::Commands::set_health))]
-pub(crate) fn set_health_of(alloc: Global, path: &str, body: &[u8]) -> Result<Cmd, WordFault>
+pub(crate) fn set_health_of(alloc: Global, path: &str, body: &[u8]) -> Read<Cmd>
     ensures meaning { OrNoMemory refused_code (λ cmd. cmd) result (set_health path.now body.now) }
     ensures proper { IfOk result (λ cmd. IsTrue (is_proper_cmd cmd)) }
 {
     let name = board_of(alloc, path)?;
     let value = object_of(alloc, body)?;
-    let health = health_of(text_of(&value, "health")?)?;
+    let health = Health::called(text_of(&value, "health")?).ok_or(BAD)?;
     Ok(Cmd::set_health(name, health))
-}
-
-/// The outcome that a word names. A job is canceled by a command of its own, not by its end.
-fn outcome_of(text: &str) -> Result<Outcome, Refusal>
-    ensures outcome { by_code result ≡ there_or (outcome_called text.now) }
-    ensures ended { IfOk result (λ outcome. same_outcome outcome Outcome.Canceled ≡ false) }
-{
-    match Outcome::called(text) {
-        Some(outcome) => Ok(outcome),
-        None => Err(BAD),
-    }
 }
 
 /// The command of the job file that a body is. A bad file is refused as one, a bad word in it as
 /// that word.
 #[tactic(auto, unfolding(crate::specs::Commands::submit))]
-pub(crate) fn submit_of(alloc: Global, body: &[u8]) -> Result<Cmd, WordFault>
+pub(crate) fn submit_of(alloc: Global, body: &[u8]) -> Read<Cmd>
     ensures meaning { OrNoMemory refused_code (λ cmd. cmd) result (submit body.now) }
     ensures proper { IfOk result (λ cmd. IsTrue (is_proper_cmd cmd)) }
 {
@@ -162,36 +136,29 @@ fn word_fault(fault: FileFault) -> WordFault
 
 /// The end of the job that a path names.
 #[tactic(auto, unfolding(crate::specs::Commands::finish, farm_types::specs::Proper::is_proper_cmd))]
-pub(crate) fn finish_of(alloc: Global, path: &str, body: &[u8]) -> Result<Cmd, WordFault>
+pub(crate) fn finish_of(alloc: Global, path: &str, body: &[u8]) -> Read<Cmd>
     ensures meaning { OrNoMemory refused_code (λ cmd. cmd) result (finish path.now body.now) }
     ensures proper { IfOk result (λ cmd. IsTrue (is_proper_cmd cmd)) }
 {
     let number = job_of(path)?;
     let value = object_of(alloc, body)?;
-    let outcome = outcome_of(text_of(&value, "outcome")?)?;
+    let outcome = Outcome::called(text_of(&value, "outcome")?).ok_or(BAD)?;
     Ok(Cmd::Finish(number, outcome))
 }
 
-/// The priority that a word names.
-fn named_priority(text: &str) -> Result<Priority, Refusal>
-    ensures { by_code result ≡ named_or (priority_called text.now) }
-{
-    Priority::called(text).ok_or(Refusal { code: BAD_PRIORITY })
-}
+/// The refusal of a word or a number that is no priority.
+const NO_PRIORITY: Refusal = Refusal { code: BAD_PRIORITY };
 
 /// The priority that a value spells: a word, or a whole number.
 #[tactic(auto, unfolding(crate::specs::Commands::priority_from))]
 fn priority_from(field: &Value) -> Result<Priority, Refusal>
     ensures { by_code result ≡ priority_from (view field.now) }
 {
-    if let Some(text) = field.as_str() {
-        return named_priority(text);
+    match field {
+        Value::String(word) => Priority::called(word.as_str()).ok_or(NO_PRIORITY),
+        Value::Number(_) => Priority::of(field.as_u64().ok_or(NO_PRIORITY)?),
+        _ => Err(BAD),
     }
-    if !field.is_number() {
-        return Err(BAD);
-    }
-    let number = field.as_u64().ok_or(Refusal { code: BAD_PRIORITY })?;
-    Priority::of(number)
 }
 
 /// The priority under the key `priority`; absent means medium.
@@ -199,15 +166,13 @@ fn priority_from(field: &Value) -> Result<Priority, Refusal>
 fn priority_in(value: &Value) -> Result<Priority, Refusal>
     ensures { by_code result ≡ priority_in (view value.now) }
 {
-    match value.get("priority") {
-        Some(field) => priority_from(field),
-        None => Ok(Priority::medium()),
-    }
+    let field = value.get("priority");
+    field.map_or(Ok(Priority::medium()), priority_from)
 }
 
 /// The reservation that a body asks for.
 #[tactic(auto, unfolding(crate::specs::Commands::reserve))]
-pub(crate) fn reserve_of(alloc: Global, body: &[u8]) -> Result<Cmd, WordFault>
+pub(crate) fn reserve_of(alloc: Global, body: &[u8]) -> Read<Cmd>
     ensures meaning { OrNoMemory refused_code (λ cmd. cmd) result (reserve body.now) }
     ensures proper { IfOk result (λ cmd. IsTrue (is_proper_cmd cmd)) }
 {

@@ -1,7 +1,7 @@
 //! The errors of reading what a request asks: a refusal, a wrong method, or no memory.
 ghost use Rattle.std.specs.Prelude.{◌≡◌};
 
-use crate::allowed::Allowed;
+use crate::answers::Allowed;
 use farm_types::{NO_MEMORY, Refusal, WRONG_METHOD, WordFault};
 use thiserror::Error;
 

@@ -1,7 +1,7 @@
 //! The JSON object of a body, and its members.
-ghost use Rattle.std.specs.Prelude.{◌≡◌, map, codes, Err, IsTrue, IfOk, IsOk};
-ghost use Rattle.farm_types.specs.Proper.{has_no_name_tag};
+ghost use Rattle.std.specs.Prelude.{◌≡◌, map, Err, IsTrue, IfOk, IsOk};
 ghost use Rattle.serde_json.specs.View.{view, items_view};
+ghost use Rattle.farm_types.specs.Proper.{has_no_name_tag};
 ghost use Rattle.farm_types.specs.Reads.{OrNoMemory, by_code, refused_code, viewed};
 ghost use Rattle.farm_wire.specs.Fields.{text_in, name_in, texts_in, tags_from, tags_in};
 ghost use Rattle.farm_wire.specs.Fields.{board_tags, object_in};
@@ -10,28 +10,23 @@ use farm_types::{BAD_REQUEST, BAD_TAG, Name, Refusal, Tags, WordFault};
 use serde_json::Value;
 use std::alloc::Global;
 
+/// What reading a word gives.
+pub(crate) type Read<T> = Result<T, WordFault>;
+
 /// The refusal of a body that is not as it should be.
 pub(crate) const BAD: Refusal = Refusal { code: BAD_REQUEST };
 
 /// The object that a body spells; refused where the body is no JSON (RFC 8259), nests deeper than
 /// 127 or is no object.
 #[tactic(auto, unfolding(crate::specs::Fields::object_in))]
-pub(crate) fn object_of(alloc: Global, body: &[u8]) -> Result<Value, WordFault>
+pub(crate) fn object_of(alloc: Global, body: &[u8]) -> Read<Value>
     ensures { OrNoMemory refused_code (λ v. view v) result (object_in body.now) }
 {
     match Value::from_slice(alloc, body) {
-        Ok(value) => {
-            if value.as_object().is_none() {
-                return Err(WordFault::Refused(BAD));
-            }
-            Ok(value)
-        }
-        Err(e) => {
-            if e.is_memory() {
-                return Err(WordFault::NoMemory);
-            }
-            Err(WordFault::Refused(BAD))
-        }
+        Ok(value) if value.as_object().is_some() => Ok(value),
+        Ok(_) => Err(WordFault::Refused(BAD)),
+        Err(e) if e.is_memory() => Err(WordFault::NoMemory),
+        Err(_) => Err(WordFault::Refused(BAD)),
     }
 }
 
@@ -45,7 +40,7 @@ pub(crate) fn text_of<'v>(value: &'v Value, key: &str) -> Result<&'v str, Refusa
 
 /// The name under a key, which must be there; memory is wanted only where there is one.
 #[tactic(auto, unfolding(crate::specs::Fields::name_in))]
-pub(crate) fn name_of(alloc: Global, value: &Value, key: &str) -> Result<Name, WordFault>
+pub(crate) fn name_of(alloc: Global, value: &Value, key: &str) -> Read<Name>
     ensures reads { OrNoMemory refused_code (λ name. name) result
         (name_in key.now (view value.now)) }
     ensures memory { result ≡ Err WordFault.NoMemory → IsOk (name_in key.now (view value.now)) }
@@ -54,7 +49,7 @@ pub(crate) fn name_of(alloc: Global, value: &Value, key: &str) -> Result<Name, W
 }
 
 /// The texts of an array's items.
-fn texts_of(alloc: Global, items: &[Value]) -> Result<Vec<&[u8]>, WordFault>
+fn texts_of(alloc: Global, items: &[Value]) -> Read<Vec<&[u8]>>
     ensures { OrNoMemory refused_code (λ texts. map (λ text. text.now) texts.items) result
         (texts_in (items_view items.now)) }
 {
@@ -68,7 +63,7 @@ fn texts_of(alloc: Global, items: &[Value]) -> Result<Vec<&[u8]>, WordFault>
 
 /// The tags that a value spells, an array of texts.
 #[tactic(auto, unfolding(crate::specs::Fields::tags_from))]
-pub(crate) fn tags_from(alloc: Global, value: &Value) -> Result<Tags, WordFault>
+pub(crate) fn tags_from(alloc: Global, value: &Value) -> Read<Tags>
     ensures { OrNoMemory refused_code (λ tags. tags) result (tags_from (view value.now)) }
 {
     let items = value.as_array().ok_or(BAD)?;
@@ -78,7 +73,7 @@ pub(crate) fn tags_from(alloc: Global, value: &Value) -> Result<Tags, WordFault>
 
 /// The tags under the key `tags`, which must be there.
 #[tactic(auto, unfolding(crate::specs::Fields::tags_in))]
-pub(crate) fn tags_of(alloc: Global, value: &Value) -> Result<Tags, WordFault>
+pub(crate) fn tags_of(alloc: Global, value: &Value) -> Read<Tags>
     ensures { OrNoMemory refused_code (λ tags. tags) result (tags_in (view value.now)) }
 {
     tags_from(alloc, value.get("tags").ok_or(BAD)?)
@@ -89,9 +84,6 @@ pub(crate) fn board_tags(tags: Tags) -> Result<Tags, Refusal>
     ensures tags { by_code result ≡ board_tags tags }
     ensures own { IfOk result (λ tags. IsTrue (has_no_name_tag tags)) }
 {
-    if tags.has_no_name_tag() {
-        Ok(tags)
-    } else {
-        Err(Refusal { code: BAD_TAG })
-    }
+    let own = tags.has_no_name_tag().then_some(tags);
+    own.ok_or(Refusal { code: BAD_TAG })
 }

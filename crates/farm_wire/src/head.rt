@@ -1,21 +1,108 @@
-//! The heads of answers.
-ghost use Rattle.std.specs.Prelude.{◌≡◌, IfOk, string_bytes};
-ghost use Rattle.farm_wire.specs.Replies.{head_text};
+//! The words of a request's head: the parameter of its path, which is the first segment behind what
+//! each path of a group begins with, who sends it, and under which key its reply is kept.
+ghost use Rattle.std.specs.Prelude.{◌≡◌, ◌==◌, drop, Err, IsOk, position};
+ghost use Rattle.std.specs.List.{before_first};
+ghost use Rattle.farm_types.specs.Reads.{OrNoMemory, by_code, refused_code};
+ghost use Rattle.farm_wire.specs.Parameters.{parameter, is_number_text, number_in, board_in};
+ghost use Rattle.farm_wire.specs.Parameters.{job_in, reservation_in};
+ghost use Rattle.farm_wire.specs.Sender.{caller_in, key_in};
 
-use farm_types::reason_of;
-use std::alloc::{AllocError, Global};
+use crate::fields::{BAD, Read};
+use farm_http::{Parts, is_digits, number_within};
+use farm_types::{Key, NUMBERS_END, Name, Refusal, WordFault};
+use std::alloc::Global;
 
-/// The head of an answer, with further fields and the length of its body.
-pub(crate) fn head(
-    alloc: Global,
-    status: u16,
-    more: &str,
-    length: usize,
-) -> Result<String, AllocError>
-    ensures { IfOk result (λ text. string_bytes text ≡ head_text status more.now length) }
+/// What stands behind the first bytes.
+fn behind(path: &[u8], count: usize) -> &[u8]
+    ensures { result.now ≡ drop count path.now }
 {
-    let reason = reason_of(status);
-    format!(in alloc;
-        "HTTP/1.1 {status} {reason}\r\ncontent-type: application/json\r\ncontent-length: {length}\r\nconnection: close\r\n{more}\r\n"
-    )
+    path.get(count..).unwrap_or(&[])
+}
+
+/// Where the first slash is.
+fn slash_in(rest: &[u8]) -> Option<usize>
+    ensures { result ≡ position (λ b. b == 47) rest.now }
+{
+    rest.iter().position(|byte| *byte == b'/')
+}
+
+/// What stands before the first slash.
+fn first_segment(rest: &[u8]) -> &[u8]
+    ensures { result.now ≡ before_first (λ b. b == 47) rest.now }
+{
+    &rest[..slash_in(rest).unwrap_or(rest.len())]
+}
+
+/// The first segment behind the front of a path.
+fn parameter<'p>(front: &str, path: &'p str) -> &'p [u8]
+    ensures { result.now ≡ parameter front.now path.now }
+{
+    first_segment(behind(path.as_bytes(), front.len()))
+}
+
+/// Whether a text is digits that begin with 1 to 9.
+fn is_number_text(text: &[u8]) -> bool
+    ensures { result ≡ is_number_text text.now }
+{
+    !text.is_empty() && text[0] != b'0' && is_digits(text)
+}
+
+/// The number that a segment writes: one to nine digits that begin with 1 to 9.
+#[tactic(auto, unfolding(crate::specs::Parameters::number_in))]
+fn number_of(text: &[u8]) -> Result<u64, Refusal>
+    ensures { by_code result ≡ number_in text.now }
+{
+    if !is_number_text(text) {
+        return Err(BAD);
+    }
+    number_within(text, (NUMBERS_END - 1) as u32).ok_or(BAD)
+}
+
+/// The board that a path names; memory is wanted only where it names one.
+#[tactic(auto, unfolding(crate::specs::Parameters::board_in))]
+pub(crate) fn board_of(alloc: Global, path: &str) -> Read<Name>
+    ensures reads { OrNoMemory refused_code (λ name. name) result (board_in path.now) }
+    ensures memory { result ≡ Err WordFault.NoMemory → IsOk (board_in path.now) }
+{
+    Name::parse(alloc, parameter("/boards/", path))
+}
+
+/// The job that a path names.
+#[tactic(auto, unfolding(crate::specs::Parameters::job_in))]
+pub(crate) fn job_of(path: &str) -> Result<u64, Refusal>
+    ensures { by_code result ≡ job_in path.now }
+{
+    number_of(parameter("/jobs/", path))
+}
+
+/// The reservation that a path names.
+#[tactic(auto, unfolding(crate::specs::Parameters::reservation_in))]
+pub(crate) fn reservation_of(path: &str) -> Result<u64, Refusal>
+    ensures { by_code result ≡ reservation_in path.now }
+{
+    number_of(parameter("/reservations/", path))
+}
+
+/// The name in the field `x-user`, which must stand there once; memory is wanted only where there
+/// is one.
+#[tactic(auto, unfolding(crate::specs::Sender::caller_in))]
+pub(crate) fn caller_of(alloc: Global, parts: &Parts<'_>) -> Read<Name>
+    ensures reads { OrNoMemory refused_code (λ name. name) result (caller_in parts.now.fields) }
+    ensures memory { result ≡ Err WordFault.NoMemory → IsOk (caller_in parts.now.fields) }
+{
+    match parts.field(b"x-user") {
+        Ok(Some(value)) => Name::parse(alloc, value),
+        _ => Err(WordFault::Refused(BAD)),
+    }
+}
+
+/// The key in the field `x-key`, which may stand there once; memory is wanted only where there is
+/// one.
+#[tactic(auto, unfolding(crate::specs::Sender::key_in))]
+pub(crate) fn key_of(alloc: Global, parts: &Parts<'_>) -> Read<Option<Key>>
+    ensures reads { OrNoMemory refused_code (λ key. key) result (key_in parts.now.fields) }
+    ensures memory { result ≡ Err WordFault.NoMemory → IsOk (key_in parts.now.fields) }
+{
+    let value = parts.field(b"x-key").map_err(|_| BAD)?;
+    value.map(|value| Key::parse(alloc, value)).transpose()
 }

@@ -14,9 +14,9 @@ ghost use Rattle.farm_wire.specs.Parameters.{parameter};
 ghost use Rattle.farm_wire.specs.Routes.{LeadsTo, route_at};
 ghost use Rattle.farm_wire.specs.Shown.{type_data, board_data, claim_data, res_data, job_data};
 ghost use Rattle.farm_wire.specs.Shown.{status_data, refusal_data, reply_data};
-ghost use Rattle.farm_wire.specs.declared.route.CommandKind.{CommandKind};
-ghost use Rattle.farm_wire.specs.declared.route.Route.{Route};
-ghost use Rattle.farm_wire.specs.declared.route.ViewKind.{ViewKind};
+ghost use Rattle.farm_wire.specs.declared.router.CommandKind.{CommandKind};
+ghost use Rattle.farm_wire.specs.declared.router.Route.{Route};
+ghost use Rattle.farm_wire.specs.declared.router.ViewKind.{ViewKind};
 
 /// The statuses that the code gives are those of the definitions.
 pub fn statuses_agree()

@@ -8,25 +8,16 @@
 //! Shown, Keys, Plain, Joins, Parts, Replies, Agreed.
 #![tactic(auto)]
 
-mod allowed;
 mod answers;
 mod ask;
 mod bodies;
 mod fault;
 mod fields;
 mod head;
-mod json_value;
 mod laws;
-mod parameter;
-mod route;
 mod router;
-mod routes;
 mod rows_shown;
-mod sender;
 mod shown;
-mod sink;
-mod static_answers;
-mod statuses;
 mod text;
 
 // One request, read from an input; and bytes written whole to an output.
@@ -36,19 +27,17 @@ pub use farm_http::{
 };
 
 // What a request asks: a call or a view, by the desk's routes.
-pub use ask::{Ask, View};
+pub use ask::{Ask, Routes, View};
 pub use fault::AskFault;
-pub use routes::Routes;
 
 // The bytes of an answer.
-pub use allowed::Allowed;
-pub use answers::{Out, answer_bytes};
+pub use answers::{Allowed, Out, answer_bytes};
 
 // The answers that take no memory.
-pub use static_answers::{closed_answer, no_memory_answer, store_answer};
+pub use answers::{closed_answer, no_memory_answer, store_answer};
 
 // The HTTP statuses that the table of refusals doesn't have.
-pub use statuses::{METHOD_NOT_ALLOWED, OK, UNAVAILABLE};
+pub use answers::{METHOD_NOT_ALLOWED, OK, UNAVAILABLE};
 
 // What is proved of paths, statuses and keys: functions that only proofs read.
 pub use laws::{keys_in_order, other_paths, parameters, paths_with_a_parameter, statuses_agree};

@@ -1,12 +1,10 @@
 //! What answers show as JSON: rows, claims, replies, refusals and the numbers of the farm.
-ghost use Rattle.std.specs.Prelude.{◌≡◌, [], option_map, unwrap_or};
-ghost use Rattle.farm_types.specs.Codes.{outcome_word};
+ghost use Rattle.std.specs.Prelude.{◌≡◌};
 ghost use Rattle.farm_types.specs.Small.{every_of};
 ghost use Rattle.farm_wire.specs.Shown.{job_kind};
 
-use crate::json_value::{JsonValue, put_object};
-use crate::shown::ToJson;
-use crate::sink::Sink;
+use crate::shown::{JsonValue, ToJson, put_object};
+use crate::text::Sink;
 use farm_types::{
     BoardRow, Check, Claim, JobRow, Outcome, Refusal, Reply, ResRow, Status, TypeRow,
 };
@@ -64,22 +62,14 @@ fn job_kind(checking: bool) -> &'static str
     if checking { "check" } else { "ordinary" }
 }
 
-/// How a job ended; the empty text where it hasn't.
-fn result_text(outcome: Option<Outcome>) -> &'static str
-    ensures { result.now ≡ unwrap_or (option_map outcome_word outcome) [] }
-{
-    match outcome {
-        Some(outcome) => outcome.word(),
-        None => "",
-    }
-}
-
 impl ToJson for JobRow {
     ghost use Rattle.farm_wire.specs.Shown.{job_data};
 
     ghost json = { job_data };
 
     fn print<S: Sink>(&self, sink: &mut S) -> Result<(), AllocError> {
+        // How it ended; the empty text where it hasn't.
+        let ended = self.outcome.map_or("", Outcome::word);
         let members = [
             ("board", JsonValue::NameOrNone(&self.board)),
             ("group", JsonValue::Number(self.group)),
@@ -87,7 +77,7 @@ impl ToJson for JobRow {
             ("number", JsonValue::Number(self.number)),
             ("owner", JsonValue::Name(&self.owner)),
             ("priority", JsonValue::Number(self.priority.get())),
-            ("result", JsonValue::Text(result_text(self.outcome))),
+            ("result", JsonValue::Text(ended)),
             ("role", JsonValue::NameOrNone(&self.role)),
             ("state", JsonValue::Text(self.state.word())),
             ("tags", JsonValue::Tags(&self.want.tags)),
@@ -139,19 +129,16 @@ const PASS: u64 = 14;
 
 /// A reply to the command of that number.
 #[derive(Drop)]
-pub(crate) struct ReplyTo {
-    pub kind: u64,
-    pub reply: Reply,
-}
+pub(crate) struct ReplyTo(pub u64, pub Reply);
 
 impl ToJson for ReplyTo {
     ghost use Rattle.farm_wire.specs.Shown.{reply_data};
 
-    ghost json = { λ shown. reply_data shown.kind shown.reply };
+    ghost json = { λ shown. reply_data shown.0 shown.1 };
 
     fn print<S: Sink>(&self, sink: &mut S) -> Result<(), AllocError> {
-        let Reply(first, second, third) = self.reply;
-        if self.kind == PASS {
+        let Reply(first, second, third) = self.1;
+        if self.0 == PASS {
             let members = [
                 ("checks", JsonValue::Number(first)),
                 ("expired", JsonValue::Number(second)),

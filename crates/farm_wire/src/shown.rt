@@ -1,14 +1,17 @@
-//! Rows as JSON.
-ghost use Rattle.std.specs.Prelude.{◌∷◌, OnOk, map, decimal};
+//! What answers show as JSON: texts, numbers, rows, and objects by their members.
+ghost use Rattle.std.specs.Prelude.{◌∷◌, OnOk, map, decimal, ◌++◌, IsTrue};
+ghost use Rattle.std.specs.List.{list_all};
 ghost use Rattle.json.specs.Print.{quoted};
 ghost use Rattle.serde_json.specs.Data.{array};
 ghost use Rattle.serde_json.specs.View.{items_of};
 ghost use Rattle.serde_json.specs.Written.{compact_text, comma_if};
-ghost use Rattle.farm_wire.specs.Shown.{listing};
+ghost use Rattle.farm_types.specs.Called.{holder_text};
+ghost use Rattle.farm_wire.specs.Shown.{listing, fields};
+ghost use Rattle.farm_wire.specs.Parts.{member_of, part_data, has_plain_key};
+ghost use Rattle.farm_wire.specs.Plain.{is_plain};
 
-use crate::sink::Sink;
-use crate::text::{put_text, put_word};
-use farm_types::Tag;
+use crate::text::{Sink, put_escaped, put_text, put_word};
+use farm_types::{Holder, Name, Tag, Tags};
 use itoa::Buffer;
 use std::alloc::AllocError;
 
@@ -55,18 +58,6 @@ pub(crate) fn put_rows<S: Sink, R: ToJson>(sink: &mut S, rows: &[R]) -> Result<(
     sink.put(b"]")
 }
 
-/// Puts an object whose one member is the list of all rows.
-fn put_listing<S: Sink, R: ToJson>(sink: &mut S, key: &str, rows: &[R]) -> Result<(), AllocError>
-    ensures { OnOk result (S.Takes sink.old sink.new
-        (compact_text (listing key.now (map R.json rows.now)))) }
-{
-    sink.put(b"{")?;
-    put_text(sink, key)?;
-    sink.put(b":")?;
-    put_rows(sink, rows)?;
-    sink.put(b"}")
-}
-
 /// All rows under their key.
 #[derive(Drop)]
 pub(crate) struct Listing<'a, R> {
@@ -81,15 +72,12 @@ impl<'a, R: ToJson> ToJson for Listing<'a, R> {
     ghost json = { λ shown. listing shown.key.now (map R.json shown.rows.now) };
 
     fn print<S: Sink>(&self, sink: &mut S) -> Result<(), AllocError> {
-        put_listing(sink, self.key, self.rows)
+        sink.put(b"{")?;
+        put_text(sink, self.key)?;
+        sink.put(b":")?;
+        put_rows(sink, self.rows)?;
+        sink.put(b"}")
     }
-}
-
-/// Puts a tag, whose bytes all show as they are.
-fn put_tag<S: Sink>(sink: &mut S, tag: &Tag) -> Result<(), AllocError>
-    ensures { OnOk result (S.Takes sink.old sink.new (quoted tag.now)) }
-{
-    put_word(sink, tag.as_str())
 }
 
 impl ToJson for Tag {
@@ -97,7 +85,94 @@ impl ToJson for Tag {
 
     ghost json = { string };
 
+    /// Puts a tag, whose bytes all show as they are.
     fn print<S: Sink>(&self, sink: &mut S) -> Result<(), AllocError> {
-        put_tag(sink, self)
+        put_word(sink, self.as_str())
     }
+}
+
+/// What stands behind a key.
+#[derive(Clone, Copy)]
+pub(crate) enum JsonValue<'a> {
+    Number(u64),
+    Text(&'a str),
+    Name(&'a Name),
+    /// A name; the empty text where there is none.
+    NameOrNone(&'a Option<Name>),
+    Holder(Holder),
+    Tags(&'a Tags),
+}
+
+/// Puts a word and a number as one text.
+fn put_numbered<S: Sink>(sink: &mut S, word: &str, number: u64) -> Result<(), AllocError>
+    ensures { OnOk result (S.Takes sink.old sink.new (quoted (word.now ++ decimal number))) }
+{
+    let mut buffer = Buffer::new();
+    sink.put(b"\"")?;
+    put_escaped(sink, word.as_bytes())?;
+    put_escaped(sink, buffer.format(number).as_bytes())?;
+    sink.put(b"\"")
+}
+
+/// Puts who holds a board.
+fn put_holder<S: Sink>(sink: &mut S, holder: Holder) -> Result<(), AllocError>
+    ensures { OnOk result (S.Takes sink.old sink.new (quoted (holder_text holder))) }
+{
+    match holder {
+        Holder::Nobody => put_text(sink, "none"),
+        Holder::Job(number) => put_numbered(sink, "job ", number),
+        Holder::Res(number) => put_numbered(sink, "reservation ", number),
+    }
+}
+
+/// Puts a name, whose bytes all show as they are.
+fn put_name<S: Sink>(sink: &mut S, name: &Name) -> Result<(), AllocError>
+    ensures { OnOk result (S.Takes sink.old sink.new (quoted name.now)) }
+{
+    put_word(sink, name.as_str())
+}
+
+/// Puts what stands behind a key.
+fn put_part<S: Sink>(sink: &mut S, part: JsonValue<'_>) -> Result<(), AllocError>
+    ensures { OnOk result (S.Takes sink.old sink.new (compact_text (part_data part.entry))) }
+{
+    match part {
+        JsonValue::Number(number) => put_number(sink, number),
+        JsonValue::Text(text) => put_text(sink, text),
+        JsonValue::Name(name) => put_name(sink, name),
+        JsonValue::NameOrNone(Some(name)) => put_name(sink, name),
+        JsonValue::NameOrNone(None) => put_word(sink, ""),
+        JsonValue::Holder(holder) => put_holder(sink, holder),
+        JsonValue::Tags(tags) => put_rows(sink, tags.items()),
+    }
+}
+
+/// Puts a key, a colon and what stands behind.
+fn put_member<S: Sink>(sink: &mut S, key: &str, part: JsonValue<'_>) -> Result<(), AllocError>
+    requires { IsTrue (list_all is_plain key.now) }
+    ensures { OnOk result (S.Takes sink.old sink.new
+        (quoted key.now ++ 58 ∷ compact_text (part_data part.entry))) }
+{
+    put_word(sink, key)?;
+    sink.put(b":")?;
+    put_part(sink, part)
+}
+
+/// Puts an object with these members, whose keys stand in byte order and show as they are.
+pub(crate) fn put_object<S: Sink>(
+    sink: &mut S,
+    members: &[(&str, JsonValue<'_>)],
+) -> Result<(), AllocError>
+    requires { IsTrue (list_all has_plain_key members.now) }
+    ensures { OnOk result (S.Takes sink.old sink.new
+        (compact_text (fields (map member_of members.now)))) }
+{
+    sink.put(b"{")?;
+    let mut later = false;
+    for member in members {
+        put_comma(sink, later)?;
+        put_member(sink, member.0, member.1)?;
+        later = true;
+    }
+    sink.put(b"}")
 }
