@@ -88,7 +88,7 @@ impl<S: Alter + Drop> Keeper<S> {
     {
         match opening::find(alloc, conn) {
             Ok(keeper) => Ok(keeper),
-            Err(unkept) => Err(unkept.let_go()),
+            Err(unkept) => Err(unkept.fault),
         }
     }
 }

@@ -20,8 +20,7 @@ ghost use Rattle.farm_keep.specs.Runs.{answers_of};
 ghost use Rattle.farm_keep.specs.Restarts.{Restart, run_all, calls_of_restarts, AnswersAgain, ActsOnce};
 
 use crate::fault::KeepFault;
-use crate::migrating::migrate;
-use crate::reading::found;
+use crate::reading::{found, migrate};
 use farm_core::Farm;
 use farm_store::opened_stands;
 use sqlite::{Alter, Connection};

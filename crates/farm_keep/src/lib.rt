@@ -11,17 +11,14 @@
 mod fault;
 mod keeper;
 mod laws;
-mod migrating;
 mod reading;
 
 // A farm and its store: a command's answer comes after its commit.
 pub use keeper::{Keeper, RunEnd};
 
-// The farm that a store holds, looked at without keeping it.
-pub use reading::found;
-
-// A store of the first edition brought to the second.
-pub use migrating::migrate;
+// The farm that a store holds, looked at without keeping it; a store of the first edition brought to
+// the second.
+pub use reading::{found, migrate};
 
 // Why a command, or a store, wasn't taken.
 pub use fault::KeepFault;

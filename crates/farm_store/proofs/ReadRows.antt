@@ -7,6 +7,9 @@ use Rattle.farm_store.specs.Reading.{ReadsAll, ReadsRow, HasColumns, IsNoVersion
 use Rattle.farm_store.specs.Stored.{IsWide}
 use Rattle.farm_store.specs.declared.fault.StoreFault.{StoreFault}
 use Rattle.farm_store.specs.declared.fault.StoreFault.TheVariants.{BadStore}
+use Rattle.farm_store.specs.Faults.{fault_of_word}
+use Rattle.farm_types.specs.declared.fault.WordFault.{WordFault}
+use Rattle.farm_types.specs.declared.fault.WordFault.TheVariants.{NoMemory}
 use Rattle.farm_store.proofs.ColumnsFrom.{is_spelled, spells_itself}
 
 pub all_at : {X : Type 0} (P : X → Type 0) (xs : List X) (at : ℕ) (d : X) → AllByRecursion P xs → at < length xs → P (get_or xs at d)
@@ -54,18 +57,22 @@ pub on_ok : {A E : Type 0} (r : Result A E) (P : Type 0) → P → OnOk r P
 on_ok (Ok a) P p = p
 on_ok (Err e) P p = tt
 
+pub bad_of_no_version : IsNoVersionFault BadStore
+bad_of_no_version = ((λ is. cc), (λ is. cc))
+
 pub if_err : {A : Type 0} (r : Result A StoreFault) (fault : StoreFault) → IsErrAnd r (λ f. f ≡ fault) → IsNoVersionFault fault → IfErr r IsNoVersionFault
 if_err (Ok a) fault is none = tt
 if_err (Err f) fault is none = subst IsNoVersionFault (sym is) none
 
 -- a row that was refused refuses them all
-pub refuses : {A X : Type 0} (r : Result A StoreFault) (items : A → List X) (IsGood : X → Type 0) (columns : X → Row) (rows : List Row) (fault : StoreFault) → IsErrAnd r (λ e. e ≡ fault) → IsNoVersionFault fault
-    → (fault ≡ BadStore → (xs : List X) → AllByRecursion IsGood xs → rows ≢ map columns xs) → ReadsAll r items IsGood columns rows
-refuses (Ok a) items IsGood columns rows fault is known none = absurd is
-refuses (Err e) items IsGood columns rows fault is known none = (subst IsNoVersionFault (sym is) known, λ bad. none (sym is ∙ bad))
+pub refuses : {A X : Type 0} (r : Result A StoreFault) (items : A → List X) (IsGood : X → Type 0) (columns : X → Row) (rows : List Row) (cause : WordFault) → IsErrAnd r (λ e. e ≡ fault_of_word cause)
+    → (cause ≢ NoMemory → (xs : List X) → AllByRecursion IsGood xs → rows ≢ map columns xs) → ReadsAll r items IsGood columns rows
+refuses (Ok a) items IsGood columns rows cause is none = absurd is
+refuses (Err e) items IsGood columns rows WordFault.NoMemory is none = (((λ same. let x = sym is ∙ same in cc), (λ same. let x = sym is ∙ same in cc)), λ bad. absurd (let x = sym is ∙ bad in cc))
+refuses (Err e) items IsGood columns rows (WordFault.Refused refusal) is none = (subst IsNoVersionFault (sym is) bad_of_no_version, λ bad. none (λ same. cc))
 
 -- a column that was refused refuses the row
-pub refuses_row : {X : Type 0} (r : Result X StoreFault) (IsGood : X → Type 0) (columns : X → Row) (row : Row) (fault : StoreFault) → IsErrAnd r (λ e. e ≡ fault) → IsNoVersionFault fault
-    → (fault ≡ BadStore → (x : X) → IsGood x → ¬ HasColumns row 0 (columns x)) → ReadsRow r IsGood columns row
-refuses_row (Ok a) IsGood columns row fault is known none = absurd is
-refuses_row (Err e) IsGood columns row fault is known none = (subst IsNoVersionFault (sym is) known, λ bad. none (sym is ∙ bad))
+pub refuses_row : {X : Type 0} (r : Result X WordFault) (IsGood : X → Type 0) (columns : X → Row) (row : Row) (fault : WordFault) → IsErrAnd r (λ e. e ≡ fault)
+    → ((x : X) → IsGood x → ¬ HasColumns row 0 (columns x)) → ReadsRow r IsGood columns row
+refuses_row (Ok a) IsGood columns row fault is none = absurd is
+refuses_row (Err e) IsGood columns row fault is none = λ _. none

@@ -1,14 +1,18 @@
 -- Tags that were read from a text.
-use Rattle.std.proofs.Common.{refl, ◌≡◌, ℕ, ◌&&◌, Bool, true, false, cond, List, length, Ok, Err, sym, ap, ◌∙◌, arith}
+use Rattle.std.proofs.Common.{refl, ◌≡◌, ℕ, ◌&&◌, Bool, true, false, cond, List, length, Result, Ok, Err, IsErrAnd, sym, ap, ◌∙◌, arith}
 use Rattle.std.specs.Prelude.{nat_le, nat_lt}
 use Rattle.std.specs.List.{list_all}
 use Rattle.std.proofs.lemmas.Bool.Decides.{nat_tests}
+use Rattle.sqlite.specs.declared.types.Value.{Value}
 use Rattle.sqlite.specs.declared.types.Value.TheVariants.{Text}
 use Rattle.farm_types.specs.Words.{IsTags, is_tag, is_tags, rise}
 use Rattle.farm_types.specs.Tags.{tag_parts, tags_read, tags_text}
+use Rattle.farm_types.specs.Reads.{FaultOrNoMemory, refused_code}
 use Rattle.farm_types.specs.Refusals.{bad_tag, bad_count}
+use Rattle.farm_types.specs.declared.fault.WordFault.{WordFault}
 use Rattle.farm_types.proofs.SortedTags.{tags_read_back}
 use Rattle.farm_types.proofs.WordLemmas.{and_parts}
+use Rattle.farm_store.specs.Reading.{ReadsWord}
 
 few : (n : ℕ) → nat_lt 16 n ≡ false → nat_le n 16 ≡ true
 few n h = grind (arith, nat_tests)
@@ -34,3 +38,9 @@ same_text s t e = cc
 pub read_bad : (text : List ℕ) (code : ℕ) (tags : List (List ℕ)) → tags_read text ≡ Err code → IsTags tags → Text text ≡ Text (tags_text tags) → ⊥
 read_bad text code tags refused good is =
     let e = sym refused ∙ ap tags_read (same_text text (tags_text tags) is) ∙ tags_read_back tags good in cc
+
+pub refuses_tags : (r : Result (List (List ℕ)) WordFault) (fault : WordFault) (text : List ℕ) (value : Value) → IsErrAnd r (λ e. e ≡ fault) → value ≡ Text text → FaultOrNoMemory (refused_code fault) (tags_read text)
+    → ReadsWord r IsTags (λ tags. Text (tags_text tags)) value
+refuses_tags (Ok tags) fault text value is there read = absurd is
+refuses_tags (Err e) WordFault.NoMemory text value is there read = λ known. absurd (known is)
+refuses_tags (Err e) (WordFault.Refused refusal) text value is there read = λ _ tags good same. read_bad text refusal.code tags read good (sym there ∙ same)

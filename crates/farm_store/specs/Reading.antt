@@ -8,6 +8,9 @@ use Rattle.sqlite.specs.State.{State}
 use Rattle.sqlite_value.specs.Order.{column}
 use Rattle.farm_types.specs.Farm.{Farm, farm_of}
 use Rattle.farm_types.specs.declared.calls.Rows.{Rows}
+use Rattle.farm_types.specs.declared.fault.WordFault.{WordFault}
+use Rattle.farm_types.specs.declared.fault.WordFault.TheVariants.{NoMemory}
+use Rattle.farm_types.specs.declared.refusal.Refusal.{Refusal}
 use Rattle.farm_store.specs.Columns.{IsOfSchema, TableRows, is_version_row}
 use Rattle.farm_store.specs.Editions.{IsReadableIn, other_edition}
 use Rattle.farm_store.specs.Editions.{rows_in, schema_of, version_fault}
@@ -22,12 +25,16 @@ use Rattle.farm_store.specs.declared.fault.StoreFault.TheVariants.{Store}
 abbrev pub IsNoVersionFault : StoreFault → Type 0
 IsNoVersionFault fault = (fault ≢ OldSchema) × (fault ≢ NewSchema)
 
--- what was read is good and is spelled so; it is refused as bad only where nothing good is spelled
--- so
-abbrev pub ReadsAs : {X V : Type 0} → Result X StoreFault → (X → Type 0) → (X → V) → V → Type 0
+-- what was read is good and is spelled so; it is refused only where nothing good is spelled so
+abbrev pub ReadsAs : {X V : Type 0} → Result X Refusal → (X → Type 0) → (X → V) → V → Type 0
 ReadsAs result IsGood spelled value =
-    MatchResult result (λ x. IsGood x × (value ≡ spelled x)) (λ fault. IsNoVersionFault fault
-    × (fault ≡ BadStore → (x : _) → IsGood x → value ≢ spelled x))
+    MatchResult result (λ x. IsGood x × (value ≡ spelled x)) (λ _. (x : _) → IsGood x → value ≢ spelled x)
+
+-- the same of what takes memory
+abbrev pub ReadsWord : {X V : Type 0} → Result X WordFault → (X → Type 0) → (X → V) → V → Type 0
+ReadsWord result IsGood spelled value =
+    MatchResult result (λ x. IsGood x × (value ≡ spelled x))
+    (λ fault. fault ≢ NoMemory → (x : _) → IsGood x → value ≢ spelled x)
 
 -- these are the row's columns from one place on
 abbrev pub HasColumns : Row → ℕ → Row → Type 0
@@ -35,11 +42,10 @@ HasColumns row at [] = ⊤
 HasColumns row at (v ∷ vs) = (column row at ≡ v) × HasColumns row (suc at) vs
 
 -- the same of a row, column by column
-abbrev pub ReadsRow : {X : Type 0} → Result X StoreFault → (X → Type 0) → (X → Row) → Row → Type 0
+abbrev pub ReadsRow : {X : Type 0} → Result X WordFault → (X → Type 0) → (X → Row) → Row → Type 0
 ReadsRow result IsGood columns row =
     MatchResult result (λ x. IsGood x × HasColumns row 0 (columns x))
-    (λ fault. IsNoVersionFault fault
-    × (fault ≡ BadStore → (x : _) → IsGood x → ¬ HasColumns row 0 (columns x)))
+    (λ fault. fault ≢ NoMemory → (x : _) → IsGood x → ¬ HasColumns row 0 (columns x))
 
 -- the same of all rows of a table
 abbrev pub ReadsAll : {A X : Type 0} → Result A StoreFault → (A → List X) → (X → Type 0) → (X → Row)

@@ -7,43 +7,31 @@ ghost use Rattle.farm_types.specs.Small.{IsSmallBoard, held_by};
 ghost use Rattle.farm_types.specs.Tags.{tags_text};
 ghost use Rattle.farm_types.specs.declared.rows.Holder.{Holder};
 ghost use Rattle.farm_store.specs.Columns.{board_columns, holder_of};
-ghost use Rattle.farm_store.specs.Reading.{IsNoVersionFault};
 ghost use Rattle.farm_store.specs.Schema.{boards_table};
 
-use crate::edition::Edition;
-use crate::fault::StoreFault;
-use crate::queries::cells::{health_at, name_at, number_at, state_at, tags_at};
-use crate::queries::rows::Stored;
-use crate::queries::seen_tags::SeenTags;
+use crate::queries::rows::{BAD, Reader, Stored, health_at, name_at, number_at, state_at, tags_at};
 use crate::tables::{are_columns, is_keyed};
-use crate::upserts::rows::Upsert;
-use crate::upserts::tagged::Tagged;
-use crate::values::{name, number, text};
-use farm_types::{BoardRow, Holder};
+use crate::upserts::{Tagged, Upsert, name, number, text};
+use farm_types::{BoardRow, Holder, Refusal, WordFault};
 use sqlite::types::ValueRef;
 use sqlite::{Alter, Error, Row, Transaction};
 use sqlite_schema::schema::{Kind, Table};
-use std::alloc::Global;
 
 /// Makes the table.
-pub(crate) const MAKE: &str = "\
-    CREATE TABLE boards(name TEXT PRIMARY KEY NOT NULL, kind TEXT NOT NULL, \
-    tags TEXT NOT NULL, health INTEGER NOT NULL, state INTEGER NOT NULL, \
+pub(crate) const MAKE: &str = "CREATE TABLE boards(name TEXT PRIMARY KEY NOT NULL, \
+    kind TEXT NOT NULL, tags TEXT NOT NULL, health INTEGER NOT NULL, state INTEGER NOT NULL, \
     holder INTEGER NOT NULL, held_by INTEGER NOT NULL, jobs_since INTEGER NOT NULL, \
     last_check INTEGER NOT NULL) STRICT";
 
 /// All rows, in order of their keys.
-const READ: &str = "\
-    SELECT name, kind, tags, health, state, holder, held_by, jobs_since, \
+const READ: &str = "SELECT name, kind, tags, health, state, holder, held_by, jobs_since, \
     last_check FROM boards ORDER BY name";
 
 /// Writes a row over the one with its key, or adds it.
-const PUT: &str = "\
-    INSERT INTO boards VALUES (?1, ?2, ?3, ?4, ?5, ?6, ?7, ?8, ?9) \
+const PUT: &str = "INSERT INTO boards VALUES (?1, ?2, ?3, ?4, ?5, ?6, ?7, ?8, ?9) \
     ON CONFLICT (name) DO UPDATE SET kind = excluded.kind, tags = excluded.tags, \
     health = excluded.health, state = excluded.state, holder = excluded.holder, \
-    held_by = excluded.held_by, jobs_since = excluded.jobs_since, \
-    last_check = excluded.last_check";
+    held_by = excluded.held_by, jobs_since = excluded.jobs_since, last_check = excluded.last_check";
 
 /// Whether a table is this one.
 pub(crate) fn is_boards(table: &Table) -> bool
@@ -89,18 +77,14 @@ fn holder_with(kind: u64, number: u64) -> Option<Holder>
 }
 
 /// The holder whose kind and whose number stand at these places.
-fn holder_at(row: &Row, kind: usize, number: usize) -> Result<Holder, StoreFault>
+fn holder_at(row: &Row, kind: usize, number: usize) -> Result<Holder, Refusal>
     ensures { MatchResult result
         (λ holder. (column row.now kind ≡ Int (pos (holder_of holder)))
         × (column row.now number ≡ Int (pos (held_by holder))))
-        (λ fault. IsNoVersionFault fault
-        × (fault ≡ StoreFault.BadStore → (holder : Holder)
-        → column row.now kind ≡ Int (pos (holder_of holder))
-        → column row.now number ≢ Int (pos (held_by holder)))) }
+        (λ _. (holder : Holder) → column row.now kind ≡ Int (pos (holder_of holder))
+        → column row.now number ≢ Int (pos (held_by holder))) }
 {
-    let kind = number_at(row, kind)?;
-    let number = number_at(row, number)?;
-    holder_with(kind, number).ok_or(StoreFault::BadStore)
+    holder_with(number_at(row, kind)?, number_at(row, number)?).ok_or(BAD)
 }
 
 /// Its columns; `tags` is the text of the row's tags.
@@ -161,16 +145,11 @@ impl Stored for BoardRow {
         READ
     }
 
-    fn of(
-        alloc: Global,
-        row: &Row,
-        _: Edition,
-        seen: &mut SeenTags,
-    ) -> Result<BoardRow, StoreFault> {
+    fn of(row: &Row, reader: &mut Reader) -> Result<BoardRow, WordFault> {
         Ok(BoardRow {
-            name: name_at(alloc, row, 0)?,
-            kind: name_at(alloc, row, 1)?,
-            tags: tags_at(alloc, row, 2, seen)?,
+            name: name_at(row, 0, reader)?,
+            kind: name_at(row, 1, reader)?,
+            tags: tags_at(row, 2, reader)?,
             health: health_at(row, 3)?,
             state: state_at(row, 4)?,
             holder: holder_at(row, 5, 6)?,

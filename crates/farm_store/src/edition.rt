@@ -14,15 +14,6 @@ pub(crate) enum Edition {
 }
 
 impl Edition {
-    pub(crate) fn other(self) -> Edition
-        ensures { result ≡ other_edition self }
-    {
-        match self {
-            Edition::First => Edition::Second,
-            Edition::Second => Edition::First,
-        }
-    }
-
     /// The version of its tables.
     pub(crate) fn schema(self) -> u64
         ensures { result ≡ schema_of self }
@@ -33,13 +24,13 @@ impl Edition {
         }
     }
 
-    /// How its tables are refused where those of the other edition are wanted.
-    pub(crate) fn refusal(self) -> StoreFault
-        ensures { result ≡ version_fault self }
+    /// The version of the other edition's tables, and how they are refused where its own are wanted.
+    pub(crate) fn other(self) -> (u64, StoreFault)
+        ensures { result ≡ (schema_of (other_edition self), version_fault (other_edition self)) }
     {
         match self {
-            Edition::First => StoreFault::OldSchema,
-            Edition::Second => StoreFault::NewSchema,
+            Edition::First => (SCHEMA, StoreFault::NewSchema),
+            Edition::Second => (FIRST_SCHEMA, StoreFault::OldSchema),
         }
     }
 }

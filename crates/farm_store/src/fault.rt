@@ -2,9 +2,9 @@
 ghost use Rattle.std.specs.Prelude.{◌≡◌};
 ghost use Rattle.farm_store.specs.Faults.{store_fault_code};
 
-use farm_types::{BAD_STORE, NEW_SCHEMA, NO_MEMORY, OLD_SCHEMA, Refusal, STORE};
+use farm_types::{BAD_STORE, NEW_SCHEMA, NO_MEMORY, OLD_SCHEMA, Refusal, STORE, WordFault};
 use sqlite::Error as SqlError;
-use std::alloc::{AllocError, AllocFailed};
+use std::alloc::AllocError;
 use thiserror::Error;
 
 /// A call of the store was not done. The texts are those of the table of refusals.
@@ -53,14 +53,28 @@ impl From<AllocError> for StoreFault {
     }
 }
 
-impl<T: Drop> From<AllocFailed<T>> for StoreFault {
+impl From<WordFault> for StoreFault {
     ghost use Rattle.std.specs.Prelude.{◌≡◌};
-    ghost use Rattle.farm_store.specs.declared.fault.StoreFault.TheVariants.{NoMemory};
+    ghost use Rattle.farm_store.specs.Faults.{fault_of_word};
 
-    ghost from_gives = { λ _ fault. fault ≡ NoMemory };
+    ghost from_gives = { λ cause fault. fault ≡ fault_of_word cause };
 
-    fn from(_: AllocFailed<T>) -> StoreFault {
-        StoreFault::NoMemory
+    fn from(cause: WordFault) -> StoreFault {
+        match cause {
+            WordFault::NoMemory => StoreFault::NoMemory,
+            WordFault::Refused(_) => StoreFault::BadStore,
+        }
+    }
+}
+
+impl From<Refusal> for StoreFault {
+    ghost use Rattle.std.specs.Prelude.{◌≡◌};
+    ghost use Rattle.farm_store.specs.declared.fault.StoreFault.TheVariants.{BadStore};
+
+    ghost from_gives = { λ _ fault. fault ≡ BadStore };
+
+    fn from(_: Refusal) -> StoreFault {
+        StoreFault::BadStore
     }
 }
 

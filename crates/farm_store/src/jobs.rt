@@ -16,46 +16,39 @@ ghost use Rattle.farm_store.specs.Edits.{GoesOn};
 ghost use Rattle.farm_store.specs.Holds.{IsInside};
 ghost use Rattle.farm_store.specs.Raising.{raised_below};
 ghost use Rattle.farm_store.specs.Schema.{jobs_table};
+ghost use Rattle.farm_store.specs.declared.edition.Edition.{Edition};
 
-use crate::edition::Edition;
-use crate::fault::StoreFault;
-use crate::queries::cells::{
-    body_at, checking_at, job_state_at, name_at, name_if_any_at, number_at, outcome_at,
-    priority_at, tags_at,
+use crate::queries::rows::{
+    Reader, Stored, body_at, checking_at, job_state_at, name_at, name_if_any_at, number_at,
+    outcome_at, priority_at, tags_at,
 };
-use crate::queries::rows::Stored;
-use crate::queries::seen_tags::SeenTags;
 use crate::tables::{are_columns, is_numbered};
-use crate::upserts::rows::Upsert;
-use crate::upserts::tagged::Tagged;
-use crate::values::{name, name_if_any, number, text};
-use farm_types::{JobRow, Want};
+use crate::upserts::{Tagged, Upsert, name, name_if_any, number, text};
+use farm_types::{JobRow, Want, WordFault};
 use sqlite::types::ValueRef;
 use sqlite::{Alter, Error, Row, Transaction};
 use sqlite_schema::schema::{Kind, Table};
-use std::alloc::Global;
 
 /// Makes the table.
-pub(crate) const MAKE: &str = "\
-    CREATE TABLE jobs(number INTEGER PRIMARY KEY NOT NULL, grp INTEGER NOT NULL, \
-    checking INTEGER NOT NULL, owner TEXT NOT NULL, priority INTEGER NOT NULL, \
-    kind TEXT NOT NULL, tags TEXT NOT NULL, role TEXT NOT NULL, state INTEGER NOT NULL, \
-    outcome INTEGER NOT NULL, board TEXT NOT NULL, body TEXT NOT NULL) STRICT";
+pub(crate) const MAKE: &str = "CREATE TABLE jobs(number INTEGER PRIMARY KEY NOT NULL, \
+    grp INTEGER NOT NULL, checking INTEGER NOT NULL, owner TEXT NOT NULL, \
+    priority INTEGER NOT NULL, kind TEXT NOT NULL, tags TEXT NOT NULL, role TEXT NOT NULL, \
+    state INTEGER NOT NULL, outcome INTEGER NOT NULL, board TEXT NOT NULL, \
+    body TEXT NOT NULL) STRICT";
 
 /// All rows, in order of their keys.
-const READ: &str = "\
-    SELECT number, grp, checking, owner, priority, kind, tags, role, state, outcome, board, \
-    body FROM jobs ORDER BY number";
+const READ: &str = "SELECT number, grp, checking, owner, priority, kind, tags, role, state, \
+    outcome, board, body FROM jobs ORDER BY number";
 
 /// Puts a row in the place of the one with its key, or adds it.
-const PUT: &str = "\
-    INSERT OR REPLACE INTO jobs VALUES (?1, ?2, ?3, ?4, ?5, ?6, ?7, ?8, ?9, ?10, ?11, ?12)";
+const PUT: &str = "INSERT OR REPLACE INTO jobs VALUES (?1, ?2, ?3, ?4, ?5, ?6, ?7, ?8, ?9, ?10, \
+    ?11, ?12)";
 
 /// Gives each state of the jobs from one number to another its code of the second edition, where
 /// that is another one. The codes of the first are 0 to 4, and each but 0 grows by 1; 5, which is no
 /// code there, becomes Scheduling's 1.
-const RAISE: &str = "\
-    UPDATE jobs SET state = state % 5 + 1 WHERE state > 0 AND number >= ?1 AND number < ?2";
+const RAISE: &str = "UPDATE jobs SET state = state % 5 + 1 WHERE state > 0 AND number >= ?1 \
+    AND number < ?2";
 
 /// How many jobs one such statement takes.
 const WINDOW: usize = 100;
@@ -89,10 +82,7 @@ pub(crate) fn is_jobs(table: &Table) -> bool
 fn outcome(row: &JobRow) -> ValueRef<'_>
     ensures { owned result ≡ Int (pos (option_map_or outcome_code row.now.outcome 0)) }
 {
-    match row.outcome {
-        Some(outcome) => number(outcome.code()),
-        None => number(0),
-    }
+    number(row.outcome.map_or(0, |outcome| outcome.code()))
 }
 
 /// Its columns; `tags` is the text of the tags that it wants.
@@ -138,8 +128,7 @@ fn raise_window<S: Alter>(tx: &mut Transaction<'_, S>, from: u64, end: u64) -> R
         → IsInside (state S.Store tx.old.conn.now) (raised_below from jobs T)
         → IsInside (state S.Store tx.new.conn.now) (raised_below end jobs T)) }
 {
-    let bounds = bounds(from, end);
-    tx.execute(RAISE, &bounds)?;
+    tx.execute(RAISE, &bounds(from, end))?;
     Ok(())
 }
 
@@ -203,27 +192,22 @@ impl Stored for JobRow {
         READ
     }
 
-    fn of(
-        alloc: Global,
-        row: &Row,
-        edition: Edition,
-        seen: &mut SeenTags,
-    ) -> Result<JobRow, StoreFault> {
+    fn of(row: &Row, reader: &mut Reader) -> Result<JobRow, WordFault> {
         Ok(JobRow {
             number: number_at(row, 0)?,
             group: number_at(row, 1)?,
             checking: checking_at(row, 2)?,
-            owner: name_at(alloc, row, 3)?,
+            owner: name_at(row, 3, reader)?,
             priority: priority_at(row, 4)?,
             want: Want {
-                kind: name_if_any_at(alloc, row, 5)?,
-                tags: tags_at(alloc, row, 6, seen)?,
+                kind: name_if_any_at(row, 5, reader)?,
+                tags: tags_at(row, 6, reader)?,
             },
-            role: name_if_any_at(alloc, row, 7)?,
-            state: job_state_at(row, 8, edition)?,
+            role: name_if_any_at(row, 7, reader)?,
+            state: job_state_at(row, 8, reader.edition)?,
             outcome: outcome_at(row, 9)?,
-            board: name_if_any_at(alloc, row, 10)?,
-            body: body_at(alloc, row, 11)?,
+            board: name_if_any_at(row, 10, reader)?,
+            body: body_at(row, 11, reader)?,
         })
     }
 

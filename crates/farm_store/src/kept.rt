@@ -5,25 +5,18 @@ ghost use Rattle.farm_types.specs.Small.{IsSmallKept};
 ghost use Rattle.farm_store.specs.Columns.{kept_columns};
 ghost use Rattle.farm_store.specs.Schema.{kept_table};
 
-use crate::edition::Edition;
-use crate::fault::StoreFault;
-use crate::queries::cells::{key_at, name_at, number_at};
-use crate::queries::rows::Stored;
-use crate::queries::seen_tags::SeenTags;
+use crate::queries::rows::{Reader, Stored, key_at, name_at, number_at};
 use crate::tables::{are_columns, is_keyed};
-use crate::upserts::rows::Upsert;
-use crate::values::{name, number, text};
-use farm_types::{KeptRow, Reply};
+use crate::upserts::{Upsert, name, number, text};
+use farm_types::{KeptRow, Reply, WordFault};
 use sqlite::types::ValueRef;
 use sqlite::{Alter, Error, Row, Transaction};
 use sqlite_schema::schema::{Kind, Table};
-use std::alloc::Global;
 
 /// Makes the table.
-pub(crate) const MAKE: &str = "\
-    CREATE TABLE kept(caller TEXT NOT NULL, ckey TEXT NOT NULL, kind INTEGER NOT NULL, \
-    a INTEGER NOT NULL, b INTEGER NOT NULL, c INTEGER NOT NULL, PRIMARY KEY(caller, \
-    ckey)) STRICT";
+pub(crate) const MAKE: &str = "CREATE TABLE kept(caller TEXT NOT NULL, ckey TEXT NOT NULL, \
+    kind INTEGER NOT NULL, a INTEGER NOT NULL, b INTEGER NOT NULL, c INTEGER NOT NULL, \
+    PRIMARY KEY(caller, ckey)) STRICT";
 
 /// All rows, in order of their keys.
 const READ: &str = "SELECT caller, ckey, kind, a, b, c FROM kept ORDER BY caller, ckey";
@@ -98,10 +91,10 @@ impl Stored for KeptRow {
         READ
     }
 
-    fn of(alloc: Global, row: &Row, _: Edition, _: &mut SeenTags) -> Result<KeptRow, StoreFault> {
+    fn of(row: &Row, reader: &mut Reader) -> Result<KeptRow, WordFault> {
         Ok(KeptRow {
-            caller: name_at(alloc, row, 0)?,
-            key: key_at(alloc, row, 1)?,
+            caller: name_at(row, 0, reader)?,
+            key: key_at(row, 1, reader)?,
             kind: number_at(row, 2)?,
             reply: Reply(number_at(row, 3)?, number_at(row, 4)?, number_at(row, 5)?),
         })

@@ -22,7 +22,6 @@ mod schema;
 mod tables;
 mod types;
 mod upserts;
-mod values;
 
 // The tables, made anew, and the numbers of their editions.
 pub use schema::{FIRST_SCHEMA, SCHEMA, create};

@@ -1,5 +1,5 @@
 //! The table of the farm's numbers: its statements, and what its rows stand for.
-ghost use Rattle.std.specs.Prelude.{◌≡◌, ◌↔◌, [], ◌∷◌, IfErr, IfOk, IsTrue, OnOk};
+ghost use Rattle.std.specs.Prelude.{◌≡◌, ◌↔◌, [], ◌∷◌, IfOk, IsTrue, OnOk};
 ghost use Rattle.std.specs.Prelude.{MatchResult, false, ⊤};
 ghost use Rattle.std.specs.List.{AllByRecursion, list_any};
 ghost use Rattle.sqlite.specs.Held.{state};
@@ -11,38 +11,38 @@ ghost use Rattle.farm_store.specs.Editions.{IsCollectorIn, meta_rows_in};
 ghost use Rattle.farm_store.specs.Edits.{ChangesTables, GoesOn, StaysOpen};
 ghost use Rattle.farm_store.specs.Holds.{IsInside, ReadsOnly, Stands};
 ghost use Rattle.farm_store.specs.Places.{of_meta, put_at};
-ghost use Rattle.farm_store.specs.Reading.{IsNoVersionFault, IsVersion, IsVersionFault, ReadsAs};
+ghost use Rattle.farm_store.specs.Reading.{IsVersion, IsVersionFault, ReadsAs};
 ghost use Rattle.farm_store.specs.Schema.{meta_table};
 ghost use Rattle.farm_store.specs.Stored.{IsWide};
 ghost use Rattle.farm_store.specs.Versions.{ShowsNumbers};
 
 use crate::edition::Edition;
 use crate::fault::StoreFault;
-use crate::queries::cells::{is_number_at, is_text_at, number_at, text_at};
+use crate::queries::rows::{BAD, number_at, text_at};
 use crate::schema::{FIRST_SCHEMA, SCHEMA};
 use crate::tables::{are_columns, is_keyed};
-use crate::values::{number, text};
-use farm_types::MetaRow;
+use crate::upserts::{number, text};
+use farm_types::{MetaRow, Refusal};
 use sqlite::{Alter, Connection, Error, Row, Transaction};
 use sqlite_schema::schema::{Kind, Table};
 
 /// Makes the table.
-pub(crate) const MAKE: &str = "\
-    CREATE TABLE meta(name TEXT PRIMARY KEY NOT NULL, value INTEGER NOT NULL) STRICT";
+pub(crate) const MAKE: &str = "CREATE TABLE meta(name TEXT PRIMARY KEY NOT NULL, \
+    value INTEGER NOT NULL) STRICT";
 
 /// All rows, in order of their keys.
 const READ: &str = "SELECT name, value FROM meta ORDER BY name";
 
 /// Puts a row's value into the row with its key, or adds it.
-const PUT: &str = "\
-    INSERT INTO meta VALUES (?1, ?2) ON CONFLICT (name) DO UPDATE SET value = excluded.value";
+const PUT: &str = "INSERT INTO meta VALUES (?1, ?2) ON CONFLICT (name) DO \
+    UPDATE SET value = excluded.value";
 
 /// Writes the four numbers over those that are there, where they are others: one statement, which
 /// reads the table once.
-const CHANGE: &str = "\
-    UPDATE meta SET value = CASE name WHEN 'clock' THEN ?1 WHEN 'collector' THEN ?2 \
-    WHEN 'count' THEN ?3 ELSE ?4 END WHERE value <> CASE name WHEN 'clock' THEN ?1 \
-    WHEN 'collector' THEN ?2 WHEN 'count' THEN ?3 WHEN 'next' THEN ?4 ELSE value END";
+const CHANGE: &str = "UPDATE meta SET value = CASE name WHEN 'clock' THEN ?1 \
+    WHEN 'collector' THEN ?2 WHEN 'count' THEN ?3 ELSE ?4 END WHERE value <> CASE name \
+    WHEN 'clock' THEN ?1 WHEN 'collector' THEN ?2 WHEN 'count' THEN ?3 \
+    WHEN 'next' THEN ?4 ELSE value END";
 
 /// Whether a table is this one.
 pub(crate) fn is_numbers(table: &Table) -> bool
@@ -65,8 +65,7 @@ pub(crate) fn put_number<S: Alter>(
     ensures stays_open { StaysOpen result (state S.Store tx.old.conn.now)
         (state S.Store tx.new.conn.now) }
 {
-    let columns = [text(name), number(value)];
-    tx.execute(PUT, &columns)?;
+    tx.execute(PUT, &[text(name), number(value)])?;
     Ok(())
 }
 
@@ -98,75 +97,66 @@ pub(crate) fn change_numbers<S: Alter>(
 }
 
 /// The number of the row with that name.
-fn number_of(row: &Row, name: &str) -> Result<u64, StoreFault>
-    ensures read { IsWide of_meta.width row.now
+fn number_of(row: &Row, name: &str) -> Result<u64, Refusal>
+    ensures { IsWide of_meta.width row.now
         → ReadsAs result (λ _. ⊤) (λ value. meta_row name.now value) row.now }
-    ensures fault { IfErr result IsNoVersionFault }
 {
     if text_at(row, 0)? == name.as_bytes() {
         number_at(row, 1)
     } else {
-        Err(StoreFault::BadStore)
+        Err(BAD)
     }
 }
 
 /// The farm's numbers in the first edition, where their four rows are all that there is: no group
 /// collects.
-fn first_numbers_of(rows: &[Row]) -> Result<MetaRow, StoreFault>
+fn first_numbers_of(rows: &[Row]) -> Result<MetaRow, Refusal>
     ensures read { AllByRecursion (IsWide of_meta.width) rows.now
         → ReadsAs result (λ m. m.collector ≡ 0) first_meta_rows rows.now }
     ensures none { IfOk result (λ m. m.collector ≡ 0) }
-    ensures fault { IfErr result IsNoVersionFault }
 {
     let [clock, count, next, schema] = rows else {
-        return Err(StoreFault::BadStore);
+        return Err(BAD);
     };
-    let clock = number_of(clock, "clock")?;
-    let count = number_of(count, "count")?;
-    let next = number_of(next, "next")?;
+    let numbers = MetaRow {
+        clock: number_of(clock, "clock")?,
+        collector: 0,
+        count: number_of(count, "count")?,
+        next: number_of(next, "next")?,
+    };
     if number_of(schema, "schema")? == FIRST_SCHEMA {
-        Ok(MetaRow {
-            clock,
-            collector: 0,
-            count,
-            next,
-        })
+        Ok(numbers)
     } else {
-        Err(StoreFault::BadStore)
+        Err(BAD)
     }
 }
 
 /// The farm's numbers, where their five rows are all that there is.
-fn second_numbers_of(rows: &[Row]) -> Result<MetaRow, StoreFault>
-    ensures read { AllByRecursion (IsWide of_meta.width) rows.now
+fn second_numbers_of(rows: &[Row]) -> Result<MetaRow, Refusal>
+    ensures { AllByRecursion (IsWide of_meta.width) rows.now
         → ReadsAs result (λ _. ⊤) meta_rows rows.now }
-    ensures fault { IfErr result IsNoVersionFault }
 {
     let [clock, collector, count, next, schema] = rows else {
-        return Err(StoreFault::BadStore);
+        return Err(BAD);
     };
-    let clock = number_of(clock, "clock")?;
-    let collector = number_of(collector, "collector")?;
-    let count = number_of(count, "count")?;
-    let next = number_of(next, "next")?;
+    let numbers = MetaRow {
+        clock: number_of(clock, "clock")?,
+        collector: number_of(collector, "collector")?,
+        count: number_of(count, "count")?,
+        next: number_of(next, "next")?,
+    };
     if number_of(schema, "schema")? == SCHEMA {
-        Ok(MetaRow {
-            clock,
-            collector,
-            count,
-            next,
-        })
+        Ok(numbers)
     } else {
-        Err(StoreFault::BadStore)
+        Err(BAD)
     }
 }
 
 /// The farm's numbers in an edition.
-pub(crate) fn numbers_of(rows: &[Row], edition: Edition) -> Result<MetaRow, StoreFault>
+pub(crate) fn numbers_of(rows: &[Row], edition: Edition) -> Result<MetaRow, Refusal>
     ensures read { AllByRecursion (IsWide of_meta.width) rows.now
         → ReadsAs result (λ m. IsCollectorIn edition m.collector) (meta_rows_in edition) rows.now }
     ensures collector { IfOk result (λ m. IsCollectorIn edition m.collector) }
-    ensures fault { IfErr result IsNoVersionFault }
 {
     match edition {
         Edition::First => first_numbers_of(rows),
@@ -178,7 +168,8 @@ pub(crate) fn numbers_of(rows: &[Row], edition: Edition) -> Result<MetaRow, Stor
 fn is_version(row: &Row, version: u64) -> bool
     ensures { result ≡ is_version_row version row.now }
 {
-    is_text_at(row, 0, "schema") && is_number_at(row, 1, version)
+    text_at(row, 0).is_ok_and(|text| text == "schema".as_bytes())
+        && number_at(row, 1).is_ok_and(|number| number == version)
 }
 
 /// Whether one of the rows has this version of the tables.
@@ -193,9 +184,9 @@ pub(crate) fn look_at_schema(rows: &[Row], edition: Edition) -> Result<(), Store
     ensures { MatchResult result (λ _. IsVersion edition rows.now)
         (λ fault. IsVersionFault edition fault rows.now) }
 {
-    let other = edition.other();
-    if have_version(rows, other.schema()) {
-        Err(other.refusal())
+    let (other, refusal) = edition.other();
+    if have_version(rows, other) {
+        Err(refusal)
     } else if have_version(rows, edition.schema()) {
         Ok(())
     } else {

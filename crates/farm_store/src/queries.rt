@@ -1,7 +1,5 @@
 //! The rows of the tables, read.
-pub(crate) mod cells;
 pub(crate) mod rows;
-pub(crate) mod seen_tags;
 
 ghost use Rattle.std.specs.Prelude.{◌≡◌, ◌≢◌, false, Err, IfErr, IfOk, IsTrue, OnOk};
 ghost use Rattle.sqlite.specs.Held.{state};
@@ -18,10 +16,7 @@ use crate::fault::StoreFault;
 use crate::meta::{look_at_schema, meta_rows, numbers_of};
 use crate::queries::rows::read;
 use crate::tables::is_farm_schema;
-use farm_types::{
-    BoardRow, JobRow, KeptRow, MOST_JOBS, MOST_REPLIES, MOST_RESERVATIONS, MetaRow, ResRow, Rows,
-    TypeRow,
-};
+use farm_types::{MOST_JOBS, MOST_REPLIES, MOST_RESERVATIONS, MetaRow, Rows};
 use sqlite::{Alter, Connection};
 use std::alloc::Global;
 
@@ -45,20 +40,12 @@ fn read_tables<S: Alter>(
     ensures numbers { IfOk result (λ rows. rows.meta ≡ meta) }
     ensures fault { IfErr result IsNoVersionFault }
 {
-    let jobs_there = expected(meta.next, MOST_JOBS);
-    let reservations_there = expected(meta.next, MOST_RESERVATIONS);
-    let replies_there = expected(meta.count, MOST_REPLIES);
-    let types = read::<TypeRow, S>(alloc, conn, edition, 0)?;
-    let boards = read::<BoardRow, S>(alloc, conn, edition, 0)?;
-    let jobs = read::<JobRow, S>(alloc, conn, edition, jobs_there)?;
-    let reservations = read::<ResRow, S>(alloc, conn, edition, reservations_there)?;
-    let kept = read::<KeptRow, S>(alloc, conn, edition, replies_there)?;
     Ok(Rows {
-        types,
-        boards,
-        jobs,
-        reservations,
-        kept,
+        types: read(alloc, conn, edition, 0)?,
+        boards: read(alloc, conn, edition, 0)?,
+        jobs: read(alloc, conn, edition, expected(meta.next, MOST_JOBS))?,
+        reservations: read(alloc, conn, edition, expected(meta.next, MOST_RESERVATIONS))?,
+        kept: read(alloc, conn, edition, expected(meta.count, MOST_REPLIES))?,
         meta,
     })
 }

@@ -59,6 +59,5 @@ pub fn raise<S: Alter>(conn: &mut Connection<S>, rows: &Rows) -> Result<(), Stor
 {
     let mut tx = conn.transaction();
     raise_all(&mut tx, rows)?;
-    tx.commit()?;
-    Ok(())
+    Ok(tx.commit()?)
 }

@@ -6,33 +6,24 @@ ghost use Rattle.farm_types.specs.Tags.{tags_text};
 ghost use Rattle.farm_store.specs.Columns.{res_columns};
 ghost use Rattle.farm_store.specs.Schema.{reservations_table};
 
-use crate::edition::Edition;
-use crate::fault::StoreFault;
-use crate::queries::cells::{
-    name_at, name_if_any_at, number_at, priority_at, res_state_at, tags_at,
+use crate::queries::rows::{
+    Reader, Stored, name_at, name_if_any_at, number_at, priority_at, res_state_at, tags_at,
 };
-use crate::queries::rows::Stored;
-use crate::queries::seen_tags::SeenTags;
 use crate::tables::{are_columns, is_numbered};
-use crate::upserts::rows::Upsert;
-use crate::upserts::tagged::Tagged;
-use crate::values::{name, name_if_any, number, text};
-use farm_types::{ResRow, Want};
+use crate::upserts::{Tagged, Upsert, name, name_if_any, number, text};
+use farm_types::{ResRow, Want, WordFault};
 use sqlite::types::ValueRef;
 use sqlite::{Alter, Error, Row, Transaction};
 use sqlite_schema::schema::{Kind, Table};
-use std::alloc::Global;
 
 /// Makes the table.
-pub(crate) const MAKE: &str = "\
-    CREATE TABLE reservations(number INTEGER PRIMARY KEY NOT NULL, owner TEXT NOT NULL, \
-    priority INTEGER NOT NULL, tags TEXT NOT NULL, state INTEGER NOT NULL, \
+pub(crate) const MAKE: &str = "CREATE TABLE reservations(number INTEGER PRIMARY KEY NOT NULL, \
+    owner TEXT NOT NULL, priority INTEGER NOT NULL, tags TEXT NOT NULL, state INTEGER NOT NULL, \
     deadline INTEGER NOT NULL, board TEXT NOT NULL) STRICT";
 
 /// All rows, in order of their keys.
-const READ: &str = "\
-    SELECT number, owner, priority, tags, state, deadline, \
-    board FROM reservations ORDER BY number";
+const READ: &str = "SELECT number, owner, priority, tags, state, deadline, board FROM reservations \
+    ORDER BY number";
 
 /// Puts a row in the place of the one with its key, or adds it.
 const PUT: &str = "INSERT OR REPLACE INTO reservations VALUES (?1, ?2, ?3, ?4, ?5, ?6, ?7)";
@@ -108,18 +99,18 @@ impl Stored for ResRow {
         READ
     }
 
-    fn of(alloc: Global, row: &Row, _: Edition, seen: &mut SeenTags) -> Result<ResRow, StoreFault> {
+    fn of(row: &Row, reader: &mut Reader) -> Result<ResRow, WordFault> {
         Ok(ResRow {
             number: number_at(row, 0)?,
-            owner: name_at(alloc, row, 1)?,
+            owner: name_at(row, 1, reader)?,
             priority: priority_at(row, 2)?,
             want: Want {
                 kind: None,
-                tags: tags_at(alloc, row, 3, seen)?,
+                tags: tags_at(row, 3, reader)?,
             },
             state: res_state_at(row, 4)?,
             deadline: number_at(row, 5)?,
-            board: name_if_any_at(alloc, row, 6)?,
+            board: name_if_any_at(row, 6, reader)?,
         })
     }
 

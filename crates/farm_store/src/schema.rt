@@ -103,6 +103,5 @@ pub fn create<S: Alter>(conn: &mut Connection<S>) -> Result<(), StoreFault>
     let mut tx = conn.transaction();
     make_all(&mut tx)?;
     put_first_numbers(&mut tx)?;
-    tx.commit()?;
-    Ok(())
+    Ok(tx.commit()?)
 }

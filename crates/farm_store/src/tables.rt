@@ -1,5 +1,5 @@
 //! Whether a store's tables are the farm's.
-ghost use Rattle.std.specs.Prelude.{◌≡◌, ◌↔◌, ◌∷◌, [], IsTrue, codes, true, map};
+ghost use Rattle.std.specs.Prelude.{◌≡◌, ◌↔◌, ◌∷◌, [], IsTrue, true, map};
 ghost use Rattle.farm_store.specs.Schema.{IsBare, farm_indexes, farm_schema, key_index, keyed_table};
 ghost use Rattle.farm_store.specs.Schema.{no_schema, numbered_table, strict_column};
 
@@ -11,7 +11,7 @@ use crate::reservations::is_reservations;
 use crate::types::is_types;
 use sqlite_items::Items;
 use sqlite_schema::schema::{Column, Index, Kind, Schema, Table};
-use sqlite_value::keys::{Collation, Order};
+use sqlite_value::keys::Collation;
 use sqlite_value::value::Value;
 
 /// Whether a column of a STRICT table is NOT NULL, and has no default.
@@ -62,26 +62,14 @@ fn has_places(key: &Items<usize>, places: &[usize]) -> bool
 fn is_unique_over(table: &Table, places: &[usize]) -> bool
     ensures { IsTrue result ↔ (table.now.uniques ≡ places.now ∷ []) }
 {
-    match table.uniques.as_slice() {
-        [unique] => has_places(unique, places),
-        _ => false,
-    }
-}
-
-fn is_plain(order: &Order) -> bool
-    ensures { IsTrue result ↔ (order.now ≡ record { digits = 0 }) }
-{
-    order.digits == 0
+    matches!(table.uniques.as_slice(), [unique] if has_places(unique, places))
 }
 
 /// Whether a table has one UNIQUE, in plain order.
 fn is_ordered_plainly(table: &Table) -> bool
     ensures { IsTrue result ↔ (table.now.orders ≡ record { digits = 0 } ∷ []) }
 {
-    match table.orders.as_slice() {
-        [order] => is_plain(order),
-        _ => false,
-    }
+    matches!(table.orders.as_slice(), [order] if order.digits == 0)
 }
 
 /// Whether a table, whatever its columns, has this name and this tree, and is keyed by the columns
@@ -122,7 +110,7 @@ fn is_key(index: &Index, name: &str, table: u32, places: &[usize]) -> bool
         && index.table == table
         && u64::from(index.tree) == u64::from(table) + 1
         && index.columns.as_slice() == places
-        && is_plain(&index.order)
+        && index.order.digits == 0
         && index.is_unique
 }
 
@@ -142,45 +130,30 @@ fn are_tables(tables: &[Table]) -> bool
     }
 }
 
-fn is_key_of_types(index: &Index) -> bool
+/// Whether these are such indexes, in this order.
+fn are_keys(indexes: &[Index], wanted: &[(&str, u32, &[usize])]) -> bool
     ensures { IsTrue result
-        ↔ (index.now ≡ key_index (codes "sqlite_autoindex_types_1") 0 (1 ∷ [])) }
+        ↔ (indexes.now ≡ map (λ w. key_index w.0.now w.1 w.2.now) wanted.now) }
 {
-    is_key(index, "sqlite_autoindex_types_1", 0, &[1])
-}
-
-fn is_key_of_boards(index: &Index) -> bool
-    ensures { IsTrue result
-        ↔ (index.now ≡ key_index (codes "sqlite_autoindex_boards_1") 2 (1 ∷ [])) }
-{
-    is_key(index, "sqlite_autoindex_boards_1", 2, &[1])
-}
-
-fn is_key_of_replies(index: &Index) -> bool
-    ensures { IsTrue result
-        ↔ (index.now ≡ key_index (codes "sqlite_autoindex_kept_1") 6 (1 ∷ 2 ∷ [])) }
-{
-    is_key(index, "sqlite_autoindex_kept_1", 6, &[1, 2])
-}
-
-fn is_key_of_numbers(index: &Index) -> bool
-    ensures { IsTrue result ↔ (index.now ≡ key_index (codes "sqlite_autoindex_meta_1") 8 (1 ∷ [])) }
-{
-    is_key(index, "sqlite_autoindex_meta_1", 8, &[1])
+    match (indexes, wanted) {
+        ([], []) => true,
+        ([index, indexes @ ..], [(name, table, places), wanted @ ..]) => {
+            is_key(index, name, *table, places) && are_keys(indexes, wanted)
+        }
+        _ => false,
+    }
 }
 
 fn are_indexes(indexes: &[Index]) -> bool
     ensures { IsTrue result ↔ (indexes.now ≡ farm_indexes) }
 {
-    match indexes {
-        [types, boards, replies, numbers] => {
-            is_key_of_types(types)
-                && is_key_of_boards(boards)
-                && is_key_of_replies(replies)
-                && is_key_of_numbers(numbers)
-        }
-        _ => false,
-    }
+    let wanted: [(&str, u32, &[usize]); 4] = [
+        ("sqlite_autoindex_types_1", 0, &[1]),
+        ("sqlite_autoindex_boards_1", 2, &[1]),
+        ("sqlite_autoindex_kept_1", 6, &[1, 2]),
+        ("sqlite_autoindex_meta_1", 8, &[1]),
+    ];
+    are_keys(indexes, &wanted)
 }
 
 #[tactic(auto, using(crate::proofs::Ours::schema_is))]

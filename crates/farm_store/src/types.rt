@@ -6,24 +6,17 @@ ghost use Rattle.farm_types.specs.declared.rows.Check.{Check};
 ghost use Rattle.farm_store.specs.Columns.{type_columns, unit_code};
 ghost use Rattle.farm_store.specs.Schema.{types_table};
 
-use crate::edition::Edition;
-use crate::fault::StoreFault;
-use crate::queries::cells::{name_at, number_at};
-use crate::queries::rows::Stored;
-use crate::queries::seen_tags::SeenTags;
+use crate::queries::rows::{BAD, Reader, Stored, name_at, number_at};
 use crate::tables::{are_columns, is_keyed};
-use crate::upserts::rows::Upsert;
-use crate::values::{name, number};
-use farm_types::{Check, TypeRow};
+use crate::upserts::{Upsert, name, number};
+use farm_types::{Check, TypeRow, WordFault};
 use sqlite::types::ValueRef;
 use sqlite::{Alter, Error, Row, Transaction};
 use sqlite_schema::schema::{Kind, Table};
-use std::alloc::Global;
 
 /// Makes the table.
-pub(crate) const MAKE: &str = "\
-    CREATE TABLE types(name TEXT PRIMARY KEY NOT NULL, unit INTEGER NOT NULL, \
-    every INTEGER NOT NULL) STRICT";
+pub(crate) const MAKE: &str = "CREATE TABLE types(name TEXT PRIMARY KEY NOT NULL, \
+    unit INTEGER NOT NULL, every INTEGER NOT NULL) STRICT";
 
 /// All rows, in order of their keys.
 const READ: &str = "SELECT name, unit, every FROM types ORDER BY name";
@@ -115,11 +108,9 @@ impl Stored for TypeRow {
         READ
     }
 
-    fn of(alloc: Global, row: &Row, _: Edition, _: &mut SeenTags) -> Result<TypeRow, StoreFault> {
-        let name = name_at(alloc, row, 0)?;
-        let unit = number_at(row, 1)?;
-        let every = number_at(row, 2)?;
-        let check = check_of(unit, every).ok_or(StoreFault::BadStore)?;
+    fn of(row: &Row, reader: &mut Reader) -> Result<TypeRow, WordFault> {
+        let name = name_at(row, 0, reader)?;
+        let check = check_of(number_at(row, 1)?, number_at(row, 2)?).ok_or(BAD)?;
         Ok(TypeRow { name, check })
     }
 

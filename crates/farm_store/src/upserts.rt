@@ -1,26 +1,110 @@
 //! Rows put into the tables.
-pub(crate) mod rows;
 pub(crate) mod tagged;
-pub(crate) mod texts;
 
-ghost use Rattle.std.specs.Prelude.{◌≡◌, ◌⊎◌, false, IsTrue, Err, IfErr, OnOk};
+ghost use Rattle.std.specs.Prelude.{◌≡◌, ◌⊎◌, false, IsTrue, Err, IfErr, IfOk, OnOk, map, pos};
+ghost use Rattle.std.specs.Prelude.{unwrap_or, []};
+ghost use Rattle.std.specs.List.{AllByRecursion};
 ghost use Rattle.sqlite.specs.Held.{state};
 ghost use Rattle.sqlite.specs.State.{HasCleanDisk};
+ghost use Rattle.sqlite.specs.declared.types.Value.TheVariants.{Int, Text};
+ghost use Rattle.sqlite_value.specs.Value.{owned};
 ghost use Rattle.farm_types.specs.Farm.{Farm, put_rows};
-ghost use Rattle.farm_types.specs.Small.{AreSmall};
+ghost use Rattle.farm_types.specs.Small.{AreSmall, IsSmall};
 ghost use Rattle.farm_store.specs.Columns.{rows_of};
-ghost use Rattle.farm_store.specs.Edits.{GoesOn};
+ghost use Rattle.farm_store.specs.Edits.{ChangesTables, GoesOn};
 ghost use Rattle.farm_store.specs.Holds.{IsInside, KeepsDoubt, Stands, LeavesEither};
+ghost use Rattle.farm_store.specs.Places.{put_at};
 ghost use Rattle.farm_store.specs.Texts.{AreBeside};
 
 use crate::fault::StoreFault;
 use crate::meta::change_numbers;
-use crate::upserts::rows::put_rows;
-use crate::upserts::tagged::Tagged;
-use crate::upserts::texts::tagged_rows;
-use farm_types::{BoardRow, Changes, JobRow, ResRow};
+use farm_types::{BoardRow, Changes, JobRow, Name, ResRow};
+use sqlite::types::ValueRef;
 use sqlite::{Alter, Connection, Error, Transaction};
-use std::alloc::Global;
+use std::alloc::{AllocError, Global};
+pub(crate) use tagged::{HasTags, Tagged};
+
+pub(crate) fn number<'a>(n: u64) -> ValueRef<'a>
+    requires { IsSmall n }
+    ensures { owned result ≡ Int (pos n) }
+{
+    ValueRef::Int(n as i64)
+}
+
+pub(crate) fn text(text: &str) -> ValueRef<'_>
+    ensures { owned result ≡ Text text.now }
+{
+    ValueRef::Text(text.as_bytes())
+}
+
+pub(crate) fn name(name: &Name) -> ValueRef<'_>
+    ensures { owned result ≡ Text name.now }
+{
+    text(name.as_str())
+}
+
+/// The empty text stands for no name.
+pub(crate) fn name_if_any(name: &Option<Name>) -> ValueRef<'_>
+    ensures { owned result ≡ Text (unwrap_or name.now []) }
+{
+    text(name.as_ref().map_or("", |name| name.as_str()))
+}
+
+/// A row that its table's statement puts, with all that its columns are made of.
+pub(crate) trait Upsert {
+    ghost use Rattle.std.specs.Prelude.{[], ◌∷◌};
+    ghost use Rattle.sqlite.specs.Held.{state};
+    ghost use Rattle.sqlite.specs.Order.{Row};
+    ghost use Rattle.farm_store.specs.Edits.{ChangesTables, GoesOn};
+    ghost use Rattle.farm_store.specs.Places.{IsTableSlot, TableSlot, put_at};
+
+    ghost place: { TableSlot };
+
+    ghost columns: { Self → Row };
+
+    ghost IsSmall: { Self → Type 0 };
+
+    /// Puts it in the place of the row with its key, or adds it.
+    fn put<S: Alter>(&self, tx: &mut Transaction<'_, S>) -> Result<(), Error>
+        requires small { IsSmall self.now }
+        ensures goes_on { GoesOn S.Store tx.old tx.new }
+        ensures put { ChangesTables result (state S.Store tx.old.conn.now)
+            (state S.Store tx.new.conn.now) (λ T. put_at place T (columns self.now ∷ [])) };
+
+    /// It is one of the tables' places.
+    ghost is_place: { IsTableSlot place };
+}
+
+/// Puts each row, in this order.
+pub(crate) fn put_rows<S: Alter, R: Upsert>(
+    tx: &mut Transaction<'_, S>,
+    rows: &[R],
+) -> Result<(), Error>
+    requires small { AllByRecursion R.IsSmall rows.now }
+    ensures goes_on { GoesOn S.Store tx.old tx.new }
+    ensures put { ChangesTables result (state S.Store tx.old.conn.now)
+        (state S.Store tx.new.conn.now) (λ T. put_at R.place T (map R.columns rows.now)) }
+{
+    for row in rows {
+        row.put(tx)?;
+    }
+    Ok(())
+}
+
+/// Each row beside the text of its tags.
+pub(crate) fn tagged_rows<R: HasTags>(
+    alloc: Global,
+    rows: &[R],
+) -> Result<Vec<Tagged<'_, R>>, AllocError>
+    ensures { IfOk result (λ tagged. AreBeside tagged.items rows.now) }
+{
+    let mut tagged = Vec::new(alloc);
+    for row in rows {
+        let text = row.tags().text()?;
+        tagged.push(Tagged { row, text })?;
+    }
+    Ok(tagged)
+}
 
 /// Each changed row by its table's upsert, those with tags beside their texts, and the numbers that
 /// changed.
@@ -81,6 +165,5 @@ pub fn put<S: Alter>(
     let reservations = tagged_rows(alloc, &changes.reservations)?;
     let mut tx = conn.transaction();
     put_all(&mut tx, changes, &boards, &jobs, &reservations)?;
-    tx.commit()?;
-    Ok(())
+    Ok(tx.commit()?)
 }

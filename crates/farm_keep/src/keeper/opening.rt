@@ -30,16 +30,7 @@ use std::alloc::Global;
 #[derive(Drop)]
 pub(super) struct Unkept<S: Alter> {
     conn: Connection<S>,
-    fault: KeepFault,
-}
-
-impl<S: Alter + Drop> Unkept<S> {
-    /// Why no keeper was made. The connection is let go.
-    pub(super) fn let_go(self) -> KeepFault
-        ensures { result ≡ self.fault }
-    {
-        self.fault
-    }
+    pub(super) fault: KeepFault,
 }
 
 /// A keeper of the empty farm, in a store without tables.

@@ -1,6 +1,5 @@
 //! One call after another.
-ghost use Rattle.std.specs.Prelude.{◌≡◌, ◌≤◌, true, false, IfOk, IfErr, [], length};
-ghost use Rattle.std.specs.Prelude.{vec_capacity};
+ghost use Rattle.std.specs.Prelude.{◌≡◌, true, false, IfOk, IfErr, [], vec_len};
 ghost use Rattle.std.specs.Result.{result_err};
 ghost use Rattle.sqlite.specs.Held.{state};
 ghost use Rattle.farm_types.specs.Sound.{IsSound};
@@ -55,40 +54,32 @@ impl<S: Alter> Keeper<S> {
     pub fn run(&mut self, calls: &[Call]) -> RunEnd
         ensures { Runs S.Store self.old self.new result calls.now }
     {
-        let Ok(answers) = Vec::with_capacity(self.alloc, calls.len()) else {
-            self.is_open = false;
-            return RunEnd {
-                done: 0,
-                answers: Vec::new(self.alloc),
-                fault: Some(KeepFault::NoMemory),
-            };
-        };
-        self.run_into(answers, calls)
-    }
-
-    /// `run`, where there is room for all answers.
-    fn run_into(&mut self, mut answers: Vec<Answer>, calls: &[Call]) -> RunEnd
-        requires sound { self.old.is_open ≡ true → IsSound self.old.farm.farm }
-        requires none { answers.items ≡ [] }
-        requires room { length calls.now ≤ vec_capacity answers }
-        ensures { Runs S.Store self.old self.new result calls.now }
-    {
-        for call in calls {
-            match self.act(call) {
-                Ok(answer) => answers.push_reserved(answer),
-                Err(fault) => {
-                    return RunEnd {
-                        done: answers.len(),
-                        answers,
-                        fault: Some(fault),
-                    };
-                }
-            }
-        }
+        let mut answers = Vec::new(self.alloc);
+        let fault = self.run_into(&mut answers, calls).err();
         RunEnd {
             done: answers.len(),
             answers,
-            fault: None,
+            fault,
         }
+    }
+
+    /// `run`, whose answers are put behind one another.
+    fn run_into(&mut self, answers: &mut Vec<Answer>, calls: &[Call]) -> Result<(), KeepFault>
+        requires sound { self.old.is_open ≡ true → IsSound self.old.farm.farm }
+        requires none { answers.old.items ≡ [] }
+        ensures { Runs S.Store self.old self.new (record {
+          done = vec_len answers.new;
+          answers = answers.new;
+          fault = result_err result;
+        }) calls.now }
+    {
+        if answers.reserve_exact(calls.len()).is_err() {
+            self.is_open = false;
+            return Err(KeepFault::NoMemory);
+        }
+        for call in calls {
+            answers.push_reserved(self.act(call)?);
+        }
+        Ok(())
     }
 }

@@ -1,20 +1,66 @@
-//! The rows of a table, read one after another.
-ghost use Rattle.std.specs.Prelude.{◌≡◌, false, IfErr};
+//! The rows of a table, read one after another, and their columns as words and numbers.
+ghost use Rattle.std.specs.Prelude.{◌≡◌, ◌≢◌, pos, false, IsTrue, IfErr, IfOk, IfSome, MatchResult};
+ghost use Rattle.std.specs.Prelude.{unwrap_or, ⊤, []};
+ghost use Rattle.std.specs.Option.{option_map_or};
 ghost use Rattle.sqlite.specs.Held.{state};
 ghost use Rattle.sqlite.specs.State.{HasCleanDisk};
-ghost use Rattle.farm_store.specs.Columns.{TableRows};
+ghost use Rattle.sqlite.specs.declared.types.Value.TheVariants.{Int, Text};
+ghost use Rattle.sqlite_value.specs.Order.{column};
+ghost use Rattle.farm_types.specs.Words.{IsName, IsKey, IsTags, IsText};
+ghost use Rattle.farm_types.specs.Limits.{is_priority};
+ghost use Rattle.farm_types.specs.Tags.{tags_text};
+ghost use Rattle.farm_types.specs.Codes.{health_code, state_code, outcome_code, res_state_code};
+ghost use Rattle.farm_store.specs.Columns.{TableRows, checking_code, first_state_code};
+ghost use Rattle.farm_store.specs.Editions.{IsStateIn, state_code_in};
 ghost use Rattle.farm_store.specs.Holds.{ReadsOnly, Stands};
-ghost use Rattle.farm_store.specs.Queries.{AsksFor};
-ghost use Rattle.farm_store.specs.Reading.{ReadsAll, ReadsRow, IsNoVersionFault};
+ghost use Rattle.farm_store.specs.Reading.{ReadsAll, ReadsAs, ReadsWord, IsNoVersionFault};
 
 use crate::edition::Edition;
 use crate::fault::StoreFault;
-use crate::queries::seen_tags::SeenTags;
+use farm_types::{
+    BAD_STORE, Body, Health, JobState, Key, Name, Outcome, Priority, Refusal, ResState, State,
+    Tags, WordFault,
+};
+use sqlite::types::ValueRef;
 use sqlite::{Alter, Connection, Row};
-use std::alloc::Global;
+use std::alloc::{AllocError, Global};
+
+/// How many lists of tags are remembered.
+const MOST: usize = 64;
+
+/// What a table's rows are read with. It remembers the first lists of tags that were read, each once,
+/// so that rows with equal tags have them in the same memory.
+#[derive(Drop)]
+pub(crate) struct Reader {
+    pub(crate) alloc: Global,
+    pub(crate) edition: Edition,
+    lists: Vec<Tags>,
+}
+
+impl Reader {
+    /// Equal tags, in the memory of those that came before, where they are remembered. They are
+    /// compared with at most `MOST` lists.
+    pub(crate) fn share(&mut self, tags: Tags) -> Result<Tags, AllocError>
+        ensures same { IfOk result (λ shared. shared ≡ tags) }
+        ensures edition { self.new.edition ≡ self.old.edition }
+    {
+        for seen in &self.lists {
+            if seen.is(&tags) {
+                return seen.copy();
+            }
+        }
+        if self.lists.len() < MOST {
+            self.lists.push(tags.copy()?)?;
+        }
+        Ok(tags)
+    }
+}
 
 /// What the rows of one of the tables stand for.
 pub(crate) trait Stored: Drop + Sized {
+    ghost use Rattle.std.specs.Prelude.{◌≡◌};
+    ghost use Rattle.farm_store.specs.Queries.{AsksFor};
+    ghost use Rattle.farm_store.specs.Reading.{ReadsRow};
     ghost use Rattle.sqlite.specs.Order.{Row as Values};
     ghost use Rattle.farm_store.specs.Places.{TableSlot};
     ghost use Rattle.farm_store.specs.Stored.{IsWide};
@@ -30,14 +76,11 @@ pub(crate) trait Stored: Drop + Sized {
     fn query() -> &'static str
         ensures { AsksFor place result.now };
 
-    /// What a row of the table stands for in an edition. It shares the tags that were seen.
-    fn of(
-        alloc: Global,
-        row: &Row,
-        edition: Edition,
-        seen: &mut SeenTags,
-    ) -> Result<Self, StoreFault>
-        ensures { ReadsRow result (IsGood edition) (columns edition) row.now };
+    /// What a row of the table stands for in the reader's edition. It shares the tags that were seen.
+    fn of(row: &Row, reader: &mut Reader) -> Result<Self, WordFault>
+        ensures reads { ReadsRow result (IsGood reader.old.edition) (columns reader.old.edition)
+            row.now }
+        ensures edition { reader.new.edition ≡ reader.old.edition };
 
     /// It has as many columns as the table.
     ghost wide: { (edition : Edition) (x : Self) → IsWide place.width (columns edition x) };
@@ -61,14 +104,160 @@ pub(crate) fn read<R: Stored, S: Alter>(
 {
     let mut all = Vec::new(alloc);
     let _room = all.reserve_exact(expected);
-    let mut seen = SeenTags::new(alloc);
+    let mut reader = Reader {
+        alloc,
+        edition,
+        lists: Vec::new(alloc),
+    };
     let mut rows = conn.query(R::query(), &[])?;
     'rows: for _ in 0..u64::MAX {
         let Some(row) = rows.next()? else {
             return Ok(all);
         };
-        all.push(R::of(alloc, row, edition, &mut seen)?)?;
+        let stored = R::of(row, &mut reader)?;
+        all.push(stored).map_err(|_| StoreFault::NoMemory)?;
     }
     // (no memory holds so many rows)
     Err(StoreFault::NoMemory)
+}
+
+/// The refusal of what stands in no row of a farm.
+pub(crate) const BAD: Refusal = Refusal { code: BAD_STORE };
+
+pub(crate) fn text_at(row: &Row, at: usize) -> Result<&[u8], Refusal>
+    ensures { MatchResult result (λ text. column row.now at ≡ Text text.now)
+        (λ _. (text : _) → column row.now at ≢ Text text) }
+{
+    match row.get_ref(at) {
+        Ok(ValueRef::Text(text)) => Ok(text),
+        _ => Err(BAD),
+    }
+}
+
+pub(crate) fn number_at(row: &Row, at: usize) -> Result<u64, Refusal>
+    ensures { ReadsAs result (λ _. ⊤) (λ n. Int (pos n)) (column row.now at) }
+{
+    match row.get_ref(at) {
+        Ok(ValueRef::Int(n)) => u64::try_from(n).map_err(|_| BAD),
+        _ => Err(BAD),
+    }
+}
+
+pub(crate) fn name_at(row: &Row, at: usize, reader: &Reader) -> Result<Name, WordFault>
+    ensures { ReadsWord result IsName Text (column row.now at) }
+{
+    Name::parse(reader.alloc, text_at(row, at)?)
+}
+
+/// No name where the text is empty.
+pub(crate) fn name_if_any_at(
+    row: &Row,
+    at: usize,
+    reader: &Reader,
+) -> Result<Option<Name>, WordFault>
+    ensures { ReadsWord result (λ name. IfSome name IsName) (λ name. Text (unwrap_or name []))
+        (column row.now at) }
+{
+    let text = text_at(row, at)?;
+    if text.is_empty() {
+        return Ok(None);
+    }
+    Ok(Some(Name::parse(reader.alloc, text)?))
+}
+
+pub(crate) fn key_at(row: &Row, at: usize, reader: &Reader) -> Result<Key, WordFault>
+    ensures { ReadsWord result IsKey Text (column row.now at) }
+{
+    Key::parse(reader.alloc, text_at(row, at)?)
+}
+
+pub(crate) fn tags_at(row: &Row, at: usize, reader: &mut Reader) -> Result<Tags, WordFault>
+    ensures reads { ReadsWord result IsTags (λ tags. Text (tags_text tags)) (column row.now at) }
+    ensures edition { reader.new.edition ≡ reader.old.edition }
+{
+    let tags = Tags::parse(reader.alloc, text_at(row, at)?)?;
+    Ok(reader.share(tags)?)
+}
+
+pub(crate) fn body_at(row: &Row, at: usize, reader: &Reader) -> Result<Body, WordFault>
+    ensures { ReadsWord result IsText Text (column row.now at) }
+{
+    match std::str::from_utf8(text_at(row, at)?) {
+        Ok(text) => Ok(Body::of(String::from_str(reader.alloc, text)?)),
+        Err(_) => Err(WordFault::Refused(BAD)),
+    }
+}
+
+pub(crate) fn priority_at(row: &Row, at: usize) -> Result<Priority, Refusal>
+    ensures { ReadsAs result (λ p. IsTrue (is_priority p)) (λ p. Int (pos p)) (column row.now at) }
+{
+    Priority::of(number_at(row, at)?)
+}
+
+pub(crate) fn health_at(row: &Row, at: usize) -> Result<Health, Refusal>
+    ensures { ReadsAs result (λ _. ⊤) (λ health. Int (pos (health_code health)))
+        (column row.now at) }
+{
+    Health::from_code(number_at(row, at)?).ok_or(BAD)
+}
+
+pub(crate) fn state_at(row: &Row, at: usize) -> Result<State, Refusal>
+    ensures { ReadsAs result (λ _. ⊤) (λ state. Int (pos (state_code state))) (column row.now at) }
+{
+    State::from_code(number_at(row, at)?).ok_or(BAD)
+}
+
+/// A state of the first edition.
+#[tactic(auto, using(crate::proofs::SmallCodes::first_code_is_low))]
+fn first_job_state_at(row: &Row, at: usize) -> Result<JobState, Refusal>
+    ensures { ReadsAs result (λ state. state ≢ JobState.Scheduling)
+        (λ state. Int (pos (first_state_code state))) (column row.now at) }
+{
+    match number_at(row, at)? {
+        0 => Ok(JobState::Submitted),
+        1 => Ok(JobState::Scheduled),
+        2 => Ok(JobState::Running),
+        3 => Ok(JobState::Canceling),
+        4 => Ok(JobState::Finished),
+        _ => Err(BAD),
+    }
+}
+
+pub(crate) fn job_state_at(row: &Row, at: usize, edition: Edition) -> Result<JobState, Refusal>
+    ensures { ReadsAs result (IsStateIn edition) (λ state. Int (pos (state_code_in edition state)))
+        (column row.now at) }
+{
+    match edition {
+        Edition::First => first_job_state_at(row, at),
+        Edition::Second => JobState::from_code(number_at(row, at)?).ok_or(BAD),
+    }
+}
+
+pub(crate) fn res_state_at(row: &Row, at: usize) -> Result<ResState, Refusal>
+    ensures { ReadsAs result (λ _. ⊤) (λ state. Int (pos (res_state_code state)))
+        (column row.now at) }
+{
+    ResState::from_code(number_at(row, at)?).ok_or(BAD)
+}
+
+/// No outcome where the number is 0.
+pub(crate) fn outcome_at(row: &Row, at: usize) -> Result<Option<Outcome>, Refusal>
+    ensures { ReadsAs result (λ _. ⊤) (λ outcome. Int (pos (option_map_or outcome_code outcome 0)))
+        (column row.now at) }
+{
+    match number_at(row, at)? {
+        0 => Ok(None),
+        code => Ok(Some(Outcome::from_code(code).ok_or(BAD)?)),
+    }
+}
+
+pub(crate) fn checking_at(row: &Row, at: usize) -> Result<bool, Refusal>
+    ensures { ReadsAs result (λ _. ⊤) (λ checking. Int (pos (checking_code checking)))
+        (column row.now at) }
+{
+    match number_at(row, at)? {
+        0 => Ok(false),
+        1 => Ok(true),
+        _ => Err(BAD),
+    }
 }

@@ -9,10 +9,10 @@ use Rattle.farm_store.specs.Reading.{IsVersion, IsVersionFault}
 use Rattle.farm_store.specs.Stored.{IsWide}
 use Rattle.farm_store.specs.declared.edition.Edition.{Edition}
 use Rattle.farm_store.specs.declared.fault.StoreFault.{StoreFault}
-use Rattle.farm_store.proofs.EditionLemmas.{collector_in, never_handed, never_version_fault, no_version, not_bad, not_own, not_store, spelled}
+use Rattle.farm_store.proofs.EditionLemmas.{collector_in, never_handed, never_version_fault, not_bad, not_own, not_store, spelled}
 use Rattle.farm_store.proofs.LeftAlone.{early, only_then}
 use Rattle.farm_store.proofs.ReadFarm.{failed, known, refused, refuses_farm}
-use Rattle.farm_store.proofs.ReadRows.{if_err, on_ok}
+use Rattle.farm_store.proofs.ReadRows.{bad_of_no_version, if_err, on_ok}
 use Rattle.farm_store.proofs.queries.read_any.Goals as goal
 
 pub returns-in_err-numbers-clause-reads : goal.returns-in_err-numbers-clause-reads
@@ -41,18 +41,16 @@ pub returns-in_err-meta-clause-reads : goal.returns-in_err-meta-clause-reads
 returns-in_err-meta-clause-reads g c clean =
     let e = c.args.edition in
     let result = c.from_residual-in_err-meta.result in
-    let fault = c.in_err-meta.field-0.0 in
     let is = c.from_residual-in_err-meta.ensures.1 in
-    known e result (state g.S.Store c.args.conn.now) c.in_ok-numbers.numbers.items (c.in_ok-numbers.ensures.opened clean) (c.in_ok-numbers.ensures.shown clean) (subst (IsVersion e) c.deref.ensures.value c.in_ok-look_at_schema.ensures) (if_err result fault is c.in_err-meta.ensures.fault)
+    known e result (state g.S.Store c.args.conn.now) c.in_ok-numbers.numbers.items (c.in_ok-numbers.ensures.opened clean) (c.in_ok-numbers.ensures.shown clean) (subst (IsVersion e) c.deref.ensures.value c.in_ok-look_at_schema.ensures) (if_err result StoreFault.BadStore is bad_of_no_version)
     (λ T at.
     let got = c.in_ok-numbers.ensures.rows clean T at in
     let rows = c.deref-2.ensures.value in
     let read = c.in_err-meta.ensures.read (subst (AllByRecursion (IsWide of_meta.width)) (sym rows) got.1) in
-    refuses_farm e result T fault is (λ bad F good same. read.1 bad (numbers_of F) (collector_in e F good) (rows ∙ got.0 ∙ (spelled e F T same).meta)))
+    refuses_farm e result T StoreFault.BadStore is (λ _ F good same. read (numbers_of F) (collector_in e F good) (rows ∙ got.0 ∙ (spelled e F T same).meta)))
 
 pub returns-in_err-meta-clause-fault : goal.returns-in_err-meta-clause-fault
-returns-in_err-meta-clause-fault g c =
-    never_handed c.args.edition c.from_residual-in_err-meta.result c.in_err-meta.field-0.0 c.from_residual-in_err-meta.ensures.1 (no_version c.args.edition c.in_err-meta.field-0.0 c.in_err-meta.ensures.fault)
+returns-in_err-meta-clause-fault g c = never_handed c.args.edition c.from_residual-in_err-meta.result StoreFault.BadStore c.from_residual-in_err-meta.ensures.1 (not_bad c.args.edition)
 
 pub returns-clause-only : goal.returns-clause-only
 returns-clause-only g c = only_then c.meta_rows.ensures.only c.read_tables.ensures.only

@@ -28,6 +28,7 @@ rows-init g c =
       survives_weaker (state g.S.Store old) (state g.S.Store new) (CommitsShowing text [] (state g.S.Store old)) (λ _. ⊥) (λ _ db. never_commits text only (state g.S.Store old) db) made.survives,
       made.mode c.requires.autocommit,
       λ clean. let it = begun text only g.S.Store old new (made.begun clean) in (it.1, (text, c.query.ensures, ([], it.0, rw (c.reserve_exact-room.ensures.items, c.new-all.ensures.items) (tt, λ _. refl)))),
+      refl,
     )
 
 pub returns-in_default-clause-read : goal.returns-in_default-clause-read
@@ -42,8 +43,8 @@ returns-in_default-clause-read g c clean T at =
     all_good (g.R.Stored.IsGood c.args.edition) (g.R.Stored.columns c.args.edition) g.R.Stored.place.width it.0 (g.R.Stored.place.rows T) c.rows.all.items it.2
     (all_shown g.R.Stored.place sofar.1.0 sofar.1.1 was T (sees (state g.S.Store c.args.conn.now) was T sofar.0 at) now it.0 shown)
 
-pub returns-in_err-of-clause-read : goal.returns-in_err-of-clause-read
-returns-in_err-of-clause-read g c clean T at =
+pub returns-in_err-stored-clause-read : goal.returns-in_err-stored-clause-read
+returns-in_err-stored-clause-read g c clean T at =
     let moved = c.next.follows.holds-at-none in
     let old = state g.S.Store c.args.conn.now in
     let was = state g.S.Store c.rows.rows.conn.now in
@@ -58,9 +59,9 @@ returns-in_err-of-clause-read g c clean T at =
     let whole = some_shown g.R.Stored.place text sofar.1.1 (state g.S.Store now) T (sees old (state g.S.Store now) T same at) (it.0 ++ row ∷ []) (given_begin g.S.Store text [] now (it.0 ++ row ∷ []) given) in
     let good = g.R.Stored.IsGood c.args.edition in
     let columns = g.R.Stored.columns c.args.edition in
-    let refused = c.in_err-of.ensures in
-    refuses c.from_residual-in_err-of.result (λ all. all.items) good columns (g.R.Stored.place.rows T) c.in_err-of.field-0.0 c.from_residual-in_err-of.ensures.1 refused.0
-    (λ bad. none_good good columns g.R.Stored.place.width it.0 row (g.R.Stored.place.rows T) whole.0 whole.1 (refused.1 bad))
+    let refused = rw c.rows.invariant.4 at c.in_err-stored.ensures.reads in
+    refuses c.from_residual-in_err-stored.result (λ all. all.items) good columns (g.R.Stored.place.rows T) c.in_err-stored.field-0.0 c.from_residual-in_err-stored.ensures.1
+    (λ known. none_good good columns g.R.Stored.place.width it.0 row (g.R.Stored.place.rows T) whole.0 whole.1 (refused known))
 
 pub rows-preserved : goal.rows-preserved
 rows-preserved g c =
@@ -69,7 +70,8 @@ rows-preserved g c =
     let was = state g.S.Store c.rows.rows.conn.now in
     let now = state g.S.Store c.next.follows.lender-at-none.conn.now in
     let row = c.in-Some.row.now in
-    let x = c.in_ok-of.field-0 in
+    let x = c.in_ok-stored.stored in
+    let read = rw c.rows.invariant.4 at c.in_ok-stored.ensures.reads in
     let good = g.R.Stored.IsGood c.args.edition in
     let columns = g.R.Stored.columns c.args.edition in
     let width = g.R.Stored.place.width in
@@ -79,8 +81,9 @@ rows-preserved g c =
       moved.mode c.rows.invariant.2,
       λ clean. let sofar = c.rows.invariant.3 (omega (arith, moved.survives.clean)) in
           let it = sofar.1.2 in
-          let more = one_more good columns width (g.met.R.Stored.wide c.args.edition) it.0 row c.rows.all.items x it.2 c.in_ok-of.ensures.0 c.in_ok-of.ensures.1 in (
+          let more = one_more good columns width (g.met.R.Stored.wide c.args.edition) it.0 row c.rows.all.items x it.2 read.0 read.1 in (
             unchanged_then old was now sofar.0 (rw c.in_ok-row.was at (moved.same clean)),
             (sofar.1.0, sofar.1.1, (it.0 ++ row ∷ [], (rw (c.in_ok-row.was, c.in-Some.is) at (moved.ok clean)) sofar.1.0 [] it.0 it.1, subst (SoFar good columns width (it.0 ++ row ∷ [])) (sym items) more)),
           ),
+      c.in_ok-stored.ensures.edition ∙ c.rows.invariant.4,
     )

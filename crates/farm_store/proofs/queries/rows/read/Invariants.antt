@@ -14,4 +14,5 @@ invariant-rows g l =
     (l.rows.conn.ghost_name ≡ l.initial.rows.conn.ghost_name) × Survives old now (λ _. ⊥) × (l.rows.conn.now.in_transaction ≡ false)
     × (HasCleanDisk now → IsUnchanged old now
     × ((text : List ℕ) × AsksFor g.R.Stored.place text
-    × ((given : List Row) × HasGiven g.S.Store text [] l.rows.conn.now given × SoFar (g.R.Stored.IsGood l.edition) (g.R.Stored.columns l.edition) g.R.Stored.place.width given l.all.items)))
+    × ((given : List Row) × HasGiven g.S.Store text [] l.rows.conn.now given × SoFar (g.R.Stored.IsGood l.fn.edition) (g.R.Stored.columns l.fn.edition) g.R.Stored.place.width given l.all.items)))
+    × (l.reader.edition ≡ l.fn.edition)

@@ -11,7 +11,7 @@ use Rattle.farm_keep.specs.Faults.{IsMigrateFault}
 use Rattle.farm_keep.specs.First.{IsSoundFirst}
 use Rattle.farm_keep.specs.declared.fault.KeepFault.{KeepFault}
 use Rattle.farm_keep.proofs.MigrateLemmas.{bad_is_another, first_of_sound, from_reported, looks_read, looks_so, migrate_fault, never_reported, new_is_another, none_done, ok_is_no_err, on_err, one_reported, only_memory, raise_fault, small_jobs, reported_so}
-use Rattle.farm_keep.proofs.migrating.migrate.Goals as goal
+use Rattle.farm_keep.proofs.reading.migrate.Goals as goal
 
 -- ---- the rows could not be read
 

@@ -5,7 +5,7 @@ use Rattle.farm_store.specs.Columns.{TableRows}
 use Rattle.farm_store.specs.Places.{put_at}
 use Rattle.farm_store.specs.Edits.{GoesOn}
 use Rattle.farm_store.specs.Holds.{IsInside}
-use Rattle.farm_store.proofs.upserts.rows.put_rows.Given as goal
+use Rattle.farm_store.proofs.upserts.put_rows.Given as goal
 
 abbrev pub invariant-loop-row : goal.invariant-loop-row
 invariant-loop-row g l = record {

@@ -5,7 +5,7 @@ use Rattle.farm_store.specs.Places.{put_at}
 use Rattle.farm_store.specs.Holds.{IsInside}
 use Rattle.farm_store.proofs.GoingOn.{goes_on_then, was_clean}
 use Rattle.farm_store.proofs.PutAt.{put_more}
-use Rattle.farm_store.proofs.upserts.rows.put_rows.Goals as goal
+use Rattle.farm_store.proofs.upserts.put_rows.Goals as goal
 
 pub loop-row-init : goal.loop-row-init
 loop-row-init g c = record {
