@@ -1,5 +1,8 @@
 //! A client's stream, with limits of time.
-ghost use Rattle.std.specs.Prelude.{◌≡◌, IfSome, IsSome, None, OnOk, Some};
+ghost use Rattle.std.specs.Prelude.{◌≡◌, ◌*◌, ◌^◌, IfSome, IsSome, IsTrue, None, OnOk, Some};
+ghost use Rattle.std.specs.Duration.{as_nanos};
+ghost use Rattle.std.specs.IoError.{error_kind};
+ghost use Rattle.std.specs.declared.io.ErrorKind.TheVariants.{WouldBlock};
 
 use farm_http::Output;
 use std::cell::Cell;
@@ -39,7 +42,9 @@ impl ClientStream {
     }
 
     /// Whether a call failed since it would have waited, and waits when it is made again.
-    fn begins_to_wait(&self, error: &Error) -> bool {
+    fn begins_to_wait(&self, error: &Error) -> bool
+        ensures { IsTrue result → error_kind error.now ≡ WouldBlock }
+    {
         error.kind() == ErrorKind::WouldBlock
             && self.may_begin_to_wait.replace(false)
             && self.set_waiting().is_ok()
@@ -110,16 +115,12 @@ impl<'a, C: Clock> DeadlineStream<'a, C> {
         ensures kept { IfSome self.old.since (λ since. self.new.since ≡ Some since) }
     {
         let now = self.clock.monotonic()?;
-        match self.since {
-            Some(since) if now.saturating_sub(since) > limit() => {
-                Err(Error::from(ErrorKind::TimedOut))
-            }
-            Some(_) => Ok(()),
-            None => {
-                self.since = Some(now);
-                Ok(())
-            }
+        let since = self.since.unwrap_or(now);
+        self.since = Some(since);
+        if now.saturating_sub(since) > limit() {
+            return Err(Error::from(ErrorKind::TimedOut));
         }
+        Ok(())
     }
 }
 
@@ -156,6 +157,8 @@ impl<C: Clock> Output for DeadlineStream<'_, C> {
 }
 
 /// `LIMIT_SECONDS`.
-pub(crate) fn limit() -> Duration {
+pub(crate) fn limit() -> Duration
+    ensures { as_nanos result ≡ 10 * 10 ^ 9 }
+{
     Duration::from_secs(LIMIT_SECONDS)
 }

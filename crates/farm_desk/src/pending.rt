@@ -70,12 +70,12 @@ pub(crate) struct Pending {
 impl Pending {
     /// The first `max` connections of a listener, none of which was accepted yet; none where the
     /// system or the memory refuses what that takes, and then the listener is as it was.
-    pub(crate) fn new<N: Net>(
+    pub(crate) fn new(
         alloc: Global,
-        net: &N,
+        net: &impl Net,
         listener: &TcpListener,
         max: u64,
-    ) -> Option<Pending> {
+    ) -> Option<Self> {
         let poll = Poll::new(net).ok()?;
         let events = Events::with_capacity(alloc, MOST_EVENTS).ok()?;
         let bytes = Vec::from_elem(alloc, 0u8, LONGEST_REQUEST + 1).ok()?;

@@ -109,7 +109,6 @@ fn next_client(listener: &TcpListener) -> Option<ClientStream> {
 
 /// The moment of a clock, in whole seconds since 1970-01-01 00:00:00 UTC; none where it fails.
 fn moment<C: Clock>(clock: &C) -> Option<u64> {
-    let now = SystemTime::now(clock).ok()?;
-    let since = now.duration_since(UNIX_EPOCH).ok()?;
-    Some(since.as_secs())
+    let since = SystemTime::now(clock).ok()?.duration_since(UNIX_EPOCH);
+    Some(since.ok()?.as_secs())
 }
