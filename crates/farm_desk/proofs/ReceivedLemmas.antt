@@ -14,7 +14,7 @@ use Rattle.farm_wire.specs.Reading.{Denial, denial_of, refused, other_methods}
 use Rattle.farm_wire.specs.declared.ask.Ask.{Ask}
 use Rattle.farm_wire.specs.declared.fault.AskFault.{AskFault}
 use Rattle.farm_desk.specs.Received.{plain_ask, receive_error, IsMeant, Asks, Receives, ReceivesWhole, ReceivesResult}
-use Rattle.farm_desk.specs.declared.receive.ReceiveError.{ReceiveError}
+use Rattle.farm_desk.specs.declared.conversation.ReceiveError.{ReceiveError}
 
 -- what was taken of a reader whose bytes are known
 abbrev pub Known : Option (List ℕ) → Option (List ℕ) → Type 0 → Result Taken WireFault → Type 0

@@ -5,7 +5,7 @@ use Rattle.farm_wire.specs.Replies.{reply_bytes}
 use Rattle.farm_wire.specs.declared.answers.Out.{Out}
 use Rattle.farm_wire.specs.declared.fault.AskFault.{AskFault}
 use Rattle.farm_desk.specs.Answers.{Encodes, out_of_refusal}
-use Rattle.farm_desk.specs.declared.response.Bytes.{Bytes}
+use Rattle.farm_desk.specs.declared.answer.Bytes.{Bytes}
 use Rattle.farm_desk.specs.declared.fault.DeskFault.{DeskFault}
 
 abbrev pub bytes_in : Bytes → List ℕ

@@ -8,7 +8,7 @@ use Rattle.farm_wire.specs.Asked.{Asked, ask, shown_ask}
 use Rattle.farm_wire.specs.Reading.{Denial, refused, other_methods}
 use Rattle.farm_wire.specs.declared.ask.Ask.{Ask}
 use Rattle.farm_wire.specs.declared.fault.AskFault.{AskFault}
-use Rattle.farm_desk.specs.declared.receive.ReceiveError.{ReceiveError}
+use Rattle.farm_desk.specs.declared.conversation.ReceiveError.{ReceiveError}
 
 -- what is asked, or why nothing is, in the words of the definitions
 abbrev pub plain_ask : Result Ask Denial → Result Asked Denial

@@ -1,25 +1,64 @@
-//! A conversation: one request is received, and one answer written.
+//! A conversation: one request is received, parsed as what it asks, and one answer written.
 ghost use Rattle.std.specs.Prelude.{◌≡◌, ◌≢◌, ◌≤◌, ◌↔◌, false, Err, IsOk, IfOk, IfErr, IsTrue};
 ghost use Rattle.sqlite.specs.Held.{state};
 ghost use Rattle.sqlite_trees.specs.View.{doubt};
+ghost use Rattle.farm_types.specs.Reads.{OrNoMemory};
 ghost use Rattle.farm_http.specs.Counts.{nothing_read, nothing_written, reader_of, reading_of, writer_of};
 ghost use Rattle.farm_http.specs.Counts.{writing_of, IsSameReader, IsSameWriter, IsSpent};
+ghost use Rattle.farm_http.specs.Request.{Request};
+ghost use Rattle.farm_http.specs.Requests.{ParsesTo};
 ghost use Rattle.farm_http.specs.Room.{KeepsRoom};
+ghost use Rattle.farm_wire.specs.Asked.{ask, shown_ask};
+ghost use Rattle.farm_wire.specs.Reading.{denial_of};
+ghost use Rattle.farm_desk.specs.Received.{ReceivesResult};
 ghost use Rattle.farm_desk.specs.Response.{IsResponse};
 ghost use Rattle.farm_desk.specs.Ends.{IsAnswered, IsUnwritten, IsUnread, WritesAnswer, EndsWritten};
 ghost use Rattle.farm_desk.specs.Ends.{HasNoRoom};
 ghost use Rattle.farm_desk.specs.Encoding.{bytes_in};
 
-use crate::answer::response_to;
-use crate::context::Context;
+use crate::answer::{Response, response_to};
 use crate::fault::DeskFault;
-use crate::receive::ReceiveError;
-use crate::response::Response;
-use farm_http::{Input, Output};
+use farm_http::{Input, Output, Taken};
 use farm_keep::Keeper;
-use farm_wire::{CountedReader, CountedWriter, write_whole_counted};
+use farm_wire::{
+    Ask, AskFault, CountedReader, CountedWriter, Routes, WireFault, read_request_counted,
+    write_whole_counted,
+};
 use sqlite::Alter;
 use std::alloc::Global;
+
+/// What conversations share: where their memory comes from, and the router of what they ask.
+/// Without a router each request has one of its own.
+#[derive(Drop)]
+pub(crate) struct Context {
+    /// Where memory comes from.
+    pub(crate) alloc: Global,
+    /// The router of all conversations, where one was built.
+    pub(crate) routes: Option<Routes>,
+}
+
+/// Why no request was received.
+#[derive(Clone, Copy, Debug, PartialEq, Eq)]
+pub(crate) enum ReceiveError {
+    /// The reader failed before it returned a request.
+    Read,
+    /// What it returned asks nothing, or there was no memory for it.
+    BadRequest(AskFault),
+}
+
+impl From<WireFault> for ReceiveError {
+    ghost use Rattle.farm_desk.specs.Received.{receive_error};
+
+    ghost from_gives = { λ fault e. e ≡ receive_error fault };
+
+    fn from(fault: WireFault) -> ReceiveError {
+        match fault {
+            WireFault::NoMemory => ReceiveError::BadRequest(AskFault::NoMemory),
+            WireFault::Refused(refusal) => ReceiveError::BadRequest(AskFault::Refused(refusal)),
+            WireFault::Read | WireFault::Write => ReceiveError::Read,
+        }
+    }
+}
 
 /// Reads one request, acts on the farm or looks at it, and writes one answer; returns the HTTP
 /// status that was written.
@@ -125,6 +164,13 @@ pub fn converse_counted<R: Input, W: Output, S: Alter>(
 }
 
 impl Context {
+    /// The context of conversations that share this router.
+    pub(crate) fn new(alloc: Global, routes: Option<Routes>) -> Context
+        ensures { result.routes ≡ routes }
+    {
+        Context { alloc, routes }
+    }
+
     /// Converses as `converse_counted` does, and ends as the answer that was due ends it, also
     /// where that answer was lost: so a keeper's fault is known in each case.
     pub(crate) fn converse<R: Input, W: Output, S: Alter>(
@@ -186,6 +232,37 @@ impl Context {
             Ok(ask) => Ok(response_to(self.alloc, keeper, &ask)),
             Err(ReceiveError::BadRequest(fault)) => Ok(Response::denial(self.alloc, fault)),
             Err(ReceiveError::Read) => Err(DeskFault::Read),
+        }
+    }
+
+    /// Reads one request and returns what it asks at a moment.
+    pub(crate) fn receive<R: Input>(
+        &self,
+        reader: &mut CountedReader<'_, R>,
+        now: u64,
+    ) -> Result<Ask, ReceiveError>
+        requires { reading_of reader.old ≡ nothing_read }
+        ensures same { IsSameReader reader.old reader.new }
+        ensures receives { ReceivesResult (R.remaining (reader_of reader.old))
+            (R.remaining (reader_of reader.new)) now
+            (IsSpent (reading_of reader.new)) result }
+        ensures sure { R.never_fails → result ≢ Err ReceiveError.Read }
+    {
+        let taken = read_request_counted(self.alloc, reader)?;
+        match self.ask_of(&taken, now) {
+            Ok(ask) => Ok(ask),
+            Err(fault) => Err(ReceiveError::BadRequest(fault)),
+        }
+    }
+
+    /// What a request asks at a moment.
+    fn ask_of(&self, taken: &Taken, now: u64) -> Result<Ask, AskFault>
+        ensures { (request : Request) → ParsesTo taken.now.bytes.items taken.now.head request
+            → OrNoMemory denial_of shown_ask result (ask request now) }
+    {
+        match &self.routes {
+            Some(routes) => routes.ask(self.alloc, taken, now),
+            None => Ask::of(self.alloc, taken, now),
         }
     }
 }

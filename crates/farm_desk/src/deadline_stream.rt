@@ -1,10 +1,15 @@
 //! A client's stream, with limits of time.
-ghost use Rattle.std.specs.Prelude.{◌≡◌, IfSome, IsSome, None, OnOk, Some};
+ghost use Rattle.std.specs.Prelude.{◌≡◌, ◌*◌, ◌^◌, IfSome, IsSome, IsTrue, None, OnOk, Some};
+ghost use Rattle.std.specs.Duration.{as_nanos};
+ghost use Rattle.std.specs.IoError.{error_kind};
+ghost use Rattle.std.specs.declared.io.ErrorKind.TheVariants.{WouldBlock};
 
 use farm_http::Output;
+use std::cell::Cell;
 use std::io;
 use std::io::{Error, ErrorKind, Read, Write};
 use std::net::{Shutdown, TcpStream};
+use std::rc::Rc;
 use std::time::{Clock, Duration};
 
 /// How long a client may take over its request, and how long over its answer, in seconds.
@@ -18,24 +23,87 @@ const MOST_READS: u32 = 256;
 
 const READ_BYTES: usize = 512;
 
+/// A client's stream, which its reader and its writer share. A usual request is there, and its
+/// answer is taken at once, so nothing is asked of the system about waiting until a call would.
+#[derive(Drop)]
+pub(crate) struct ClientStream {
+    stream: TcpStream,
+    may_begin_to_wait: Cell<bool>,
+}
+
+impl ClientStream {
+    /// A stream whose calls don't wait. Where it may wait, those do from the first on that would,
+    /// each for `STALL_SECONDS` at most.
+    pub(crate) fn new(stream: TcpStream, may_wait: bool) -> ClientStream {
+        ClientStream {
+            stream,
+            may_begin_to_wait: Cell::new(may_wait),
+        }
+    }
+
+    /// Whether a call failed since it would have waited, and waits when it is made again.
+    fn begins_to_wait(&self, error: &Error) -> bool
+        ensures { IsTrue result → error_kind error.now ≡ WouldBlock }
+    {
+        error.kind() == ErrorKind::WouldBlock
+            && self.may_begin_to_wait.replace(false)
+            && self.set_waiting().is_ok()
+    }
+
+    /// Lets reads and writes wait, and none for longer than a client may stall.
+    fn set_waiting(&self) -> io::Result<()> {
+        let stall = Duration::from_secs(STALL_SECONDS);
+        self.stream.set_read_timeout(Some(stall))?;
+        self.stream.set_write_timeout(Some(stall))?;
+        self.stream.set_nonblocking(false)
+    }
+
+    /// Answers a request that isn't read.
+    pub(crate) fn refuse(&self, answer: &[u8]) {
+        // The first bytes that are sent to a client wait for nothing.
+        let _ = (&self.stream).write(answer);
+        self.shut_down();
+    }
+
+    /// Ends an answer, and drops what has come and was not asked for. A close over unread bytes
+    /// would reset the connection, and the client could lose its answer (RFC 9112, section 9.6). It
+    /// waits for nothing.
+    pub(crate) fn shut_down(&self) {
+        let mut stream = &self.stream;
+        let waits = !self.may_begin_to_wait.get();
+        if stream.shutdown(Shutdown::Write).is_err()
+            || waits && stream.set_nonblocking(true).is_err()
+        {
+            return;
+        }
+        let mut room = [0u8; READ_BYTES];
+        for _ in 0..MOST_READS {
+            match stream.read(&mut room) {
+                Ok(count) if count > 0 => {}
+                _ => return,
+            }
+        }
+    }
+}
+
 /// One direction of a client's stream. A read or a write that waits for `STALL_SECONDS` fails, and
 /// so does one that begins later than `LIMIT_SECONDS` after the first. So whoever takes nothing of
 /// an answer keeps the others waiting for a second, and whoever takes a part of it now and then for
 /// eleven.
 #[derive(Drop)]
 pub(crate) struct DeadlineStream<'a, C: Clock> {
-    pub(crate) stream: TcpStream,
+    pub(crate) client: Rc<ClientStream>,
     clock: &'a C,
     since: Option<Duration>,
 }
 
 impl<'a, C: Clock> DeadlineStream<'a, C> {
     /// A direction whose time begins with its first read or write.
-    pub(crate) fn new(stream: TcpStream, clock: &'a C) -> DeadlineStream<'a, C>
+    pub(crate) fn new(client: Rc<ClientStream>, clock: &'a C) -> DeadlineStream<'a, C>
         ensures { result.since ≡ None }
     {
         DeadlineStream {
-            stream,
+            client,
             clock,
             since: None,
         }
@@ -47,30 +115,34 @@ impl<'a, C: Clock> DeadlineStream<'a, C> {
         ensures kept { IfSome self.old.since (λ since. self.new.since ≡ Some since) }
     {
         let now = self.clock.monotonic()?;
-        match self.since {
-            Some(since) if now.saturating_sub(since) > limit() => {
-                Err(Error::from(ErrorKind::TimedOut))
-            }
-            Some(_) => Ok(()),
-            None => {
-                self.since = Some(now);
-                Ok(())
-            }
+        let since = self.since.unwrap_or(now);
+        self.since = Some(since);
+        if now.saturating_sub(since) > limit() {
+            return Err(Error::from(ErrorKind::TimedOut));
         }
+        Ok(())
     }
 }
 
 impl<C: Clock> Read for DeadlineStream<'_, C> {
     fn read(&mut self, buf: &mut [u8]) -> io::Result<usize> {
         self.check_limit()?;
-        self.stream.read(buf)
+        let mut stream = &self.client.stream;
+        match stream.read(buf) {
+            Err(error) if self.client.begins_to_wait(&error) => stream.read(buf),
+            done => done,
+        }
     }
 }
 
 impl<C: Clock> Write for DeadlineStream<'_, C> {
     fn write(&mut self, buf: &[u8]) -> io::Result<usize> {
         self.check_limit()?;
-        self.stream.write(buf)
+        let mut stream = &self.client.stream;
+        match stream.write(buf) {
+            Err(error) if self.client.begins_to_wait(&error) => stream.write(buf),
+            done => done,
+        }
     }
 
     fn flush(&mut self) -> io::Result<()> {
@@ -85,30 +157,8 @@ impl<C: Clock> Output for DeadlineStream<'_, C> {
 }
 
 /// `LIMIT_SECONDS`.
-pub(crate) fn limit() -> Duration {
+pub(crate) fn limit() -> Duration
+    ensures { as_nanos result ≡ 10 * 10 ^ 9 }
+{
     Duration::from_secs(LIMIT_SECONDS)
-}
-
-/// Lets no read and no write of a stream wait for longer than a client may stall.
-pub(crate) fn set_timeouts(stream: &TcpStream) -> io::Result<()> {
-    let stall = Duration::from_secs(STALL_SECONDS);
-    stream.set_read_timeout(Some(stall))?;
-    stream.set_write_timeout(Some(stall))
-}
-
-/// Ends an answer, and drops what has come and was not asked for. A close over unread bytes would
-/// reset the connection, and the client could lose its answer (RFC 9112, section 9.6). It waits for
-/// nothing.
-pub(crate) fn shut_down(stream: &TcpStream) {
-    if stream.shutdown(Shutdown::Write).is_err() || stream.set_nonblocking(true).is_err() {
-        return;
-    }
-    let mut stream = stream;
-    let mut room = [0u8; READ_BYTES];
-    for _ in 0..MOST_READS {
-        match stream.read(&mut room) {
-            Ok(count) if count > 0 => {}
-            _ => return,
-        }
-    }
 }

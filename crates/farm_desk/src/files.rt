@@ -1,47 +1,42 @@
-//! Farms in files: opening one and making one; and reading a lab file.
-ghost use Rattle.std.specs.Prelude.{◌≡◌, ◌⊎◌, ◌↔◌, false, IfOk, IfErr, IfSome};
-ghost use Rattle.std.specs.IoError.{error_kind};
-ghost use Rattle.std.specs.declared.io.ErrorKind.TheVariants.{OutOfMemory};
+//! Farms in files: opening one, making one, and bringing one of the first edition to this one.
+ghost use Rattle.std.specs.Prelude.{◌≡◌, false, IfOk, IfErr, IfSome};
 ghost use Rattle.sqlite.specs.Held.{state};
 ghost use Rattle.sqlite_wal.specs.Files.{image_at};
 ghost use Rattle.sqlite_wal.specs.Recovery.{Image};
 ghost use Rattle.farm_keep.specs.Headline.{IsAlwaysClean};
-ghost use Rattle.farm_keep.specs.Versions.{LooksForFarm};
+ghost use Rattle.farm_keep.specs.Versions.{LooksForFarm, LooksForFirst};
 ghost use Rattle.farm_desk.specs.InFiles.{ShowsFiles, FindsTables, FindsFarm, MakesTables};
 ghost use Rattle.farm_desk.specs.InFiles.{MakesFarm, DeniesTables, HasReason, IsOpenFault};
-ghost use Rattle.farm_desk.specs.LabFiles.{IsTextOf};
 ghost use Rattle.farm_desk.specs.InFiles.{LooksForFarmIn, keep_fault};
 ghost use Rattle.farm_desk.specs.Orders.{MakesNewFarm};
+ghost use Rattle.farm_desk.specs.Upgrades.{DeniesRaise, HasUpgradeReason, IsUpgradeFault};
+ghost use Rattle.farm_desk.specs.Upgrades.{LooksForFirstIn};
+ghost use Rattle.farm_desk.specs.Upgrades.{RaisesFarm, RaisesTables};
 
 use crate::fault::DeskFault;
-use crate::lab_files::LabFiles;
 use crate::new_file::NewFile;
 use crate::preflight::Preflight;
-use farm_keep::{KeepFault, Keeper};
+use farm_keep::{KeepFault, Keeper, migrate};
 use farm_store::opened_stands;
-use farm_types::LONGEST_LAB_FILE;
 use sqlite::{Alter, Connection, FileFrom, FileStore, Start};
 use sqlite_disk::Disk;
 use std::alloc::Global;
-use std::io;
-use std::io::{ErrorKind, Read};
 
 /// The keeper of a farm in a file, and of the log beside it. `S` stands for what the two held.
 pub type FileKeeper<S> = Keeper<FileStore<FileFrom<S>>>;
 
-/// Opens a store at a path. What is refused, memory too, is a fault of the store; then what was
-/// made is taken away, once what is left of the store is closed.
-pub(crate) fn open<S: Start>(
+/// Opens a store at a path that was looked at. What is refused, memory too, is a fault of the store;
+/// then what was made is taken away, once what is left of the store is closed.
+fn open<S: Start>(
     rt: &HostRuntime,
     preflight: &Preflight<'_>,
-    path: &str,
     start: S,
 ) -> Result<Connection<FileStore<FileFrom<S>>>, DeskFault>
     ensures mode { IfOk result (λ conn. conn.in_transaction ≡ false) }
     ensures shows { IfOk result (ShowsFiles (image_at S.Start)) }
     ensures fault { IfErr result (λ fault. fault ≡ DeskFault.Keep KeepFault.Store) }
 {
-    match Connection::open_from(rt, path, false, start) {
+    match Connection::open_from(rt, preflight.file, false, start) {
         Ok(conn) => Ok(conn),
         Err((_, left)) => {
             drop(left);
@@ -74,15 +69,10 @@ pub fn open_farm<S: Start>(
     ensures version { LooksForFarmIn (image_at S.Start) result }
     ensures fault { IfErr result IsOpenFault }
 {
-    let Some(preflight) = Preflight::of_farm(rt, alloc, path) else {
-        return Err(DeskFault::Keep(KeepFault::Store));
-    };
-    let conn = open(rt, &preflight, path, start)?;
-    let found = farm_on(alloc, conn);
-    if found.is_err() {
-        preflight.clean_up(rt);
-    }
-    found
+    let looked = Preflight::of_farm(rt, alloc, path);
+    let preflight = looked.ok_or(DeskFault::Keep(KeepFault::Store))?;
+    let conn = open(rt, &preflight, start)?;
+    farm_on(alloc, conn).inspect_err(|_| preflight.clean_up(rt))
 }
 
 /// A keeper of the empty farm in the file at a path, which is made where there is nothing. A file
@@ -99,10 +89,9 @@ pub fn make_farm<S: Start>(
     ensures made { IfOk result (MakesFarm (image_at S.Start)) }
     ensures fault { IfErr result (λ fault. fault ≡ DeskFault.Keep KeepFault.Store) }
 {
-    let Some(preflight) = Preflight::of_new_farm(rt, alloc, path) else {
-        return Err(DeskFault::Keep(KeepFault::Store));
-    };
-    make_at(rt, alloc, &preflight, path, start)
+    let looked = Preflight::of_new_farm(rt, alloc, path);
+    let preflight = looked.ok_or(DeskFault::Keep(KeepFault::Store))?;
+    make_at(rt, alloc, &preflight, start)
 }
 
 /// A keeper of the empty farm in a new file at a path, whose pages are short; none where there is a
@@ -116,7 +105,7 @@ pub fn make_new_farm(
     ensures { IfSome result (MakesNewFarm (image_at ⟦<NewFile as Start>⟧)) }
 {
     let preflight = Preflight::of_new_file(rt, alloc, path)?;
-    Some(make_at(rt, alloc, &preflight, path, NewFile))
+    Some(make_at(rt, alloc, &preflight, NewFile))
 }
 
 /// A keeper of the empty farm in files that were looked at.
@@ -124,18 +113,13 @@ fn make_at<S: Start>(
     rt: &HostRuntime,
     alloc: Global,
     preflight: &Preflight<'_>,
-    path: &str,
     start: S,
 ) -> Result<FileKeeper<S>, DeskFault>
     ensures made { IfOk result (MakesFarm (image_at S.Start)) }
     ensures fault { IfErr result (λ fault. fault ≡ DeskFault.Keep KeepFault.Store) }
 {
-    let conn = open(rt, preflight, path, start)?;
-    let made = new_farm_on(alloc, conn);
-    if made.is_err() {
-        preflight.clean_up(rt);
-    }
-    made
+    let conn = open(rt, preflight, start)?;
+    new_farm_on(alloc, conn).inspect_err(|_| preflight.clean_up(rt))
 }
 
 /// A keeper of the farm that files hold which were just opened. That its one call is of any store
@@ -190,31 +174,65 @@ fn make<S: Alter + Drop>(alloc: Global, conn: Connection<S>) -> Result<Keeper<S>
     Ok(keeper)
 }
 
-/// The bytes of the lab file at a path; of one that is too long so many that they show it.
-pub(crate) fn read_lab<L: LabFiles>(alloc: Global, labs: &L, path: &str) -> io::Result<Vec<u8>>
-    ensures { IfOk result (λ bytes. IsTextOf (L.contents labs.now path.now) bytes.items) }
+/// Makes the first edition's tables of the farm in the file at a path those of this edition, in
+/// their place, and returns the store that has them. Where there is no database, or one without the
+/// farm's tables, that is a fault of the store; one with the tables of no sound farm of the first
+/// edition is bad, and one of this edition is new. What a fault or a stop leaves the clauses of
+/// `farm_keep::migrate` say, which borrows the connection. Nothing is made where there is nothing.
+///
+/// Costs one reading of the file, and one writing of its jobs.
+pub fn migrate_farm<S: Start>(
+    rt: &HostRuntime,
+    alloc: Global,
+    path: &str,
+    start: S,
+) -> Result<Connection<FileStore<FileFrom<S>>>, DeskFault>
+    ensures raised { IfOk result (RaisesFarm (image_at S.Start)) }
+
+    // On a disk that always returns what was written, the files are reported as bad only where they
+    // hold no sound farm of the first edition, and as new only where their tables are of this one.
+    ensures denied { HasUpgradeReason (image_at S.Start) result }
+
+    // Whatever else they hold, they are reported to be of a new schema only where their `meta` may
+    // have 2, and are reported so where it has; where it has neither 1 nor 2 they are bad.
+    ensures version { LooksForFirstIn (image_at S.Start) result }
+    ensures fault { IfErr result IsUpgradeFault }
 {
-    let file = labs.open(path)?;
-    read_lab_from(alloc, file)
+    let looked = Preflight::of_farm(rt, alloc, path);
+    let preflight = looked.ok_or(DeskFault::Keep(KeepFault::Store))?;
+    let conn = open(rt, &preflight, start)?;
+    raised_on(alloc, conn).inspect_err(|_| preflight.clean_up(rt))
 }
 
-/// The first bytes of a reader, one more than a lab file may have.
-fn read_lab_from<R: Read + Drop>(alloc: Global, reader: R) -> io::Result<Vec<u8>>
-    ensures { IfOk result (λ bytes. IsTextOf (R.remaining reader) bytes.items) }
+/// The store over files that were just opened, once the farm in it is brought to this edition. That
+/// its one call is of any store keeps its proof short.
+fn raised_on<D: Disk + Drop>(
+    alloc: Global,
+    conn: Connection<FileStore<D>>,
+) -> Result<Connection<FileStore<D>>, DeskFault>
+    requires { conn.in_transaction ≡ false }
+    ensures raised { IfOk result (λ new. (image : Image) → ShowsFiles image conn
+        → RaisesFarm image new) }
+    ensures denied { (image : Image) → ShowsFiles image conn → HasUpgradeReason image result }
+    ensures version { (image : Image) → ShowsFiles image conn → LooksForFirstIn image result }
+    ensures fault { IfErr result IsUpgradeFault }
 {
-    let mut bytes = Vec::new(alloc);
-    let mut start = reader.take(LONGEST_LAB_FILE as u64 + 1);
-    start.read_to_end(&mut bytes)?;
-    Ok(bytes)
+    raise(alloc, conn)
 }
 
-/// What it is that no lab file could be read.
-pub(crate) fn lab_fault(error: &io::Error) -> DeskFault
-    ensures fault { (result ≡ DeskFault.NoMemory) ⊎ (result ≡ DeskFault.Read) }
-    ensures memory { (result ≡ DeskFault.NoMemory) ↔ (error_kind error.now ≡ OutOfMemory) }
+/// A store that was just opened, once the farm in it is brought to this edition.
+fn raise<S: Alter + Drop>(
+    alloc: Global,
+    mut conn: Connection<S>,
+) -> Result<Connection<S>, DeskFault>
+    requires { conn.in_transaction ≡ false }
+    ensures raised { IfOk result (RaisesTables S.Store conn) }
+    ensures denied { IsAlwaysClean S.Store → IfErr result (DeniesRaise S.Store conn) }
+    ensures version { IsAlwaysClean S.Store
+        → LooksForFirst (keep_fault result) (state S.Store conn).now }
+    ensures fault { IfErr result IsUpgradeFault }
 {
-    match error.kind() {
-        ErrorKind::OutOfMemory => DeskFault::NoMemory,
-        _ => DeskFault::Read,
-    }
+    opened_stands(&conn);
+    migrate(alloc, &mut conn)?;
+    Ok(conn)
 }

@@ -4,9 +4,9 @@
 //! adds what a lab file lists; `serve` converses with one client after another, and `serve_on` with
 //! those of a listener; `program` is the program `farm`.
 //!
-//! Read `src/` in the order receive, answer, response, conversation; lab_import; clients, serving,
+//! Read `src/` in the order answer, conversation; lab_import; clients, serving,
 //! scripted_clients, socket_clients with pending and deadline_stream; new_file, preflight, files,
-//! upgrade, open_files, lab_files; report, orders, command_line; laws.
+//! open_files; report, orders, command_line; laws.
 //!
 //! Read `specs/` in the order Received, Answers, Encoding, Response, Ends, which say what a
 //! conversation is; Imports, LabFiles, what an import is; Conversations, Clients, Scripts, Connections,
@@ -17,12 +17,10 @@
 mod answer;
 mod clients;
 mod command_line;
-mod context;
 mod conversation;
 mod deadline_stream;
 mod fault;
 mod files;
-mod lab_files;
 mod lab_import;
 mod laws;
 mod new_file;
@@ -30,13 +28,10 @@ mod open_files;
 mod orders;
 mod pending;
 mod preflight;
-mod receive;
 mod report;
-mod response;
 mod scripted_clients;
 mod serving;
 mod socket_clients;
-mod upgrade;
 
 // One conversation: a request, what it asks, and its answer.
 pub use conversation::{converse, converse_counted};
@@ -51,16 +46,15 @@ pub use scripted_clients::{ScriptedClient, ScriptedClients, ServedClient};
 pub use serving::{serve, serve_on};
 
 // Farms in files.
-pub use files::{FileKeeper, make_farm, make_new_farm, open_farm};
+pub use files::{FileKeeper, make_farm, make_new_farm, migrate_farm, open_farm};
 pub use new_file::NewFile;
-pub use upgrade::migrate_farm;
 
 // The program: its words, the orders that they name, and its exit statuses.
 pub use command_line::{
     DONE, FAILED, OUT_OF_MEMORY, REFUSED, WRONG_WORDS, perform, print_fault, program,
 };
 pub use farm_cli::{Database, Order, OrderFault, Report, order_of};
-pub use lab_files::LabFiles;
+pub use lab_import::LabFiles;
 pub use orders::{End, carry_out, carry_out_from};
 
 // What ends a conversation, an import or an order.

@@ -12,14 +12,12 @@ ghost use Rattle.farm_keep.specs.KeeperState.{KeeperState};
 
 use crate::conversation::converse;
 use crate::fault::DeskFault;
-use crate::files::{lab_fault, make_farm, make_new_farm, open_farm, read_lab};
-use crate::lab_files::LabFiles;
-use crate::lab_import::{ImportEnd, import};
+use crate::files::{make_farm, make_new_farm, migrate_farm, open_farm};
+use crate::lab_import::{ImportEnd, LabFiles, import, lab_fault, read_lab};
 use crate::new_file::NewFile;
 use crate::open_files::OpenFiles;
 use crate::report::{report_text, zone_between};
 use crate::serving::serve_on_files;
-use crate::upgrade::migrate_farm;
 use arrayvec::ArrayString;
 use farm_cli::{Database, Order, Report};
 use farm_http::{Input, Output};
@@ -35,8 +33,8 @@ use std::net::{Ipv4Addr, SocketAddr, TcpListener};
 use std::os::fd::AsFd;
 use std::{fs, io};
 
-/// A file of so many bytes may take longer than two seconds to migrate or to open.
-const LARGE_FILE: u64 = 16_000_000;
+/// A file of so many megabytes may take longer than two seconds to migrate or to open.
+const LARGE_FILE: u64 = 16;
 
 /// The room for a line with numbers: more than any of them takes.
 const LINE_ROOM: usize = 128;
@@ -299,11 +297,8 @@ fn print_line<W: Output>(output: &mut W, line: &[u8]) -> Result<End, DeskFault>
 /// few seconds.
 fn print_size_note(rt: &HostRuntime, file: &str, what: &str) {
     let mut errors = rt.stderr();
-    if let Ok(found) = fs::metadata(rt, file)
-        && found.len() >= LARGE_FILE
-        && errors.is_terminal()
-    {
-        let megabytes = found.len() / 1_000_000;
+    let megabytes = fs::metadata(rt, file).map_or(0, |found| found.len() / 1_000_000);
+    if megabytes >= LARGE_FILE && errors.is_terminal() {
         let _ = writeln!(
             errors,
             "farm: {what} {megabytes} MB, which takes a few seconds"

@@ -2,7 +2,7 @@
 ghost use Rattle.std.specs.Prelude.{take, IfSome};
 ghost use Rattle.farm_desk.specs.Pending.{IsDecided};
 
-use crate::deadline_stream::{limit, set_timeouts};
+use crate::deadline_stream::{ClientStream, limit};
 use farm_http::read_from_memory;
 use farm_types::{LONGEST_BODY, LONGEST_HEAD};
 use mio::unix::SourceFd;
@@ -62,6 +62,7 @@ pub(crate) struct Pending {
     ready: VecDeque<Waiting>,
     accepted: usize,
     to_accept: u64,
+    has_arrivals: bool,
     refused: u64,
     paused_until: Option<Duration>,
 }
@@ -69,12 +70,12 @@ pub(crate) struct Pending {
 impl Pending {
     /// The first `max` connections of a listener, none of which was accepted yet; none where the
     /// system or the memory refuses what that takes, and then the listener is as it was.
-    pub(crate) fn new<N: Net>(
+    pub(crate) fn new(
         alloc: Global,
-        net: &N,
+        net: &impl Net,
         listener: &TcpListener,
         max: u64,
-    ) -> Option<Pending> {
+    ) -> Option<Self> {
         let poll = Poll::new(net).ok()?;
         let events = Events::with_capacity(alloc, MOST_EVENTS).ok()?;
         let bytes = Vec::from_elem(alloc, 0u8, LONGEST_REQUEST + 1).ok()?;
@@ -94,6 +95,7 @@ impl Pending {
             ready,
             accepted: 0,
             to_accept: max,
+            has_arrivals: true,
             refused: 0,
             paused_until: None,
         })
@@ -101,27 +103,26 @@ impl Pending {
 
     /// The next connection whose request is there, or whose time is over; none for one that the
     /// system refused. It waits until there is one.
-    pub(crate) fn next_stream<C: Clock>(
+    pub(crate) fn next_client<C: Clock>(
         &mut self,
         listener: &TcpListener,
         clock: &C,
-    ) -> Option<TcpStream> {
+    ) -> Option<ClientStream> {
         for _ in 0..u64::MAX {
             let now = clock.monotonic().ok();
             self.accept_all(listener, now);
             // Who waits is looked at before whoever came now, also while there is always one ready.
-            if !self.incomplete.is_empty() {
+            let is_due = !self.ready.is_empty() || self.has_first_timed_out(now);
+            if is_due && !self.incomplete.is_empty() {
                 self.poll_events(Some(Duration::ZERO));
             }
             if self.has_first_timed_out(now) {
-                // A read of it waits for nothing.
+                // It is read as far as it came.
                 let waiting = self.incomplete.pop_front()?;
-                deregister(&self.poll, &waiting.stream);
-                return Some(waiting.stream);
+                return Some(ClientStream::new(waiting.stream, false));
             }
             if let Some(waiting) = self.ready.pop_front() {
-                waiting.stream.set_nonblocking(false).ok()?;
-                return Some(waiting.stream);
+                return Some(ClientStream::new(waiting.stream, true));
             }
             if self.refused > 0 {
                 self.refused -= 1;
@@ -145,7 +146,7 @@ impl Pending {
         }
         for _ in 0..MOST_WAITING {
             let waiting = self.incomplete.len().saturating_add(self.ready.len());
-            if self.to_accept == 0 || waiting >= MOST_WAITING {
+            if !self.has_arrivals || self.to_accept == 0 || waiting >= MOST_WAITING {
                 return;
             }
             match listener.accept() {
@@ -155,7 +156,7 @@ impl Pending {
                         self.refused = self.refused.saturating_add(1);
                     }
                 }
-                Err(error) if error.kind() == ErrorKind::WouldBlock => return,
+                Err(error) if error.kind() == ErrorKind::WouldBlock => self.has_arrivals = false,
                 Err(_) => {
                     self.to_accept -= 1;
                     self.refused = self.refused.saturating_add(1);
@@ -170,7 +171,6 @@ impl Pending {
     /// Adds a connection, to the ready ones where its request is complete; none where the system
     /// refuses.
     fn add(&mut self, stream: TcpStream, now: Option<Duration>) -> Option<()> {
-        set_timeouts(&stream).ok()?;
         stream.set_nonblocking(true).ok()?;
         let number = self.accepted;
         self.accepted = number.wrapping_add(1);
@@ -205,6 +205,9 @@ impl Pending {
             return;
         }
         for event in self.events.iter() {
+            if event.token() == LISTENER {
+                self.has_arrivals = true;
+            }
             let number = event.token().0;
             let place = self.incomplete.partition_point(|it| it.number < number);
             if let Some(waiting) = self.incomplete.get(place)
@@ -214,7 +217,6 @@ impl Pending {
                     || is_complete(self.alloc, &waiting.stream, self.bytes.as_mut_slice()))
                 && let Some(waiting) = self.incomplete.remove(place)
             {
-                deregister(&self.poll, &waiting.stream);
                 let place = self.ready.partition_point(|it| it.number < number);
                 // There is room for it.
                 let _ = self.ready.insert(place, waiting);
@@ -236,11 +238,6 @@ impl Pending {
         };
         Some(end.saturating_sub(now))
     }
-}
-
-fn deregister(poll: &Poll, stream: &TcpStream) {
-    let fd = stream.as_raw_fd();
-    let _ = poll.registry().deregister(&mut SourceFd(&fd));
 }
 
 /// Whether no further byte is wanted of a connection: a whole request came, or what is none, or as

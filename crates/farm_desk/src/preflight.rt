@@ -61,7 +61,7 @@ pub(crate) struct Preflight<'a> {
 
 impl<'a> Preflight<'a> {
     /// Looks at both paths; none where that of the log isn't known.
-    fn of_paths(rt: &HostRuntime, alloc: Global, file: &'a str) -> Option<Preflight<'a>>
+    fn of_paths(rt: &HostRuntime, alloc: Global, file: &'a str) -> Option<Self>
         ensures { IfSome result (λ it. it.file.now ≡ file.now) }
     {
         let log = log_path(rt, alloc, file).ok()?;
@@ -76,7 +76,7 @@ impl<'a> Preflight<'a> {
 
     /// The check of a farm that is there; none where its file is no database. A log that was left
     /// over stays then: it may have all that there is of a farm.
-    pub(crate) fn of_farm(rt: &HostRuntime, alloc: Global, file: &'a str) -> Option<Preflight<'a>>
+    pub(crate) fn of_farm(rt: &HostRuntime, alloc: Global, file: &'a str) -> Option<Self>
         ensures path { IfSome result (λ it. it.file.now ≡ file.now) }
         ensures database { IfSome result (λ it. it.file_state ≡ Database) }
     {
@@ -86,11 +86,7 @@ impl<'a> Preflight<'a> {
 
     /// The check of a new farm, whose file is made where there was nothing; none where a file is
     /// neither empty nor a database, or where a log that isn't empty is left over without one.
-    pub(crate) fn of_new_farm(
-        rt: &HostRuntime,
-        alloc: Global,
-        file: &'a str,
-    ) -> Option<Preflight<'a>>
+    pub(crate) fn of_new_farm(rt: &HostRuntime, alloc: Global, file: &'a str) -> Option<Self>
         ensures path { IfSome result (λ it. it.file.now ≡ file.now) }
         ensures new { IfSome result (λ it. MayBeNew it.file_state it.log_state) }
     {
@@ -107,11 +103,7 @@ impl<'a> Preflight<'a> {
 
     /// The check of a farm in a new file, which is made with its first page; none where there is a
     /// file, or a log that isn't empty, or where none can be made.
-    pub(crate) fn of_new_file(
-        rt: &HostRuntime,
-        alloc: Global,
-        file: &'a str,
-    ) -> Option<Preflight<'a>>
+    pub(crate) fn of_new_file(rt: &HostRuntime, alloc: Global, file: &'a str) -> Option<Self>
         ensures path { IfSome result (λ it. it.file.now ≡ file.now) }
         ensures new { IfSome result (λ it. it.file_state ≡ Nothing × IsNoLog it.log_state) }
     {

@@ -7,7 +7,7 @@ ghost use Rattle.farm_desk.specs.Serving.{ServesUntil, PassesOn};
 ghost use Rattle.farm_desk.specs.Connections.{ServesInTurn};
 
 use crate::clients::Clients;
-use crate::context::Context;
+use crate::conversation::Context;
 use crate::fault::DeskFault;
 use crate::open_files::OpenFiles;
 use crate::socket_clients::SocketClients;

@@ -3,13 +3,14 @@
 ghost use Rattle.std.specs.Prelude.{None, ⊤};
 
 use crate::clients::{Client, Clients};
-use crate::deadline_stream::{DeadlineStream, set_timeouts, shut_down};
+use crate::deadline_stream::{ClientStream, DeadlineStream};
 use crate::open_files::OpenFiles;
 use crate::pending::Pending;
-use farm_wire::{no_memory_answer, store_answer, write_whole};
+use farm_wire::{no_memory_answer, store_answer};
 use std::alloc::Global;
 use std::io::BufReader;
-use std::net::{Net, TcpListener, TcpStream};
+use std::net::{Net, TcpListener};
+use std::rc::Rc;
 use std::time::{Clock, SystemTime, UNIX_EPOCH};
 
 /// The room of the buffer before a stream: a usual head and a short body. It is made anew for each
@@ -69,20 +70,22 @@ impl<'a, C: Clock> Clients for SocketClients<'a, C> {
     /// costs one read; without memory for the buffer the client is answered that, and without the
     /// files that the store failed.
     fn next(&mut self) -> Option<Client<BufReader<DeadlineStream<'a, C>>, DeadlineStream<'a, C>>> {
-        let stream = match &mut self.pending {
-            Some(pending) => pending.next_stream(self.listener, self.clock)?,
-            None => next_stream(self.listener)?,
+        let client = match &mut self.pending {
+            Some(pending) => pending.next_client(self.listener, self.clock)?,
+            None => next_client(self.listener)?,
         };
-        let second = stream.try_clone().ok()?;
         let now = moment(self.clock)?;
-        let mut writer = DeadlineStream::new(second, self.clock);
         if self.files.is_some_and(|files| !files.are_present()) {
-            refuse(&mut writer, store_answer());
+            client.refuse(store_answer());
             return None;
         }
-        let source = DeadlineStream::new(stream, self.clock);
+        let client = Rc::new(self.alloc, client)
+            .map_err(|failed| failed.value.refuse(no_memory_answer()))
+            .ok()?;
+        let source = DeadlineStream::new(client.clone().ok()?, self.clock);
+        let writer = DeadlineStream::new(client, self.clock);
         let Ok(reader) = BufReader::with_capacity(self.alloc, BUFFER, source) else {
-            refuse(&mut writer, no_memory_answer());
+            writer.client.refuse(no_memory_answer());
             return None;
         };
         Some(Client {
@@ -93,26 +96,19 @@ impl<'a, C: Clock> Clients for SocketClients<'a, C> {
     }
 
     fn close(&mut self, _reader: BufReader<DeadlineStream<'a, C>>, writer: DeadlineStream<'a, C>) {
-        shut_down(&writer.stream);
+        writer.client.shut_down();
     }
 }
 
-/// Answers a request that isn't read.
-fn refuse<C: Clock>(writer: &mut DeadlineStream<'_, C>, answer: &[u8]) {
-    let _ = write_whole(writer, answer);
-    shut_down(&writer.stream);
-}
-
-/// The stream of the next connection, limited in time.
-fn next_stream(listener: &TcpListener) -> Option<TcpStream> {
+/// The next connection.
+fn next_client(listener: &TcpListener) -> Option<ClientStream> {
     let (stream, _) = listener.accept().ok()?;
-    set_timeouts(&stream).ok()?;
-    Some(stream)
+    stream.set_nonblocking(true).ok()?;
+    Some(ClientStream::new(stream, true))
 }
 
 /// The moment of a clock, in whole seconds since 1970-01-01 00:00:00 UTC; none where it fails.
 fn moment<C: Clock>(clock: &C) -> Option<u64> {
-    let now = SystemTime::now(clock).ok()?;
-    let since = now.duration_since(UNIX_EPOCH).ok()?;
-    Some(since.as_secs())
+    let since = SystemTime::now(clock).ok()?.duration_since(UNIX_EPOCH);
+    Some(since.ok()?.as_secs())
 }

@@ -1,6 +1,6 @@
 -- The client that was accepted was conversed with, and closed.
 use Rattle.farm_desk.proofs.ConnectionLemmas.{connections_one}
-use Rattle.farm_desk.proofs.context.Context.serve_next.Goals as goal
+use Rattle.farm_desk.proofs.conversation.Context.serve_next.Goals as goal
 
 pub returns-clause-connections : goal.returns-clause-connections
 returns-clause-connections g c =

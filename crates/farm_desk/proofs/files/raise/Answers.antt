@@ -1,7 +1,7 @@
 use Rattle.std.proofs.Common.{Err, ap, ◌∙◌}
 use Rattle.std.proofs.lemmas.Result.{err_from_is_err_and}
 use Rattle.farm_desk.proofs.UpgradeLemmas.{denies_raise, raises_tables}
-use Rattle.farm_desk.proofs.upgrade.raise.Goals as goal
+use Rattle.farm_desk.proofs.files.raise.Goals as goal
 
 pub returns-clause-raised : goal.returns-clause-raised
 returns-clause-raised g c =

@@ -3,7 +3,7 @@ use Rattle.std.proofs.Common.{Ok}
 use Rattle.std.proofs.lemmas.Result.{err_from_is_err_and}
 use Rattle.farm_http.specs.Counts.{reading_of, IsSpent}
 use Rattle.farm_desk.proofs.ReceivedLemmas.{receives_bad_request, receive_fails, receives_meant}
-use Rattle.farm_desk.proofs.context.Context.receive.Goals as goal
+use Rattle.farm_desk.proofs.conversation.Context.receive.Goals as goal
 
 pub returns-in_err-taken-clause-receives : goal.returns-in_err-taken-clause-receives
 returns-in_err-taken-clause-receives g c =

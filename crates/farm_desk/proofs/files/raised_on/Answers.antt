@@ -2,7 +2,7 @@ use Rattle.std.proofs.Common.{inr}
 use Rattle.std.proofs.lemmas.Result.{IfErr-weaker, IfOk-weaker}
 use Rattle.farm_desk.proofs.FileLemmas.{found_in}
 use Rattle.farm_desk.proofs.UpgradeLemmas.{denies_upgrade, raises_farm}
-use Rattle.farm_desk.proofs.upgrade.raised_on.Goals as goal
+use Rattle.farm_desk.proofs.files.raised_on.Goals as goal
 
 pub returns-clause-raised : goal.returns-clause-raised
 returns-clause-raised g c =

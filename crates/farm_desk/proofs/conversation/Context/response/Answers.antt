@@ -1,7 +1,7 @@
 -- What was received and what is due to it, together.
 use Rattle.std.proofs.Common.{Ok, inl}
 use Rattle.farm_desk.proofs.AnswerLemmas.{bad_request_is_response}
-use Rattle.farm_desk.proofs.context.Context.response.Goals as goal
+use Rattle.farm_desk.proofs.conversation.Context.response.Goals as goal
 
 pub returns-in-Ok-clause-response : goal.returns-in-Ok-clause-response
 returns-in-Ok-clause-response g c =

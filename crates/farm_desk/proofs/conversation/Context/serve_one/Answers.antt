@@ -4,7 +4,7 @@ use Rattle.farm_http.specs.Counts.{reader_of, writer_of}
 use Rattle.farm_desk.specs.Conversations.{desk}
 use Rattle.farm_desk.proofs.ServingLemmas.{conversation_serves}
 use Rattle.farm_desk.proofs.ConnectionLemmas.{converses_once}
-use Rattle.farm_desk.proofs.context.Context.serve_one.Goals as goal
+use Rattle.farm_desk.proofs.conversation.Context.serve_one.Goals as goal
 
 pub returns-clause-serves : goal.returns-clause-serves
 returns-clause-serves g c =
