@@ -6,7 +6,7 @@ at worst. With --strict, for a quiet machine, that has to be under 0.1 s beside 
 0.5 s beside busy ones; without it twenty times as much, and a program that waits for a silent one takes five
 times that.
 No request may fail, and no command be done twice. Ends with status 1 at the first thing that isn't as it
-should be, and with 77 where the machine lacks what it wants. Takes about 15 seconds.
+should be, and with 77 where the machine lacks what it wants. Takes about 20 seconds.
 """
 import argparse
 import asyncio
@@ -78,13 +78,13 @@ class Farm:
         await self.ask(post("/types", "admin", {"name": "bbb"}))
         await self.ask(post("/boards", "admin", {"name": "b1", "type": "bbb", "tags": []}))
 
-    async def worst(self, seconds: float) -> float:
+    async def worst(self, seconds: float, pause: float = 0.01) -> float:
         """How long an honest client waits at worst, who looks at the farm again and again."""
         waits: List[float] = []
         until = time.monotonic() + seconds
         while time.monotonic() < until:
             waits.append((await self.ask(LOOK))[0])
-            await asyncio.sleep(0.01)
+            await asyncio.sleep(pause)
         return max(waits)
 
     def end(self) -> None:
@@ -92,9 +92,9 @@ class Farm:
         self.process.wait()
 
 
-async def beside_idle(farm: Farm, number: int) -> float:
+async def beside_idle(farm: Farm, number: int, seconds: float = 2, pause: float = 0.01) -> float:
     crowd = [await farm.connect() for _ in range(number)]
-    worst = await farm.worst(2)
+    worst = await farm.worst(seconds, pause)
     for _, writer in crowd:
         writer.close()
     return worst
@@ -110,6 +110,11 @@ async def beside_fifty_idle(farm: Farm) -> float:
 
 async def beside_a_thousand_idle(farm: Farm) -> float:
     return await beside_idle(farm, 1000)
+
+
+async def without_a_pause(farm: Farm) -> float:
+    """Some thousand requests: one of them comes while the program looks whether an idle client sent something."""
+    return await beside_idle(farm, 6, 4, 0)
 
 
 async def beside_slow_ones(farm: Farm) -> float:
@@ -176,6 +181,7 @@ ROWS: List[Tuple[str, float, Callable[[Farm], Awaitable[float]]]] = [
     ("one idle connection", 0.1, beside_one_idle),
     ("50 idle connections", 0.1, beside_fifty_idle),
     ("1,000 idle connections", 0.1, beside_a_thousand_idle),
+    ("six idle ones, without a pause,", 0.1, without_a_pause),
     ("six that reopen", 0.1, beside_reopening_ones),
     ("200 that send a byte a second", 0.1, beside_slow_ones),
     ("500 with 16 commands each", 0.5, beside_busy_ones),
