@@ -17,10 +17,7 @@ use crate::fault::DeskFault;
 use farm_core::Farm;
 use farm_keep::{KeepFault, Keeper};
 use farm_types::{Answer, Call, NO_JOB, Refusal};
-use farm_wire::{
-    Ask, AskFault, METHOD_NOT_ALLOWED, OK, Out, UNAVAILABLE, View, answer_bytes, closed_answer,
-    no_memory_answer, store_answer,
-};
+use farm_wire::{Ask, AskFault, METHOD_NOT_ALLOWED, OK, Out, UNAVAILABLE, View, answer_bytes};
 use sqlite::Alter;
 use std::alloc::Global;
 
@@ -73,7 +70,7 @@ impl Response {
         ensures end { result.end ≡ Err DeskFault.NoMemory }
     {
         Response {
-            bytes: Bytes::Constant(no_memory_answer()),
+            bytes: Bytes::Constant(farm_wire::no_memory_answer()),
             end: Err(DeskFault::NoMemory),
         }
     }
@@ -85,9 +82,9 @@ impl Response {
         ensures end { result.end ≡ Err (DeskFault.Keep fault) }
     {
         let bytes = match fault {
-            KeepFault::NoMemory => no_memory_answer(),
-            KeepFault::Store => store_answer(),
-            KeepFault::Closed => closed_answer(),
+            KeepFault::NoMemory => farm_wire::no_memory_answer(),
+            KeepFault::Store => farm_wire::store_answer(),
+            KeepFault::Closed => farm_wire::closed_answer(),
             KeepFault::BadStore | KeepFault::OldSchema | KeepFault::NewSchema => unreachable!(),
         };
         Response {

@@ -22,8 +22,7 @@ use itoa::Buffer;
 use sqlite::{FileFrom, Start, Unknown};
 use sqlite_disk::Disk;
 use std::alloc::Global;
-use std::io;
-use std::io::{IoSlice, Write};
+use std::io::{self, IoSlice, Write};
 
 /// The order was carried out; a request was answered 200.
 pub const DONE: u8 = 0;

@@ -18,12 +18,9 @@ ghost use Rattle.farm_desk.specs.Encoding.{bytes_in};
 
 use crate::answer::{Response, response_to};
 use crate::fault::DeskFault;
-use farm_http::{Input, Output, Taken};
+use farm_http::{CountedReader, CountedWriter, Input, Output, Taken, WireFault};
 use farm_keep::Keeper;
-use farm_wire::{
-    Ask, AskFault, CountedReader, CountedWriter, Routes, WireFault, read_request_counted,
-    write_whole_counted,
-};
+use farm_wire::{Ask, AskFault, Routes, read_request_counted, write_whole_counted};
 use sqlite::Alter;
 use std::alloc::Global;
 

@@ -6,8 +6,7 @@ ghost use Rattle.std.specs.declared.io.ErrorKind.TheVariants.{WouldBlock};
 
 use farm_http::Output;
 use std::cell::Cell;
-use std::io;
-use std::io::{Error, ErrorKind, Read, Write};
+use std::io::{self, Error, ErrorKind, Read, Write};
 use std::net::{Shutdown, TcpStream};
 use std::rc::Rc;
 use std::time::{Clock, Duration};

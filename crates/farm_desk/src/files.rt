@@ -69,7 +69,7 @@ pub fn open_farm<S: Start>(
     ensures version { LooksForFarmIn (image_at S.Start) result }
     ensures fault { IfErr result IsOpenFault }
 {
-    let looked = Preflight::of_farm(rt, alloc, path);
+    let looked = Preflight::of_farm(rt, path);
     let preflight = looked.ok_or(DeskFault::Keep(KeepFault::Store))?;
     let conn = open(rt, &preflight, start)?;
     farm_on(alloc, conn).inspect_err(|_| preflight.clean_up(rt))
@@ -89,7 +89,7 @@ pub fn make_farm<S: Start>(
     ensures made { IfOk result (MakesFarm (image_at S.Start)) }
     ensures fault { IfErr result (λ fault. fault ≡ DeskFault.Keep KeepFault.Store) }
 {
-    let looked = Preflight::of_new_farm(rt, alloc, path);
+    let looked = Preflight::of_new_farm(rt, path);
     let preflight = looked.ok_or(DeskFault::Keep(KeepFault::Store))?;
     make_at(rt, alloc, &preflight, start)
 }
@@ -104,7 +104,7 @@ pub fn make_new_farm(
 ) -> Option<Result<FileKeeper<NewFile>, DeskFault>>
     ensures { IfSome result (MakesNewFarm (image_at ⟦<NewFile as Start>⟧)) }
 {
-    let preflight = Preflight::of_new_file(rt, alloc, path)?;
+    let preflight = Preflight::of_new_file(rt, path)?;
     Some(make_at(rt, alloc, &preflight, NewFile))
 }
 
@@ -198,7 +198,7 @@ pub fn migrate_farm<S: Start>(
     ensures version { LooksForFirstIn (image_at S.Start) result }
     ensures fault { IfErr result IsUpgradeFault }
 {
-    let looked = Preflight::of_farm(rt, alloc, path);
+    let looked = Preflight::of_farm(rt, path);
     let preflight = looked.ok_or(DeskFault::Keep(KeepFault::Store))?;
     let conn = open(rt, &preflight, start)?;
     raised_on(alloc, conn).inspect_err(|_| preflight.clean_up(rt))

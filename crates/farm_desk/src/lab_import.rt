@@ -15,8 +15,7 @@ use farm_types::{Answer, Call, LONGEST_LAB_FILE, Refusal};
 use sqlite::Alter;
 use std::alloc::Global;
 use std::fs::File;
-use std::io;
-use std::io::{ErrorKind, Read};
+use std::io::{self, ErrorKind, Read};
 
 /// Where the lab file at a path is opened.
 pub trait LabFiles {
@@ -46,8 +45,7 @@ impl LabFiles for HostRuntime {
 pub(crate) fn read_lab<L: LabFiles>(alloc: Global, labs: &L, path: &str) -> io::Result<Vec<u8>>
     ensures { IfOk result (λ bytes. IsTextOf (L.contents labs.now path.now) bytes.items) }
 {
-    let file = labs.open(path)?;
-    read_lab_from(alloc, file)
+    read_lab_from(alloc, labs.open(path)?)
 }
 
 /// The first bytes of a reader, one more than a lab file may have.

@@ -1,18 +1,13 @@
 //! A farm's two files while they are served: whether somebody moved, removed or cut one. Nothing is
 //! known of a path, so nothing here has a clause.
 use crate::preflight::log_path;
-use std::alloc::Global;
 use std::cell::Cell;
 use std::io::ErrorKind;
 use std::os::unix::fs::MetadataExt;
 use std::{fs, io};
 
-/// Which file it is.
-#[derive(Clone, Copy, Debug, PartialEq, Eq)]
-struct Identity {
-    device: u64,
-    node: u64,
-}
+/// Which file it is: its device, and its node there.
+type Identity = (u64, u64);
 
 /// A path, the file that it named once that was open, and how long the file was at the last look.
 #[derive(Drop)]
@@ -37,11 +32,11 @@ pub(crate) struct OpenFiles<'a> {
 impl<'a> OpenFiles<'a> {
     /// The files of a farm that was just opened; none where a path names no file, or where the
     /// system returns another error.
-    pub(crate) fn new(rt: &'a HostRuntime, alloc: Global, file: &str) -> Option<OpenFiles<'a>> {
-        let log = log_path(rt, alloc, file).ok()?;
+    pub(crate) fn new(rt: &'a HostRuntime, file: &str) -> Option<OpenFiles<'a>> {
+        let log = log_path(rt, file).ok()?;
         Some(OpenFiles {
             rt,
-            file: OpenFile::new(rt, String::from_str(alloc, file).ok()?)?,
+            file: OpenFile::new(rt, String::from_str(rt.alloc(), file).ok()?)?,
             log: OpenFile::new(rt, log)?,
             are_lost: Cell::new(false),
         })
@@ -85,9 +80,5 @@ impl OpenFile {
 /// The file that a path names, and how long it is.
 fn look_up(rt: &HostRuntime, path: &str) -> io::Result<(Identity, u64)> {
     let found = fs::metadata(rt, path)?;
-    let identity = Identity {
-        device: found.dev(),
-        node: found.ino(),
-    };
-    Ok((identity, found.len()))
+    Ok(((found.dev(), found.ino()), found.len()))
 }

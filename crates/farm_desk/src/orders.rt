@@ -2,7 +2,6 @@
 ghost use Rattle.std.specs.Prelude.{◌≡◌, None};
 ghost use Rattle.sqlite_wal.specs.Files.{image_at};
 ghost use Rattle.farm_desk.specs.Conversations.{AnswersOne, desk};
-ghost use Rattle.farm_desk.specs.Imports.{IsImport};
 ghost use Rattle.farm_desk.specs.Lines.{counts_line, port_line, ready_line, PrintsLine, PrintsImport};
 ghost use Rattle.farm_desk.specs.Orders.{streams, DoesInFiles, DoesInMemory, DoesOrder};
 ghost use Rattle.farm_desk.specs.Orders.{DoesWhileThere, Inits, MigratesFile, OpensMemory};
@@ -17,7 +16,8 @@ use crate::lab_import::{ImportEnd, LabFiles, import, lab_fault, read_lab};
 use crate::new_file::NewFile;
 use crate::open_files::OpenFiles;
 use crate::report::{report_text, zone_between};
-use crate::serving::serve_on_files;
+use crate::serving;
+use crate::socket_clients::SocketClients;
 use arrayvec::ArrayString;
 use farm_cli::{Database, Order, Report};
 use farm_http::{Input, Output};
@@ -49,6 +49,9 @@ pub enum End {
     /// The command at that place of its lab file, counted from 1, was refused.
     RefusedAt(usize, Refusal),
 }
+
+/// How an order ended, or the fault that ended it.
+type Ended = Result<End, DeskFault>;
 
 /// Carries out an order. Faults are found in this order: those of the store, of the lab file or the
 /// listener, then of the input and the output. Files are opened with the reading of a crash that
@@ -91,14 +94,14 @@ pub fn carry_out_from<S: Start, L: LabFiles, R: Input, W: Output>(
             Database::Memory => answer_in_memory(rt, alloc, at, labs, input, output),
             Database::File(file) => {
                 let task = Task::Answer { at };
-                do_in_files(rt, alloc, file.as_str(), start, task, labs, input, output)
+                do_in_files(rt, file.as_str(), start, task, labs, input, output)
             }
         },
-        Order::Init { file } => init(rt, alloc, file.as_str(), start, output),
-        Order::Migrate { file } => migrate(rt, alloc, file.as_str(), start, output),
+        Order::Init { file } => init(rt, file.as_str(), start, output),
+        Order::Migrate { file } => migrate(rt, file.as_str(), start, output),
         Order::Import { file, at, lab } => {
             let task = Task::Import { at, lab };
-            do_in_files(rt, alloc, file.as_str(), start, task, labs, input, output)
+            do_in_files(rt, file.as_str(), start, task, labs, input, output)
         }
         Order::Report {
             file,
@@ -107,11 +110,11 @@ pub fn carry_out_from<S: Start, L: LabFiles, R: Input, W: Output>(
             which,
         } => {
             let task = Task::Report { east, west, which };
-            do_in_files(rt, alloc, file.as_str(), start, task, labs, input, output)
+            do_in_files(rt, file.as_str(), start, task, labs, input, output)
         }
         Order::Serve { file, port, max } => {
             let task = Task::Serve { port, max };
-            do_while_there(rt, alloc, file.as_str(), start, task, labs, input, output)
+            do_while_there(rt, file.as_str(), start, task, labs, input, output)
         }
     }
 }
@@ -124,59 +127,56 @@ fn answer_in_memory<L: LabFiles, R: Input, W: Output>(
     labs: &L,
     input: &mut R,
     output: &mut W,
-) -> Result<End, DeskFault>
+) -> Ended
     ensures { DoesInMemory (L.contents labs.now) R.never_fails (W.has_room output.old)
         (streams (R.remaining input.old) (W.contents output.old))
         (streams (R.remaining input.new) (W.contents output.new)) (Task.Answer at) result }
 {
     let keeper = memory_keeper(alloc)?;
-    let task = Task::Answer { at };
-    do_task(rt, alloc, keeper, task, labs, None, input, output)
+    do_task(rt, keeper, Task::Answer { at }, labs, None, input, output)
 }
 
 /// Does a task with the farm in a file.
 fn do_in_files<S: Start, L: LabFiles, R: Input, W: Output>(
     rt: &HostRuntime,
-    alloc: Global,
     file: &str,
     start: S,
     task: Task,
     labs: &L,
     input: &mut R,
     output: &mut W,
-) -> Result<End, DeskFault>
+) -> Ended
     ensures { DoesInFiles (L.contents labs.now) R.never_fails (W.has_room output.old)
         (streams (R.remaining input.old) (W.contents output.old))
         (streams (R.remaining input.new) (W.contents output.new))
         ⟦<FileFrom<S> as Disk>⟧ (image_at S.Start) task result }
 {
-    let keeper = open_farm(rt, alloc, file, start)?;
-    do_task(rt, alloc, keeper, task, labs, None, input, output)
+    let keeper = open_farm(rt, rt.alloc(), file, start)?;
+    do_task(rt, keeper, task, labs, None, input, output)
 }
 
 /// Does a task with the farm in a file as long as that is there. Where somebody takes away the file
 /// or its log meanwhile, that is a fault of the store, since what would be written then is lost.
 fn do_while_there<S: Start, L: LabFiles, R: Input, W: Output>(
     rt: &HostRuntime,
-    alloc: Global,
     file: &str,
     start: S,
     task: Task,
     labs: &L,
     input: &mut R,
     output: &mut W,
-) -> Result<End, DeskFault>
+) -> Ended
     ensures { DoesWhileThere (L.contents labs.now) R.never_fails (W.has_room output.old)
         (streams (R.remaining input.old) (W.contents output.old))
         (streams (R.remaining input.new) (W.contents output.new))
         ⟦<FileFrom<S> as Disk>⟧ (image_at S.Start) task result }
 {
     print_size_note(rt, file, "opening");
-    let keeper = open_farm(rt, alloc, file, start)?;
-    let Some(files) = OpenFiles::new(rt, alloc, file) else {
+    let keeper = open_farm(rt, rt.alloc(), file, start)?;
+    let Some(files) = OpenFiles::new(rt, file) else {
         return Err(DeskFault::Keep(KeepFault::Store));
     };
-    let ended = do_task(rt, alloc, keeper, task, labs, Some(&files), input, output);
+    let ended = do_task(rt, keeper, task, labs, Some(&files), input, output);
     if ended.is_ok() && files.are_lost() {
         return Err(DeskFault::Keep(KeepFault::Store));
     }
@@ -200,14 +200,13 @@ enum Task {
 /// they are passed.
 fn do_task<L: LabFiles, R: Input, W: Output, S: Alter + Drop>(
     rt: &HostRuntime,
-    alloc: Global,
     mut keeper: Keeper<S>,
     task: Task,
     labs: &L,
     files: Option<&OpenFiles<'_>>,
     input: &mut R,
     output: &mut W,
-) -> Result<End, DeskFault>
+) -> Ended
     ensures { (left : KeeperState S) × DoesTask S.Store (L.contents labs.now) task
         (desk keeper (R.remaining input.old) (W.contents output.old))
         (desk left (R.remaining input.new) (W.contents output.new))
@@ -215,12 +214,12 @@ fn do_task<L: LabFiles, R: Input, W: Output, S: Alter + Drop>(
 {
     let keeper = &mut keeper;
     match task {
-        Task::Answer { at } => answer_one(alloc, keeper, input, output, at),
-        Task::Import { at, lab } => import_file(alloc, keeper, labs, lab.as_str(), at, output),
+        Task::Answer { at } => answer_one(rt.alloc(), keeper, input, output, at),
+        Task::Import { at, lab } => import_file(rt.alloc(), keeper, labs, lab.as_str(), at, output),
         Task::Report { east, west, which } => {
-            print_report(alloc, keeper, (east, west), which, output)
+            print_report(rt.alloc(), keeper, (east, west), which, output)
         }
-        Task::Serve { port, max } => serve(rt, alloc, keeper, port, max, files, output),
+        Task::Serve { port, max } => serve(rt, keeper, port, max, files, output),
     }
 }
 
@@ -231,7 +230,7 @@ fn answer_one<R: Input, W: Output, S: Alter>(
     input: &mut R,
     output: &mut W,
     at: u64,
-) -> Result<End, DeskFault>
+) -> Ended
     ensures { AnswersOne S.Store (desk keeper.old (R.remaining input.old) (W.contents output.old))
         (desk keeper.new (R.remaining input.new) (W.contents output.new)) at
         R.never_fails (W.has_room output.old) result }
@@ -253,28 +252,19 @@ fn memory_keeper(alloc: Global) -> Result<Keeper<MemStore>, DeskFault>
 }
 
 /// Makes the empty farm in a file, which is a new one where there is none.
-fn init<S: Start, W: Output>(
-    rt: &HostRuntime,
-    alloc: Global,
-    file: &str,
-    start: S,
-    output: &mut W,
-) -> Result<End, DeskFault>
+fn init<S: Start, W: Output>(rt: &HostRuntime, file: &str, start: S, output: &mut W) -> Ended
     ensures { Inits (W.has_room output.old) (W.contents output.old) (W.contents output.new)
         ⟦<FileFrom<S> as Disk>⟧ (image_at S.Start)
         ⟦<FileFrom<NewFile> as Disk>⟧ (image_at ⟦<NewFile as Start>⟧) result }
 {
-    match make_new_farm(rt, alloc, file) {
+    match make_new_farm(rt, rt.alloc(), file) {
         Some(made) => print_made(made, output),
-        None => print_made(make_farm(rt, alloc, file, start), output),
+        None => print_made(make_farm(rt, rt.alloc(), file, start), output),
     }
 }
 
 /// Prints that a farm was made.
-fn print_made<K: Drop, W: Output>(
-    made: Result<K, DeskFault>,
-    output: &mut W,
-) -> Result<End, DeskFault>
+fn print_made<K: Drop, W: Output>(made: Result<K, DeskFault>, output: &mut W) -> Ended
     ensures { PrintsIfDone (W.has_room output.old) (W.contents output.old) (W.contents output.new)
         made ready_line result }
 {
@@ -283,7 +273,7 @@ fn print_made<K: Drop, W: Output>(
 }
 
 /// Prints the lines of an order that was done.
-fn print_line<W: Output>(output: &mut W, line: &[u8]) -> Result<End, DeskFault>
+fn print_line<W: Output>(output: &mut W, line: &[u8]) -> Ended
     ensures { PrintsLine (W.has_room output.old) (W.contents output.old) (W.contents output.new)
         line.now result }
 {
@@ -308,23 +298,18 @@ fn print_size_note(rt: &HostRuntime, file: &str, what: &str) {
 
 /// Brings the first edition's farm of a file to this one. The log is copied into the file then; it
 /// is as good where that fails.
-fn migrate<S: Start, W: Output>(
-    rt: &HostRuntime,
-    alloc: Global,
-    file: &str,
-    start: S,
-    output: &mut W,
-) -> Result<End, DeskFault>
+fn migrate<S: Start, W: Output>(rt: &HostRuntime, file: &str, start: S, output: &mut W) -> Ended
     ensures { MigratesFile (W.has_room output.old) (W.contents output.old) (W.contents output.new)
         ⟦<FileFrom<S> as Disk>⟧ (image_at S.Start) result }
 {
     print_size_note(rt, file, "migrating");
-    let conn = migrate_farm(rt, alloc, file, start)?;
+    let conn = migrate_farm(rt, rt.alloc(), file, start)?;
     let _ = conn.close();
     print_line(output, b"migrated\n")
 }
 
-/// Adds what the lab file at a path lists to a keeper's farm, as far as it can be read.
+/// Adds what the lab file at a path lists to a keeper's farm, as far as it can be read, and prints
+/// how much that was.
 fn import_file<L: LabFiles, W: Output, S: Alter>(
     alloc: Global,
     keeper: &mut Keeper<S>,
@@ -332,36 +317,26 @@ fn import_file<L: LabFiles, W: Output, S: Alter>(
     lab: &str,
     at: u64,
     output: &mut W,
-) -> Result<End, DeskFault>
+) -> Ended
     ensures { ImportsFile S.Store (W.has_room output.old) (L.contents labs.now lab.now) keeper.old
         keeper.new (W.contents output.old) (W.contents output.new) at result }
 {
     match read_lab(alloc, labs, lab) {
-        Ok(text) => import_text(alloc, keeper, text.as_slice(), at, output),
+        Ok(text) => print_import(&import(alloc, keeper, text.as_slice(), at), output),
         Err(error) => Err(lab_fault(&error)),
     }
 }
 
-/// Adds what a lab file lists to a keeper's farm, and prints how much that was.
-fn import_text<W: Output, S: Alter>(
-    alloc: Global,
-    keeper: &mut Keeper<S>,
-    text: &[u8],
-    at: u64,
-    output: &mut W,
-) -> Result<End, DeskFault>
-    ensures { (imported : ImportEnd) × IsImport S.Store keeper.old keeper.new text.now at imported
-        × PrintsImport (W.has_room output.old) imported (W.contents output.old)
+/// Prints how far an import went, where nothing stopped it.
+fn print_import<W: Output>(end: &ImportEnd, output: &mut W) -> Ended
+    ensures { PrintsImport (W.has_room output.old) end.now (W.contents output.old)
         (W.contents output.new) result }
 {
-    let end = import(alloc, keeper, text, at);
-    if let Some(fault) = end.fault {
-        return Err(fault);
+    match (end.fault, end.stopped) {
+        (Some(fault), _) => Err(fault),
+        (None, Some((place, refusal))) => Ok(End::RefusedAt(place, refusal)),
+        (None, None) => print_line(output, counts_line(end.accepted, end.kept).as_bytes()),
     }
-    if let Some((place, refusal)) = end.stopped {
-        return Ok(End::RefusedAt(place, refusal));
-    }
-    print_line(output, counts_line(end.accepted, end.kept).as_bytes())
 }
 
 /// The line of how many commands were accepted, and how many had been before.
@@ -379,16 +354,16 @@ fn counts_line(accepted: usize, kept: usize) -> ArrayString<LINE_ROOM>
 }
 
 /// Serves so many connections to a port of 127.0.0.1 from a keeper's farm, as long as its files are
-/// there, where they are passed.
+/// there, where they are passed: once somebody took one away it ends without a fault, and before
+/// anybody else is answered from the farm.
 fn serve<W: Output, S: Alter>(
     rt: &HostRuntime,
-    alloc: Global,
     keeper: &mut Keeper<S>,
     port: u16,
     max: u64,
     files: Option<&OpenFiles<'_>>,
     output: &mut W,
-) -> Result<End, DeskFault>
+) -> Ended
     ensures { ServesIfListening S.Store (W.has_room output.old) keeper.old keeper.new
         (W.contents output.old) (W.contents output.new) port max result }
 {
@@ -396,7 +371,8 @@ fn serve<W: Output, S: Alter>(
         return Err(DeskFault::Read);
     };
     print_line(output, port_line(port).as_bytes())?;
-    serve_on_files(alloc, keeper, &listener, max, rt, files)?;
+    let mut clients = SocketClients::new(rt.alloc(), &listener, max, rt, files);
+    serving::serve(rt.alloc(), keeper, &mut clients, max)?;
     Ok(End::Done)
 }
 
@@ -427,7 +403,7 @@ fn print_report<W: Output, S: Alter>(
     zone: (u64, u64),
     which: Report,
     output: &mut W,
-) -> Result<End, DeskFault>
+) -> Ended
     ensures { PrintsReportOf (W.has_room output.old) keeper.now (W.contents output.old)
         (W.contents output.new) zone.0 zone.1 which result }
 {

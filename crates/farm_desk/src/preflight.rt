@@ -9,12 +9,10 @@ ghost use Rattle.farm_desk.specs.declared.preflight.PathState.TheVariants.{Datab
 
 use crate::new_file::{REST_OF_PAGE, page_head};
 use os::{RangeLock, try_lock_range};
-use std::alloc::Global;
-use std::fs::{File, OpenOptions};
-use std::io::{ErrorKind, Read, Write};
+use std::fs::{self, File, OpenOptions};
+use std::io::{self, ErrorKind, Read, Write};
 use std::os::fd::AsRawFd;
 use std::os::unix::fs::OpenOptionsExt;
-use std::{fs, io};
 
 /// The bytes with which each database begins.
 const FIRST_BYTES: [u8; 16] = *b"SQLite format 3\0";
@@ -61,10 +59,10 @@ pub(crate) struct Preflight<'a> {
 
 impl<'a> Preflight<'a> {
     /// Looks at both paths; none where that of the log isn't known.
-    fn of_paths(rt: &HostRuntime, alloc: Global, file: &'a str) -> Option<Self>
+    fn of_paths(rt: &HostRuntime, file: &'a str) -> Option<Self>
         ensures { IfSome result (λ it. it.file.now ≡ file.now) }
     {
-        let log = log_path(rt, alloc, file).ok()?;
+        let log = log_path(rt, file).ok()?;
         let log_state = state_at(rt, log.as_str());
         Some(Preflight {
             file,
@@ -76,21 +74,21 @@ impl<'a> Preflight<'a> {
 
     /// The check of a farm that is there; none where its file is no database. A log that was left
     /// over stays then: it may have all that there is of a farm.
-    pub(crate) fn of_farm(rt: &HostRuntime, alloc: Global, file: &'a str) -> Option<Self>
+    pub(crate) fn of_farm(rt: &HostRuntime, file: &'a str) -> Option<Self>
         ensures path { IfSome result (λ it. it.file.now ≡ file.now) }
         ensures database { IfSome result (λ it. it.file_state ≡ Database) }
     {
-        let preflight = Preflight::of_paths(rt, alloc, file)?;
+        let preflight = Preflight::of_paths(rt, file)?;
         (preflight.file_state == PathState::Database).then_some(preflight)
     }
 
     /// The check of a new farm, whose file is made where there was nothing; none where a file is
     /// neither empty nor a database, or where a log that isn't empty is left over without one.
-    pub(crate) fn of_new_farm(rt: &HostRuntime, alloc: Global, file: &'a str) -> Option<Self>
+    pub(crate) fn of_new_farm(rt: &HostRuntime, file: &'a str) -> Option<Self>
         ensures path { IfSome result (λ it. it.file.now ≡ file.now) }
         ensures new { IfSome result (λ it. MayBeNew it.file_state it.log_state) }
     {
-        let preflight = Preflight::of_paths(rt, alloc, file)?;
+        let preflight = Preflight::of_paths(rt, file)?;
         let has_no_log = matches!(preflight.log_state, PathState::Nothing | PathState::Empty);
         let is_free = match preflight.file_state {
             PathState::Nothing => has_no_log && make_file(rt, file).is_ok(),
@@ -103,11 +101,11 @@ impl<'a> Preflight<'a> {
 
     /// The check of a farm in a new file, which is made with its first page; none where there is a
     /// file, or a log that isn't empty, or where none can be made.
-    pub(crate) fn of_new_file(rt: &HostRuntime, alloc: Global, file: &'a str) -> Option<Self>
+    pub(crate) fn of_new_file(rt: &HostRuntime, file: &'a str) -> Option<Self>
         ensures path { IfSome result (λ it. it.file.now ≡ file.now) }
         ensures new { IfSome result (λ it. it.file_state ≡ Nothing × IsNoLog it.log_state) }
     {
-        let preflight = Preflight::of_paths(rt, alloc, file)?;
+        let preflight = Preflight::of_paths(rt, file)?;
         let is_free = preflight.file_state == PathState::Nothing
             && matches!(preflight.log_state, PathState::Nothing | PathState::Empty);
         (is_free && make_new_file(rt, file).is_ok()).then_some(preflight)
@@ -180,21 +178,21 @@ fn has_no_table(file: &mut File) -> io::Result<bool> {
 }
 
 /// The path of the log beside a file, or beside the file to which a link leads.
-pub(crate) fn log_path(rt: &HostRuntime, alloc: Global, file: &str) -> io::Result<String>
+pub(crate) fn log_path(rt: &HostRuntime, file: &str) -> io::Result<String>
     ensures { IfOk result (λ log. IsLogPath (string_bytes log)) }
 {
     match fs::canonicalize(rt, file) {
-        Ok(real) => path_beside(alloc, real.as_str()),
-        Err(error) if error.kind() == ErrorKind::NotFound => path_beside(alloc, file),
+        Ok(real) => path_beside(rt, real.as_str()),
+        Err(error) if error.kind() == ErrorKind::NotFound => path_beside(rt, file),
         Err(error) => Err(error),
     }
 }
 
 /// The path of a log as SQLite makes it of the file's.
-fn path_beside(alloc: Global, file: &str) -> io::Result<String>
+fn path_beside(rt: &HostRuntime, file: &str) -> io::Result<String>
     ensures { IfOk result (λ log. string_bytes log ≡ log_path_of file.now) }
 {
-    Ok(format!(in alloc; "{file}-wal")?)
+    Ok(format!(in rt.alloc(); "{file}-wal")?)
 }
 
 /// Makes a file where there is nothing.

@@ -4,9 +4,7 @@ ghost use Rattle.farm_desk.specs.Reports.{Reports, seconds_ahead};
 
 use farm_cli::Report;
 use farm_core::Farm;
-use farm_report::{
-    MOST_MINUTES, Offset, ReportFault, boards_text, queue_text, reservations_text, zone_of,
-};
+use farm_report::{MOST_MINUTES, Offset, ReportFault, boards_text, reservations_text, zone_of};
 use std::alloc::{AllocError, Global};
 
 /// The offset that lies so many minutes east of UTC, less so many west; each counts as
@@ -34,7 +32,7 @@ pub(crate) fn report_text(
         (string_bytes text)) }
 {
     match which {
-        Report::Queue => queue_text(alloc, farm),
+        Report::Queue => farm_report::queue_text(alloc, farm),
         Report::Boards => in_calendar(boards_text(alloc, farm, zone)),
         Report::Reservations => in_calendar(reservations_text(alloc, farm, zone)),
     }

@@ -9,7 +9,6 @@ ghost use Rattle.farm_desk.specs.Connections.{ServesInTurn};
 use crate::clients::Clients;
 use crate::conversation::Context;
 use crate::fault::DeskFault;
-use crate::open_files::OpenFiles;
 use crate::socket_clients::SocketClients;
 use farm_http::{Input, Output};
 use farm_keep::{KeepFault, Keeper};
@@ -60,26 +59,7 @@ pub fn serve_on<S: Alter, C: Clock + Net>(
     ensures clean { doubt (state S.Store keeper.old.conn).is_clean ≤ doubt
         (state S.Store keeper.new.conn).is_clean }
 {
-    serve_on_files(alloc, keeper, listener, max, clock, None)
-}
-
-/// The same from files, where they are passed: once somebody took one away it ends without a fault,
-/// and before anybody else is answered from the farm.
-pub(crate) fn serve_on_files<S: Alter, C: Clock + Net>(
-    alloc: Global,
-    keeper: &mut Keeper<S>,
-    listener: &TcpListener,
-    max: u64,
-    clock: &C,
-    files: Option<&OpenFiles<'_>>,
-) -> Result<(), DeskFault>
-    ensures serves { ServesUntil S.Store keeper.old keeper.new max result }
-    ensures closed { (result ≡ Err (DeskFault.Keep KeepFault.Closed))
-        ↔ (keeper.old.is_open ≡ false) }
-    ensures clean { doubt (state S.Store keeper.old.conn).is_clean ≤ doubt
-        (state S.Store keeper.new.conn).is_clean }
-{
-    let mut clients = SocketClients::new(alloc, listener, max, clock, files);
+    let mut clients = SocketClients::new(alloc, listener, max, clock, None);
     let ended = serve(alloc, keeper, &mut clients, max);
     let _ = listener.set_nonblocking(false);
     ended

@@ -20,24 +20,24 @@ const BUFFER: usize = 2048;
 /// The clients of a listener, as long as nobody takes away the files under the farm that is served,
 /// where these are given. Of the clients nothing is known.
 #[derive(Drop)]
-pub(crate) struct SocketClients<'a, C: Clock> {
+pub(crate) struct SocketClients<'a, 'c, C: Clock> {
     alloc: Global,
     listener: &'a TcpListener,
-    clock: &'a C,
+    clock: &'c C,
     pending: Option<Pending>,
     files: Option<&'a OpenFiles<'a>>,
 }
 
-impl<'a, C: Clock + Net> SocketClients<'a, C> {
+impl<'a, 'c, C: Clock + Net> SocketClients<'a, 'c, C> {
     /// The first `max` clients of a listener, none of whom was accepted yet. Where the system or
     /// the memory refuses what waiting aside takes, one client after another is accepted.
     pub(crate) fn new(
         alloc: Global,
         listener: &'a TcpListener,
         max: u64,
-        clock: &'a C,
+        clock: &'c C,
         files: Option<&'a OpenFiles<'a>>,
-    ) -> SocketClients<'a, C> {
+    ) -> SocketClients<'a, 'c, C> {
         let pending = Pending::new(alloc, clock, listener, max);
         if pending.is_none() {
             let _ = listener.set_nonblocking(false);
@@ -52,10 +52,10 @@ impl<'a, C: Clock + Net> SocketClients<'a, C> {
     }
 }
 
-impl<'a, C: Clock> Clients for SocketClients<'a, C> {
-    type Reader = BufReader<DeadlineStream<'a, C>>;
+impl<'c, C: Clock> Clients for SocketClients<'_, 'c, C> {
+    type Reader = BufReader<DeadlineStream<'c, C>>;
 
-    type Writer = DeadlineStream<'a, C>;
+    type Writer = DeadlineStream<'c, C>;
 
     ghost client_list = { λ _. None };
 
@@ -69,12 +69,17 @@ impl<'a, C: Clock> Clients for SocketClients<'a, C> {
     /// The next connection whose request is complete. Its stream is buffered, so that a usual head
     /// costs one read; without memory for the buffer the client is answered that, and without the
     /// files that the store failed.
-    fn next(&mut self) -> Option<Client<BufReader<DeadlineStream<'a, C>>, DeadlineStream<'a, C>>> {
+    fn next(&mut self) -> Option<Client<BufReader<DeadlineStream<'c, C>>, DeadlineStream<'c, C>>> {
         let client = match &mut self.pending {
             Some(pending) => pending.next_client(self.listener, self.clock)?,
-            None => next_client(self.listener)?,
+            None => {
+                let (stream, _) = self.listener.accept().ok()?;
+                stream.set_nonblocking(true).ok()?;
+                ClientStream::new(stream, true)
+            }
         };
-        let now = moment(self.clock)?;
+        let since = SystemTime::now(self.clock).ok()?.duration_since(UNIX_EPOCH);
+        let now = since.ok()?.as_secs();
         if self.files.is_some_and(|files| !files.are_present()) {
             client.refuse(store_answer());
             return None;
@@ -84,10 +89,9 @@ impl<'a, C: Clock> Clients for SocketClients<'a, C> {
             .ok()?;
         let source = DeadlineStream::new(client.clone().ok()?, self.clock);
         let writer = DeadlineStream::new(client, self.clock);
-        let Ok(reader) = BufReader::with_capacity(self.alloc, BUFFER, source) else {
-            writer.client.refuse(no_memory_answer());
-            return None;
-        };
+        let reader = BufReader::with_capacity(self.alloc, BUFFER, source)
+            .map_err(|_| writer.client.refuse(no_memory_answer()))
+            .ok()?;
         Some(Client {
             now,
             reader,
@@ -95,20 +99,7 @@ impl<'a, C: Clock> Clients for SocketClients<'a, C> {
         })
     }
 
-    fn close(&mut self, _reader: BufReader<DeadlineStream<'a, C>>, writer: DeadlineStream<'a, C>) {
+    fn close(&mut self, _reader: BufReader<DeadlineStream<'c, C>>, writer: DeadlineStream<'c, C>) {
         writer.client.shut_down();
     }
-}
-
-/// The next connection.
-fn next_client(listener: &TcpListener) -> Option<ClientStream> {
-    let (stream, _) = listener.accept().ok()?;
-    stream.set_nonblocking(true).ok()?;
-    Some(ClientStream::new(stream, true))
-}
-
-/// The moment of a clock, in whole seconds since 1970-01-01 00:00:00 UTC; none where it fails.
-fn moment<C: Clock>(clock: &C) -> Option<u64> {
-    let since = SystemTime::now(clock).ok()?.duration_since(UNIX_EPOCH);
-    Some(since.ok()?.as_secs())
 }

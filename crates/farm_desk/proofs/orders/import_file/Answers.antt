@@ -6,9 +6,9 @@ pub returns-in-Ok : goal.returns-in-Ok
 returns-in-Ok g c = inl (record {
   text = c.in-Ok.text.items;
   text_of = c.in-Ok.ensures;
-  imported = c.import_text.ensures.0;
-  imports = rw c.as_slice.ensures.value at c.import_text.ensures.1;
-  prints = c.import_text.ensures.2;
+  imported = c.import.result;
+  imports = rw c.as_slice.ensures.value at c.import.ensures.import;
+  prints = c.print_import.ensures;
 })
 
 pub returns-in-Err : goal.returns-in-Err
