@@ -45,13 +45,20 @@ def impl_name(head, module, types):
     """Returns the path under which the prover has an impl's functions.
 
     Of `impl<T> Keeper<T> {` that is the type's own, of `impl From<Vec<T>> for Fault {` it is FaultFromVec of the module
-    where the impl stands, and of `impl Put for Pair<'_, Row> {` it is PairRowPut.
+    where the impl stands, of `impl Put for Pair<'_, Row> {` it is PairRowPut, and of `impl Put for &[u8] {`
+    RefSliceU8Put.
     """
     own = re.match(r"impl<([^{]*?)>(?= )", head)
     parameters = re.findall(r"(?:^|, )'?(\w+)", own[1]) if own else []
     rest = (head[own.end() :] if own else head.removeprefix("impl")).partition(" where ")[0]
     of_trait, is_trait, of_type = rest.rpartition(" for ")
-    name, arguments = re.search(r"(\w+)\s*(<[^{]*>)?\s*(?:\{|$)", of_type).groups("")
+    shape = ""
+    for sign, word in (("&mut ", "RefMut"), ("&", "Ref"), ("[", "Slice")):
+        if of_type.startswith(sign):
+            shape, of_type = shape + word, of_type.removeprefix(sign)
+    name, arguments = re.search(r"(\w+)\s*(<[^{]*>)?\]?\s*(?:\{|$)", of_type).groups("")
+    if shape:
+        name = shape + (name[:1].upper() + name[1:] if name not in parameters else "")
     if not is_trait:
         return joined(types.get(name, module), name)
     words = re.findall(r"(?<!')\b[A-Z]\w*", arguments + of_trait)

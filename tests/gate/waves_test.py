@@ -78,6 +78,8 @@ class Functions(unittest.TestCase):
             "impl<'a, T: Drop> From<Held<T>> for Heap<'a> {": "HeapFromHeld",
             "impl Upsert for Tagged<'_, BoardRow> {": "TaggedBoardRowUpsert",
             "impl<R: Read> Read for Tally<R> {": "TallyRead",
+            "impl Input for &[u8] {": "RefSliceU8Input",
+            "impl<R: Read> Input for &mut R {": "RefMutInput",
         }
         for head, name in names.items():
             self.assertEqual(functions.impl_name(head, "", {}), name)
