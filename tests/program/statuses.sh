@@ -186,6 +186,10 @@ expect 4 '' "$store_fault" import --db bare.db --at 10 missing.toml
 expect 4 '' "$store_fault" once --db bare.db --at 10
 expect 0 ready '' init --db bare.db
 
+# import_without_a_farm
+printf '[types.bbb]\n' > lab.toml
+expect 4 '' "$store_fault" import --db 'no folder/farm.db' --at 10 lab.toml
+
 # lab_file_twice
 expect 0 ready '' init --db lab.db
 expect 4 '' "$read_fault" import --db lab.db --at 10 missing.toml

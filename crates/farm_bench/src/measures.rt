@@ -9,6 +9,7 @@ use anyhow::bail;
 use farm_core::{Farm, StepFault};
 use farm_types::{Answer, Call, Cmd, Reply, Rows};
 use std::alloc::Global;
+use std::time::Instant;
 
 /// What is done with the rows of a farm.
 #[derive(Clone, Copy)]
@@ -38,14 +39,20 @@ pub fn farm_of(rows: Rows) -> anyhow::Result<Farm> {
     }
 }
 
-fn take(watch: &Watch<'_>, rows: Rows) -> anyhow::Result<Done> {
-    let start = watch.start()?;
-    let farm = farm_of(rows)?;
+/// What a farm took since a start, and how long that was.
+fn taken(watch: &Watch<'_>, farm: &Farm, start: Instant) -> anyhow::Result<Done> {
     let nanos = watch.stop(start)?;
     let status = farm.status();
     let (jobs, reservations) = (status.jobs, status.reservations);
     let what = format!(in watch.alloc(); "{jobs} jobs and {reservations} reservations taken")?;
     Ok(Done { what, nanos })
+}
+
+fn take(watch: &Watch<'_>, shape: &Shape) -> anyhow::Result<Done> {
+    let rows = rows::rows(watch.alloc(), shape)?;
+    let start = watch.start()?;
+    let farm = farm_of(rows)?;
+    taken(watch, &farm, start)
 }
 
 /// The command of a pass, with the fact that it is proper.
@@ -74,8 +81,10 @@ fn reply_in(answer: Result<Answer, StepFault>) -> anyhow::Result<Reply> {
 fn timed(watch: &Watch<'_>, farm: &mut Farm, call: &Call) -> anyhow::Result<(Reply, u64)> {
     let start = watch.start()?;
     let answer = farm.step(call);
-    let nanos = watch.stop(start)?;
-    Ok((reply_in(answer)?, nanos))
+    let nanos = watch.stop(start);
+    let reply = reply_in(answer)?;
+    let nanos = nanos?;
+    Ok((reply, nanos))
 }
 
 /// What a pass came to, in words, and how long it took.
@@ -85,18 +94,23 @@ fn timed_pass(watch: &Watch<'_>, farm: &mut Farm, call: &Call) -> anyhow::Result
     Ok(Done { what, nanos })
 }
 
-fn pass(watch: &Watch<'_>, rows: Rows, now: u64) -> anyhow::Result<Done> {
-    let call = pass_at(watch.alloc(), now)?;
-    let mut farm = farm_of(rows)?;
-    timed_pass(watch, &mut farm, &call)
+/// Passes so often, and times the last pass.
+fn pass_often(
+    watch: &Watch<'_>,
+    farm: &mut Farm,
+    call: &Call,
+    passes: u32,
+) -> anyhow::Result<Done> {
+    for _ in 1..passes {
+        timed_pass(watch, farm, call)?;
+    }
+    timed_pass(watch, farm, call)
 }
 
-/// Passes twice at a moment, and times the second pass.
-fn pass_again(watch: &Watch<'_>, rows: Rows, now: u64) -> anyhow::Result<Done> {
+fn pass(watch: &Watch<'_>, shape: &Shape, now: u64, passes: u32) -> anyhow::Result<Done> {
     let call = pass_at(watch.alloc(), now)?;
-    let mut farm = farm_of(rows)?;
-    timed_pass(watch, &mut farm, &call)?;
-    timed_pass(watch, &mut farm, &call)
+    let mut farm = farm_of(rows::rows(watch.alloc(), shape)?)?;
+    pass_often(watch, &mut farm, &call, passes)
 }
 
 /// How many claims a farm lists, and how long it took.
@@ -109,18 +123,17 @@ fn timed_queue(watch: &Watch<'_>, farm: &Farm) -> anyhow::Result<Done> {
     Ok(Done { what, nanos })
 }
 
-fn queue(watch: &Watch<'_>, rows: Rows) -> anyhow::Result<Done> {
-    let farm = farm_of(rows)?;
+fn queue(watch: &Watch<'_>, shape: &Shape) -> anyhow::Result<Done> {
+    let farm = farm_of(rows::rows(watch.alloc(), shape)?)?;
     timed_queue(watch, &farm)
 }
 
 fn perform(watch: &Watch<'_>, shape: &Shape, deed: Deed) -> anyhow::Result<Done> {
-    let rows = rows::rows(watch.alloc(), shape)?;
     match deed {
-        Deed::Take => take(watch, rows),
-        Deed::Pass(now) => pass(watch, rows, now),
-        Deed::PassAgain(now) => pass_again(watch, rows, now),
-        Deed::Queue => queue(watch, rows),
+        Deed::Take => take(watch, shape),
+        Deed::Pass(now) => pass(watch, shape, now, 1),
+        Deed::PassAgain(now) => pass(watch, shape, now, 2),
+        Deed::Queue => queue(watch, shape),
     }
 }
 

@@ -56,6 +56,15 @@ fn show(rt: &HostRuntime, jobs: &[JobRow]) -> anyhow::Result<()> {
     Ok(())
 }
 
+/// Passes, and shows what came of it where that is asked for.
+fn pass(rt: &HostRuntime, words: &Words, farm: &mut Farm) -> anyhow::Result<()> {
+    let jobs = jobs_of_pass(rt.alloc(), farm)?;
+    if words.deed.as_str() == "answers" {
+        show(rt, jobs.as_slice())?;
+    }
+    Ok(())
+}
+
 /// Does what the words say.
 pub fn run(rt: &HostRuntime, words: &Words) -> anyhow::Result<()> {
     let alloc = rt.alloc();
@@ -68,9 +77,5 @@ pub fn run(rt: &HostRuntime, words: &Words) -> anyhow::Result<()> {
     if is_without {
         return Ok(());
     }
-    let jobs = jobs_of_pass(alloc, &mut farm)?;
-    if words.deed.as_str() == "answers" {
-        show(rt, jobs.as_slice())?;
-    }
-    Ok(())
+    pass(rt, words, &mut farm)
 }

@@ -95,19 +95,9 @@ fn job(alloc: Global, number: u64, group: u64, rare: bool) -> anyhow::Result<Job
     let tags = boards::asked_tags(alloc, rare)?;
     let length = if number == group { 300 } else { 0 };
     let text = format!(in alloc; "{:x>length$}", "")?;
-    Ok(JobRow {
-        number,
-        group,
-        checking: false,
-        owner,
-        priority,
-        want: Want { kind, tags },
-        role: None,
-        state: JobState::Submitted,
-        outcome: None,
-        board: None,
-        body: Body::of(text),
-    })
+    let mut row = JobRow::new(alloc, number, group, owner, priority, Want { kind, tags });
+    row.body = Body::of(text);
+    Ok(row)
 }
 
 /// A reservation for a board of any type.
@@ -128,10 +118,11 @@ fn reservation(alloc: Global, number: u64, state: ResState, rare: bool) -> anyho
 
 fn add_finished(alloc: Global, rows: &mut Rows) -> anyhow::Result<()> {
     let number = take_number(rows);
+    let board = boards::board_name(alloc, number % boards::MOST)?;
     let mut row = job(alloc, number, number, false)?;
     row.state = JobState::Finished;
     row.outcome = Some(Outcome::Complete);
-    row.board = Some(boards::board_name(alloc, number % boards::MOST)?);
+    row.board = Some(board);
     rows.jobs.push(row)?;
     Ok(())
 }
@@ -149,13 +140,15 @@ fn add_group(alloc: Global, rows: &mut Rows, shape: &Shape) -> anyhow::Result<()
 
 /// Four jobs of the highest priority, for the boards with the rare tag.
 fn add_front(alloc: Global, rows: &mut Rows, together: bool) -> anyhow::Result<()> {
+    let highest = Priority::of(100).map_err(WordFault::Refused)?;
     let first = rows.meta.next;
     for _ in 0..boards::RARE {
         let number = take_number(rows);
         let group = if together { first } else { number };
+        let kind = boards::name(alloc, boards::kind_at(number))?;
         let mut row = job(alloc, number, group, true)?;
-        row.priority = Priority::of(100).map_err(WordFault::Refused)?;
-        row.want.kind = Some(boards::name(alloc, boards::kind_at(number))?);
+        row.priority = highest;
+        row.want.kind = Some(kind);
         rows.jobs.push(row)?;
     }
     Ok(())
@@ -190,24 +183,37 @@ fn idle(alloc: Global, types: Vec<TypeRow>, boards: Vec<BoardRow>) -> Rows {
     }
 }
 
-/// The rows of a farm of this shape: first what ended, then what waits.
-pub fn rows(alloc: Global, shape: &Shape) -> anyhow::Result<Rows> {
-    let boards = boards::boards(alloc, boards::RARE, shape.away)?;
-    let mut rows = idle(alloc, boards::types(alloc)?, boards);
+/// Adds what has ended.
+fn add_ended(alloc: Global, rows: &mut Rows, shape: &Shape) -> anyhow::Result<()> {
     for _ in 0..shape.finished {
-        add_finished(alloc, &mut rows)?;
+        add_finished(alloc, rows)?;
     }
     for _ in 0..shape.canceled {
-        add_reservation(alloc, &mut rows, ResState::Canceled, false)?;
+        add_reservation(alloc, rows, ResState::Canceled, false)?;
     }
+    Ok(())
+}
+
+/// Adds what waits.
+fn add_waiting(alloc: Global, rows: &mut Rows, shape: &Shape) -> anyhow::Result<()> {
     if shape.front != Front::Nobody {
-        add_front(alloc, &mut rows, shape.front == Front::Group)?;
+        add_front(alloc, rows, shape.front == Front::Group)?;
     }
     for _ in 0..shape.groups {
-        add_group(alloc, &mut rows, shape)?;
+        add_group(alloc, rows, shape)?;
     }
     for _ in 0..shape.waiting {
-        add_reservation(alloc, &mut rows, ResState::Waiting, shape.rare)?;
+        add_reservation(alloc, rows, ResState::Waiting, shape.rare)?;
     }
+    Ok(())
+}
+
+/// The rows of a farm of this shape: first what ended, then what waits.
+pub fn rows(alloc: Global, shape: &Shape) -> anyhow::Result<Rows> {
+    let types = boards::types(alloc)?;
+    let boards = boards::boards(alloc, boards::RARE, shape.away)?;
+    let mut rows = idle(alloc, types, boards);
+    add_ended(alloc, &mut rows, shape)?;
+    add_waiting(alloc, &mut rows, shape)?;
     Ok(rows)
 }

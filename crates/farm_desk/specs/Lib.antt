@@ -15,6 +15,7 @@ pub mod Conversations
 pub mod Lines
 pub mod NewFile
 pub mod Pending
+pub mod Waiting
 pub mod Clients
 pub mod Connections
 pub mod Scripts

@@ -11,11 +11,15 @@ zeros count = repeat count (0 ∷ [])
 abbrev pub four_bytes : ℕ → List ℕ
 four_bytes number = zeros 3 ++ number ∷ []
 
+-- the text with which each database begins
+abbrev pub database_text : List ℕ
+database_text = codes "SQLite format 3" ++ 0 ∷ []
+
 -- the head of the database (1.3): its text; pages of 1,024 bytes; written and read with a log beside
 -- it (2, 2), no bytes kept, and the three fractions that are always so; never changed; of one page
 abbrev pub database_head : List ℕ
 database_head =
-    codes "SQLite format 3" ++ (0 ∷ 4 ∷ 0 ∷ 2 ∷ 2 ∷ 0 ∷ 64 ∷ 32 ∷ 32 ∷ []
+    database_text ++ (4 ∷ 0 ∷ 2 ∷ 2 ∷ 0 ∷ 64 ∷ 32 ∷ 32 ∷ []
     ++ (zeros 4 ++ (four_bytes 1
     -- no free pages; the first list of tables, of format 4; texts in UTF-8; version 3.45 wrote it
     ++ (zeros 8 ++ (four_bytes 1 ++ (four_bytes 4 ++ (zeros 8 ++ (four_bytes 1 ++ (zeros 36

@@ -1,7 +1,9 @@
 //! A client's stream, with limits of time.
-ghost use Rattle.std.specs.Prelude.{◌≡◌, ◌*◌, ◌^◌, IfSome, IsSome, IsTrue, None, OnOk, Some};
+ghost use Rattle.std.specs.Prelude.{◌≡◌, ◌↔◌, ◌-◌, ◌*◌, ◌^◌, ◌<◌, ◌≤◌, IfSome, IsOk, IsSome, IsTrue};
+ghost use Rattle.std.specs.Prelude.{None, OnOk, Some};
 ghost use Rattle.std.specs.Duration.{as_nanos};
 ghost use Rattle.std.specs.IoError.{error_kind};
+ghost use Rattle.std.specs.Option.{unwrap_or};
 ghost use Rattle.std.specs.declared.io.ErrorKind.TheVariants.{WouldBlock};
 
 use farm_http::Output;
@@ -33,7 +35,9 @@ pub(crate) struct ClientStream {
 impl ClientStream {
     /// A stream whose calls don't wait. Where it may wait, those do from the first on that would,
     /// each for `STALL_SECONDS` at most.
-    pub(crate) fn new(stream: TcpStream, may_wait: bool) -> ClientStream {
+    pub(crate) fn new(stream: TcpStream, may_wait: bool) -> ClientStream
+        ensures { result.stream ≡ stream }
+    {
         ClientStream {
             stream,
             may_begin_to_wait: Cell::new(may_wait),
@@ -114,9 +118,18 @@ impl<'a, C: Clock> DeadlineStream<'a, C> {
         ensures kept { IfSome self.old.since (λ since. self.new.since ≡ Some since) }
     {
         let now = self.clock.monotonic()?;
+        self.check_limit_at(now)
+    }
+
+    /// The same at a time of the clock.
+    fn check_limit_at(&mut self, now: Duration) -> io::Result<()>
+        ensures begun { self.new.since ≡ Some (unwrap_or self.old.since now) }
+        ensures in_time { IsOk result
+            ↔ (as_nanos now - as_nanos (unwrap_or self.old.since now) ≤ 10 * 10 ^ 9) }
+    {
         let since = self.since.unwrap_or(now);
         self.since = Some(since);
-        if now.saturating_sub(since) > limit() {
+        if is_shorter(limit(), now.saturating_sub(since)) {
             return Err(Error::from(ErrorKind::TimedOut));
         }
         Ok(())
@@ -144,7 +157,9 @@ impl<C: Clock> Write for DeadlineStream<'_, C> {
         }
     }
 
-    fn flush(&mut self) -> io::Result<()> {
+    fn flush(&mut self) -> io::Result<()>
+        ensures { IsOk result }
+    {
         Ok(())
     }
 }
@@ -153,6 +168,13 @@ impl<C: Clock> Output for DeadlineStream<'_, C> {
     fn write_once(&mut self, bytes: &[u8]) -> io::Result<usize> {
         self.write(bytes)
     }
+}
+
+/// Whether a time is shorter than another.
+pub(crate) fn is_shorter(one: Duration, other: Duration) -> bool
+    ensures { IsTrue result ↔ (as_nanos one < as_nanos other) }
+{
+    one.as_nanos() < other.as_nanos()
 }
 
 /// `LIMIT_SECONDS`.

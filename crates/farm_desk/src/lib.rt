@@ -10,8 +10,9 @@
 //!
 //! Read `specs/` in the order Received, Answers, Encoding, Response, Ends, which say what a
 //! conversation is; Imports, LabFiles, what an import is; Conversations, Clients, Scripts, Connections,
-//! Serving, what serving does; NewFile, InFiles, Upgrades, which farm files hold; Faults, Lines,
-//! Reports, what the program prints; Tasks, Orders, Program, what it does.
+//! Serving, what serving does; Pending, Waiting, who is served next; Preflight, NewFile, InFiles,
+//! Upgrades, which farm files hold; Faults, Lines, Reports, what the program prints; Tasks, Orders,
+//! Program, what it does.
 #![tactic(auto)]
 
 mod answer;

@@ -1,5 +1,10 @@
 //! A farm's two files while they are served: whether somebody moved, removed or cut one. Nothing is
-//! known of a path, so nothing here has a clause.
+//! known of a path, so the clauses say which paths are looked at, and what is made of a look.
+ghost use Rattle.std.specs.Prelude.{◌≡◌, ◌≢◌, ◌↔◌, ◌≤◌, IfErr, IfOk, IfSome, IsTrue, string_bytes};
+ghost use Rattle.std.specs.IoError.{error_kind};
+ghost use Rattle.std.specs.declared.io.ErrorKind.TheVariants.{NotADirectory, NotFound};
+ghost use Rattle.farm_desk.specs.Preflight.{IsLogPath};
+
 use crate::preflight::log_path;
 use std::cell::Cell;
 use std::io::ErrorKind;
@@ -32,7 +37,10 @@ pub(crate) struct OpenFiles<'a> {
 impl<'a> OpenFiles<'a> {
     /// The files of a farm that was just opened; none where a path names no file, or where the
     /// system returns another error.
-    pub(crate) fn new(rt: &'a HostRuntime, file: &str) -> Option<OpenFiles<'a>> {
+    pub(crate) fn new(rt: &'a HostRuntime, file: &str) -> Option<OpenFiles<'a>>
+        ensures file { IfSome result (λ it. string_bytes it.file.path ≡ file.now) }
+        ensures log { IfSome result (λ it. IsLogPath (string_bytes it.log.path)) }
+    {
         let log = log_path(rt, file).ok()?;
         Some(OpenFiles {
             rt,
@@ -57,7 +65,9 @@ impl<'a> OpenFiles<'a> {
 }
 
 impl OpenFile {
-    fn new(rt: &HostRuntime, path: String) -> Option<OpenFile> {
+    fn new(rt: &HostRuntime, path: String) -> Option<OpenFile>
+        ensures { IfSome result (λ it. it.path ≡ path) }
+    {
         let (identity, length) = look_up(rt, path.as_str()).ok()?;
         Some(OpenFile {
             path,
@@ -68,10 +78,23 @@ impl OpenFile {
 
     /// Whether the path names the file, which didn't get shorter, as far as the system says.
     fn is_present(&self, rt: &HostRuntime) -> bool {
-        match look_up(rt, self.path.as_str()) {
-            Ok((identity, length)) => {
-                identity == self.identity && length >= self.length.replace(length)
-            }
+        let found = look_up(rt, self.path.as_str());
+        let length = self.length.get();
+        if let Ok((_, length)) = found {
+            self.length.set(length);
+        }
+        self.is_at(&found, length)
+    }
+
+    /// Whether a look found the file, no shorter than it was.
+    fn is_at(&self, found: &io::Result<(Identity, u64)>, length: u64) -> bool
+        ensures found { IfOk found.now (λ it. IsTrue result
+            ↔ ((it.0 ≡ self.now.identity) × (length ≤ it.1))) }
+        ensures failed { IfErr found.now (λ error. IsTrue result
+            ↔ ((error_kind error ≢ NotFound) × (error_kind error ≢ NotADirectory))) }
+    {
+        match found {
+            Ok((identity, longer)) => *identity == self.identity && length <= *longer,
             Err(error) => !matches!(error.kind(), ErrorKind::NotFound | ErrorKind::NotADirectory),
         }
     }

@@ -7,6 +7,7 @@ ghost use Rattle.farm_desk.specs.Orders.{streams, DoesInFiles, DoesInMemory, Doe
 ghost use Rattle.farm_desk.specs.Orders.{DoesWhileThere, Inits, MigratesFile, OpensMemory};
 ghost use Rattle.farm_desk.specs.Orders.{PrintsIfDone};
 ghost use Rattle.farm_desk.specs.Tasks.{DoesTask, ImportsFile, PrintsReportOf, ServesIfListening};
+ghost use Rattle.farm_desk.specs.Waiting.{IsLocal};
 ghost use Rattle.farm_keep.specs.KeeperState.{KeeperState};
 
 use crate::conversation::converse;
@@ -29,7 +30,7 @@ use sqlite::{Alter, Connection, FileFrom, MemStore, Start, Unknown};
 use sqlite_disk::Disk;
 use std::alloc::Global;
 use std::io::{IsTerminal, Write};
-use std::net::{Ipv4Addr, SocketAddr, TcpListener};
+use std::net::{Ipv4Addr, SocketAddr, SocketAddrV4, TcpListener};
 use std::os::fd::AsFd;
 use std::{fs, io};
 
@@ -379,9 +380,15 @@ fn serve<W: Output, S: Alter>(
 /// A listener on a port of 127.0.0.1, behind which as many connections wait as the system allows:
 /// behind std's own 128 wait, and what further ones send is dropped.
 fn listen(rt: &HostRuntime, port: u16) -> io::Result<TcpListener> {
-    let address = SocketAddr::from((Ipv4Addr::LOCALHOST, port));
-    let listener = mio::net::TcpListener::bind(rt, address)?;
+    let listener = mio::net::TcpListener::bind(rt, local_address(port))?;
     Ok(TcpListener::from(listener.as_fd().try_clone_to_owned()?))
+}
+
+/// A port of 127.0.0.1.
+fn local_address(port: u16) -> SocketAddr
+    ensures { IsLocal result port }
+{
+    SocketAddr::V4(SocketAddrV4::new(Ipv4Addr::LOCALHOST, port))
 }
 
 /// The line of the port on which clients are accepted from now on.

@@ -1,15 +1,21 @@
 //! Connections that wait until their requests are there.
-ghost use Rattle.std.specs.Prelude.{take, IfSome};
+ghost use Rattle.std.specs.Prelude.{◌≡◌, ◌⊎◌, ◌↔◌, ◌+◌, false, take, is_some};
+ghost use Rattle.std.specs.Prelude.{if◌then◌else◌, IfSome, IsErrAnd, IsOkAnd, IsTrue};
+ghost use Rattle.std.specs.Duration.{as_nanos};
+ghost use Rattle.std.specs.IoError.{error_kind};
+ghost use Rattle.std.specs.Option.{option_map};
+ghost use Rattle.std.specs.VecDeque.{deque_items};
+ghost use Rattle.std.specs.declared.io.ErrorKind.TheVariants.{WouldBlock};
 ghost use Rattle.farm_desk.specs.Pending.{IsDecided};
 
-use crate::deadline_stream::{ClientStream, limit};
+use crate::deadline_stream::{ClientStream, is_shorter, limit};
 use farm_http::read_from_memory;
 use farm_types::{LONGEST_BODY, LONGEST_HEAD};
 use mio::unix::SourceFd;
 use mio::{Events, Interest, Poll, Token};
 use std::alloc::Global;
 use std::collections::VecDeque;
-use std::io::ErrorKind;
+use std::io::{self, ErrorKind};
 use std::net::{Net, TcpListener, TcpStream};
 use std::os::fd::AsRawFd;
 use std::time::{Clock, Duration};
@@ -68,6 +74,9 @@ pub(crate) struct Pending {
 }
 
 impl Pending {
+    ghost use Rattle.farm_desk.specs.Waiting.{limit_left, outstanding, pause_left, shorter, time_of};
+    ghost use Rattle.farm_desk.specs.Waiting.{IsDue, IsOverdue, IsPaused, IsUntouched, TakesNext};
+
     /// The first `max` connections of a listener, none of which was accepted yet; none where the
     /// system or the memory refuses what that takes, and then the listener is as it was.
     pub(crate) fn new(
@@ -75,7 +84,9 @@ impl Pending {
         net: &impl Net,
         listener: &TcpListener,
         max: u64,
-    ) -> Option<Self> {
+    ) -> Option<Self>
+        ensures { IfSome result (IsUntouched max) }
+    {
         let poll = Poll::new(net).ok()?;
         let events = Events::with_capacity(alloc, MOST_EVENTS).ok()?;
         let bytes = Vec::from_elem(alloc, 0u8, LONGEST_REQUEST + 1).ok()?;
@@ -108,19 +119,40 @@ impl Pending {
         listener: &TcpListener,
         clock: &C,
     ) -> Option<ClientStream> {
+        let mut now = clock.monotonic().ok();
         for _ in 0..u64::MAX {
-            let now = clock.monotonic().ok();
             self.accept_all(listener, now);
             // Who waits is looked at before whoever came now, also while there is always one ready.
-            let is_due = !self.ready.is_empty() || self.has_first_timed_out(now);
-            if is_due && !self.incomplete.is_empty() {
+            if self.has_next(now) && !self.incomplete.is_empty() {
                 self.poll_events(Some(Duration::ZERO));
             }
-            if self.has_first_timed_out(now) {
-                // It is read as far as it came.
-                let waiting = self.incomplete.pop_front()?;
-                return Some(ClientStream::new(waiting.stream, false));
+            if self.has_next(now) {
+                break;
             }
+            let until = self.time_left(now);
+            self.poll_events(until);
+            now = clock.monotonic().ok();
+        }
+        self.take_next(now)
+    }
+
+    /// Whether nothing is to be waited for: somebody is ready, or timed out, or was refused, or
+    /// nobody is left.
+    fn has_next(&self, now: Option<Duration>) -> bool
+        ensures { IsTrue result ↔ IsDue now self.now }
+    {
+        !self.ready.is_empty()
+            || self.has_first_timed_out(now)
+            || self.refused > 0
+            || self.to_accept == 0 && self.incomplete.is_empty()
+    }
+
+    /// Takes the first that timed out, or else the first that is ready, or else one that was
+    /// refused.
+    fn take_next(&mut self, now: Option<Duration>) -> Option<ClientStream>
+        ensures { TakesNext now self.old self.new result }
+    {
+        if !self.has_first_timed_out(now) {
             if let Some(waiting) = self.ready.pop_front() {
                 return Some(ClientStream::new(waiting.stream, true));
             }
@@ -128,20 +160,22 @@ impl Pending {
                 self.refused -= 1;
                 return None;
             }
-            if self.to_accept == 0 && self.incomplete.is_empty() {
-                return None;
-            }
-            let until = self.time_left(now);
-            self.poll_events(until);
         }
-        None
+        let Some(waiting) = self.incomplete.pop_front() else {
+            self.to_accept = self.to_accept.saturating_sub(1);
+            return None;
+        };
+        // It is read as far as it came.
+        Some(ClientStream::new(waiting.stream, false))
     }
 
     /// Accepts those that came, as far as there is room.
-    fn accept_all(&mut self, listener: &TcpListener, now: Option<Duration>) {
+    fn accept_all(&mut self, listener: &TcpListener, now: Option<Duration>)
         // Nobody is accepted for a while once the system has refused to.
+        ensures { IsPaused now self.old.paused_until → self.new ≡ self.old }
+    {
         let times = self.paused_until.zip(now);
-        if times.is_some_and(|(until, now)| now < until) {
+        if times.is_some_and(|(until, now)| is_shorter(now, until)) {
             return;
         }
         for _ in 0..MOST_WAITING {
@@ -170,7 +204,9 @@ impl Pending {
 
     /// Adds a connection, to the ready ones where its request is complete; none where the system
     /// refuses.
-    fn add(&mut self, stream: TcpStream, now: Option<Duration>) -> Option<()> {
+    fn add(&mut self, stream: TcpStream, now: Option<Duration>) -> Option<()>
+        ensures { outstanding self.new ≡ outstanding self.old + (if is_some result then 1 else 0) }
+    {
         stream.set_nonblocking(true).ok()?;
         let number = self.accepted;
         self.accepted = number.wrapping_add(1);
@@ -191,9 +227,11 @@ impl Pending {
     }
 
     /// Whether the time of the first incomplete connection is over, or the clock can't be read.
-    fn has_first_timed_out(&self, now: Option<Duration>) -> bool {
+    fn has_first_timed_out(&self, now: Option<Duration>) -> bool
+        ensures { IsTrue result ↔ IsOverdue now (deque_items self.now.incomplete) }
+    {
         match (self.incomplete.front(), now) {
-            (Some(first), Some(now)) => now.saturating_sub(first.since) > limit(),
+            (Some(first), Some(now)) => is_shorter(limit(), now.saturating_sub(first.since)),
             (first, _) => first.is_some(),
         }
     }
@@ -225,18 +263,25 @@ impl Pending {
     }
 
     /// How long to wait at most.
-    fn time_left(&self, now: Option<Duration>) -> Option<Duration> {
+    fn time_left(&self, now: Option<Duration>) -> Option<Duration>
+        ensures { option_map as_nanos result ≡ shorter (pause_left (time_of now) self.now.paused_until)
+            (limit_left (time_of now) (deque_items self.now.incomplete)) }
+    {
         let now = now.unwrap_or(Duration::ZERO);
-        let pause_end = self.paused_until.filter(|until| now < *until);
+        let pause = match self.paused_until {
+            Some(until) if is_shorter(now, until) => Some(until.saturating_sub(now)),
+            _ => None,
+        };
+        let Some(first) = self.incomplete.front() else {
+            return pause;
+        };
         // A millisecond beyond the limit the time is over.
         let limit = limit().saturating_add(Duration::from_millis(1));
-        let first = self.incomplete.front();
-        let limit_end = first.map(|it| it.since.saturating_add(limit));
-        let end = match (pause_end, limit_end) {
-            (Some(pause_end), Some(limit_end)) => pause_end.min(limit_end),
-            (pause_end, limit_end) => pause_end.or(limit_end)?,
-        };
-        Some(end.saturating_sub(now))
+        let left = first.since.saturating_add(limit).saturating_sub(now);
+        match pause {
+            Some(pause) if is_shorter(pause, left) => Some(pause),
+            _ => Some(left),
+        }
     }
 }
 
@@ -246,8 +291,18 @@ fn is_complete(alloc: Global, stream: &TcpStream, bytes: &mut [u8]) -> bool {
     let Some(room) = bytes.get_mut(..LONGEST_REQUEST) else {
         return true;
     };
-    match stream.peek(room) {
-        Ok(count) => is_decided(alloc, bytes, count).unwrap_or(true),
+    let peeked = stream.peek(room);
+    is_enough(alloc, bytes, &peeked)
+}
+
+/// Whether no further byte is wanted after a look at the first ones.
+fn is_enough(alloc: Global, bytes: &mut [u8], peeked: &io::Result<usize>) -> bool
+    ensures none { IsErrAnd peeked.now (λ error. error_kind error ≡ WouldBlock) → result ≡ false }
+    ensures some { result ≡ false → IsErrAnd peeked.now (λ error. error_kind error ≡ WouldBlock)
+        ⊎ IsOkAnd peeked.now (λ count. IsDecided (take count bytes.old) false) }
+{
+    match peeked {
+        Ok(count) => is_decided(alloc, bytes, *count).unwrap_or(true),
         Err(error) => error.kind() != ErrorKind::WouldBlock,
     }
 }

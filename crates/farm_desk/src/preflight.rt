@@ -3,13 +3,19 @@
 //! byte it takes the log beside it for no log; so what must not be lost is looked at first. Nothing
 //! is known of a path, so the clauses say what is made of a look, and none what it sees. What
 //! another program does to a path between the look and the open isn't seen.
-ghost use Rattle.std.specs.Prelude.{◌≡◌, IfOk, IfSome, string_bytes};
-ghost use Rattle.farm_desk.specs.Preflight.{IsLogPath, IsNoLog, MayBeNew, log_path_of};
-ghost use Rattle.farm_desk.specs.declared.preflight.PathState.TheVariants.{Database, Nothing};
+ghost use Rattle.std.specs.Prelude.{◌≡◌, ◌≢◌, ◌↔◌, true, Some, IfOk, IfSome, IsErrAnd, IsNone};
+ghost use Rattle.std.specs.Prelude.{IsOkAnd, IsTrue, string_bytes};
+ghost use Rattle.std.specs.Fs.{asks_create_new, asks_write};
+ghost use Rattle.std.specs.IoError.{error_kind};
+ghost use Rattle.std.specs.declared.io.ErrorKind.TheVariants.{NotFound};
+ghost use Rattle.farm_desk.specs.NewFile.{database_text};
+ghost use Rattle.farm_desk.specs.Preflight.{HasBytes, HasNoTable, HasPage, IsEmptyFile, IsLogPath};
+ghost use Rattle.farm_desk.specs.Preflight.{IsNoLog, MayBeNew, log_path_of};
+ghost use Rattle.farm_desk.specs.declared.preflight.PathState.TheVariants.{Database, Empty, Nothing};
 
 use crate::new_file::{REST_OF_PAGE, page_head};
 use os::{RangeLock, try_lock_range};
-use std::fs::{self, File, OpenOptions};
+use std::fs::{self, File, Metadata, OpenOptions};
 use std::io::{self, ErrorKind, Read, Write};
 use std::os::fd::AsRawFd;
 use std::os::unix::fs::OpenOptionsExt;
@@ -138,23 +144,45 @@ impl<'a> Preflight<'a> {
 }
 
 fn state_at(rt: &HostRuntime, path: &str) -> PathState {
-    match fs::metadata(rt, path) {
-        Ok(found) if !found.is_file() => PathState::Other,
-        Ok(found) if found.len() == 0 => PathState::Empty,
-        Ok(_) if matches!(begins_as_database(rt, path), Ok(true)) => PathState::Database,
-        Err(error) if error.kind() == ErrorKind::NotFound => PathState::Nothing,
+    if let Some(state) = seen_state(&fs::metadata(rt, path)) {
+        return state;
+    }
+    match begins_as_database(rt, path) {
+        Ok(true) => PathState::Database,
         _ => PathState::Other,
+    }
+}
+
+/// What a look at a path saw; none of a file with bytes, which has to be read.
+fn seen_state(found: &io::Result<Metadata>) -> Option<PathState>
+    ensures nothing { (result ≡ Some Nothing) ↔ IsErrAnd found.now (λ e. error_kind e ≡ NotFound) }
+    ensures empty { (result ≡ Some Empty) ↔ IsOkAnd found.now IsEmptyFile }
+    ensures database { result ≢ Some Database }
+    ensures bytes { IsNone result ↔ IsOkAnd found.now HasBytes }
+{
+    match found {
+        Ok(found) if !found.is_file() => Some(PathState::Other),
+        Ok(found) if found.len() == 0 => Some(PathState::Empty),
+        Ok(_) => None,
+        Err(error) if error.kind() == ErrorKind::NotFound => Some(PathState::Nothing),
+        Err(_) => Some(PathState::Other),
     }
 }
 
 fn begins_as_database(rt: &HostRuntime, path: &str) -> io::Result<bool> {
     let mut first = [0u8; 16];
     File::open(rt, path)?.read_exact(&mut first)?;
-    Ok(first == FIRST_BYTES)
+    Ok(is_database_text(&first))
 }
 
-/// Whether a path has a log without a page that counts. The first page of a log has the log's
-/// salts, which are eight bytes: a page of others is none, and no page behind it counts.
+/// Whether these are the bytes with which each database begins.
+fn is_database_text(first: &[u8; 16]) -> bool
+    ensures { IsTrue result ↔ (first.now ≡ database_text) }
+{
+    *first == FIRST_BYTES
+}
+
+/// Whether a path has a log without a page that counts.
 fn has_no_page(rt: &HostRuntime, path: &str) -> io::Result<bool> {
     let found = fs::metadata(rt, path)?;
     if found.len() < LOG_HEADS as u64 || !found.is_file() {
@@ -162,19 +190,37 @@ fn has_no_page(rt: &HostRuntime, path: &str) -> io::Result<bool> {
     }
     let mut heads = [0u8; LOG_HEADS];
     File::open(rt, path)?.read_exact(&mut heads)?;
-    Ok(heads[16..24] != heads[40..48])
+    Ok(!has_page(&heads))
 }
 
-/// Whether a file that is read from its first byte on has none, or is a database without a table:
-/// it begins as each database does, and its list of tables is a leaf without a row. The first byte
-/// may lack, since an open writes it last.
+/// Whether a log's first page counts. It has the log's salts, which are eight bytes: a page of
+/// others is none, and no page behind it counts.
+fn has_page(heads: &[u8; LOG_HEADS]) -> bool
+    ensures { IsTrue result ↔ HasPage heads.now }
+{
+    heads[16..24] == heads[40..48]
+}
+
+/// Whether a file that is read from its first byte on has none, or is a database without a table.
 fn has_no_table(file: &mut File) -> io::Result<bool> {
     if file.metadata()?.len() == 0 {
         return Ok(true);
     }
     let mut first = [0u8; ROOT + 5];
     file.read_exact(&mut first)?;
-    Ok(first[1..16] == FIRST_BYTES[1..] && first[ROOT] == LEAF && first.ends_with(&[0, 0]))
+    Ok(is_without_table(&first))
+}
+
+/// Whether a file of these first bytes is a database without a table: it begins as each database
+/// does, and its list of tables is a leaf without a row. The first byte may lack, since an open
+/// writes it last.
+fn is_without_table(first: &[u8; ROOT + 5]) -> bool
+    ensures { IsTrue result ↔ HasNoTable first.now }
+{
+    first[1..16] == FIRST_BYTES[1..]
+        && first[ROOT] == LEAF
+        && first[ROOT + 3] == 0
+        && first[ROOT + 4] == 0
 }
 
 /// The path of the log beside a file, or beside the file to which a link leads.
@@ -197,11 +243,18 @@ fn path_beside(rt: &HostRuntime, file: &str) -> io::Result<String>
 
 /// Makes a file where there is nothing.
 fn make_file(rt: &HostRuntime, path: &str) -> io::Result<File> {
-    OpenOptions::new()
-        .write(true)
-        .create_new(true)
-        .mode(MODE)
-        .open(rt, path)
+    new_file_options().open(rt, path)
+}
+
+/// How a file is made: where there is one, an open fails.
+fn new_file_options() -> OpenOptions
+    ensures write { asks_write result ≡ true }
+    ensures new { asks_create_new result ≡ true }
+{
+    let mut options = OpenOptions::new();
+    options.mode(MODE);
+    options.write(true).create_new(true);
+    options
 }
 
 /// Makes a file with its first page where there is nothing. That is on the disk before a store is

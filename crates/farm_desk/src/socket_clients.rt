@@ -1,6 +1,6 @@
 //! The clients that a listener accepts: their streams have deadlines, and of what they send and
 //! take nothing is known.
-ghost use Rattle.std.specs.Prelude.{None, ⊤};
+ghost use Rattle.std.specs.Prelude.{◌≡◌, false, None, ⊤};
 
 use crate::clients::{Client, Clients};
 use crate::deadline_stream::{ClientStream, DeadlineStream};
@@ -62,7 +62,9 @@ impl<'c, C: Clock> Clients for SocketClients<'_, 'c, C> {
     ghost has_open = { λ _. ⊤ };
 
     /// Whether the files were taken away.
-    fn is_over(&self) -> bool {
+    fn is_over(&self) -> bool
+        ensures { self.now.files ≡ None → result ≡ false }
+    {
         self.files.is_some_and(|files| files.are_lost())
     }
 

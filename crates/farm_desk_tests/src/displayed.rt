@@ -1,10 +1,50 @@
-//! What refusals and faults display, and their numbers.
+//! What refusals and faults display, their numbers and their statuses.
 use farm_desk::{DeskFault, print_fault};
 use farm_jobfile::{FileFault, FileKind, Reason};
 use farm_keep::KeepFault;
 use farm_types::{Refusal, WordFault};
 use std::alloc::{AllocError, Global};
 use std::test::Fail;
+
+/// The number, the HTTP status and the text of each; status 0 where it is never answered over HTTP.
+const TEXTS: [(u16, u16, &str); 36] = [
+    (1, 503, "no memory"),
+    (2, 400, "bad moment"),
+    (3, 403, "forbidden"),
+    (4, 409, "full"),
+    (5, 400, "bad name"),
+    (6, 400, "bad tag"),
+    (7, 400, "bad count"),
+    (10, 404, "no such type"),
+    (11, 409, "type exists"),
+    (12, 404, "no such board"),
+    (13, 409, "board exists"),
+    (14, 409, "board is held"),
+    (15, 409, "board is retired"),
+    (20, 404, "no such job"),
+    (21, 409, "wrong job state"),
+    (22, 409, "no such boards"),
+    (23, 400, "bad priority"),
+    (30, 404, "no such reservation"),
+    (31, 409, "reservation expired"),
+    (32, 409, "wrong reservation state"),
+    (40, 409, "key reused"),
+    (41, 400, "bad key"),
+    (50, 400, "bad request"),
+    (51, 413, "too large"),
+    (52, 404, "no such route"),
+    (53, 405, "wrong method"),
+    (54, 501, "bad coding"),
+    (60, 503, "store fault"),
+    (61, 503, "closed"),
+    (62, 0, "bad store"),
+    (63, 0, "old schema"),
+    (64, 0, "new schema"),
+    (70, 400, "bad job file"),
+    (71, 0, "bad lab file"),
+    (80, 0, "read fault"),
+    (81, 0, "write fault"),
+];
 
 fn shown(alloc: Global, refusal: Refusal) -> Result<String, AllocError> {
     format!(in alloc; "{refusal}")
@@ -14,22 +54,22 @@ fn word_shown(alloc: Global, fault: WordFault) -> Result<String, AllocError> {
     format!(in alloc; "{fault}")
 }
 
-/// Whether a refusal displays its text, by itself and as a word's fault.
-fn is_displayed(alloc: Global, refusal: Refusal) -> Result<bool, AllocError> {
+/// Whether a refusal has this text, by itself and as a word's fault, and this status.
+fn is_reported(alloc: Global, code: u16, status: u16, text: &str) -> Result<bool, AllocError> {
+    let refusal = Refusal { code };
     let (own, word) = (
         shown(alloc, refusal)?,
         word_shown(alloc, WordFault::Refused(refusal))?,
     );
-    Ok(own.as_str() == refusal.text() && word.as_str() == refusal.text())
+    Ok(own.as_str() == text && word.as_str() == text && refusal.status().unwrap_or(0) == status)
 }
 
 #[test]
 fn texts_of_all_codes(rt: HostRuntime) -> Result<(), Fail> {
-    for code in 0..100 {
-        assert!(rt; is_displayed(rt.alloc(), Refusal { code })?, "{code}");
+    for (code, status, text) in &TEXTS {
+        assert!(rt; is_reported(rt.alloc(), *code, *status, text)?, "{code}");
     }
-    let bad_store = shown(rt.alloc(), Refusal { code: 62 })?;
-    assert_eq!(rt; bad_store.as_str(), "bad store");
+    assert!(rt; is_reported(rt.alloc(), 99, 0, "")?);
     let no_memory = word_shown(rt.alloc(), WordFault::NoMemory)?;
     assert_eq!(rt; no_memory.as_str(), "no memory");
     Ok(())

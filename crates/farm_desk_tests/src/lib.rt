@@ -1,5 +1,5 @@
 //! Tests of the desk that no transcript can say: conversations over readers and writers that fail,
-//! clients over sockets and in memory, an order over a lab file in memory, and what faults display.
+//! clients over sockets and in memory, and what faults display.
 #![tactic(auto)]
 
 #[cfg(test)]
@@ -8,7 +8,5 @@ mod answered;
 mod clients;
 #[cfg(test)]
 mod displayed;
-#[cfg(test)]
-mod lab_in_memory;
 #[cfg(test)]
 mod served;

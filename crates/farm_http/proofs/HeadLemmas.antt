@@ -1,8 +1,8 @@
 -- Heads end in a line feed, so the first prefix that is one ends with its last line.
-use Rattle.std.proofs.Common.{◌≡◌, ◌≢◌, ℕ, ◌+◌, ◌-◌, ◌<◌, ◌≤◌, min, List, [], ◌∷◌, ◌++◌, length, get_or, take, drop, refl, sym, ap, subst, ◌∙◌, append_assoc, append-nil, arith, suc, length-append, below_more, Some, None, inl}
-use Rattle.std.proofs.lemmas.List.{take-append-le, take_more, length-take, length-map}
+use Rattle.std.proofs.Common.{◌≡◌, ℕ, Bool, true, false, ltb, ltb-true, ltb-false, ◌+◌, ◌-◌, ◌<◌, ◌≤◌, min, List, [], ◌∷◌, ◌++◌, length, get_or, take, drop, refl, sym, ap, subst, ◌∙◌, append_assoc, append-nil, arith, suc, length-append, below_more, inl}
+use Rattle.std.proofs.lemmas.List.{take-append-le, take_more, length-take, length-map, get_or-take}
 use Rattle.std.proofs.Math.ListN.{get_or-append}
-use Rattle.std.proofs.Math.Seq.{get_or-append_seam, take-append_seam}
+use Rattle.std.proofs.Math.Seq.{get_or-append_seam, get_or-append_right, take-append_seam}
 use Rattle.httparse.specs.Grammar.{RequestHead, ReadsRequest, LineEnd, crlf, lf, print_end, print_request}
 use Rattle.httparse.specs.Spans.{IsRequestOf, header_bytes, name_and_value}
 use Rattle.httparse.specs.declared.spans.HeaderSpan.{HeaderSpan}
@@ -13,7 +13,8 @@ use Rattle.farm_http.specs.Faults.{BodyFails, HeadFails}
 use Rattle.farm_http.specs.declared.fault.WireFault.{WireFault}
 use Rattle.farm_http.specs.declared.fault.WireFault.TheVariants.{NoMemory, Read, Write, Refused}
 use Rattle.std.specs.Prelude.{Option}
-use Rattle.std.specs.Io.KnownBytes.{Consumes, Keeps}
+use Rattle.std.specs.Io.{StopsAt}
+use Rattle.std.specs.Io.KnownBytes.{Consumes}
 use Rattle.std.proofs.KnownBytes.{Consumes-trans}
 use Rattle.std.proofs.Math.Seq.{take-length}
 
@@ -64,17 +65,24 @@ head_of buf headers r found room short o =
       },
     )
 
--- a byte behind them leaves the lines before it
-pub open_push : (bytes : List ℕ) (b : ℕ) → IsOpenBelow (length bytes) bytes → IsOpenBelow (length bytes) (bytes ++ b ∷ [])
-open_push bytes b o i below at =
-    subst IsOpen (sym (take-append-le (i + 1) bytes (b ∷ []) (omega arith))) (o i below (sym (get_or-append bytes (b ∷ []) 0 i below) ∙ at))
+-- bytes behind them, of which none but the last is a line feed, leave the lines before those
+open_appended : (bytes run : List ℕ) → StopsAt run 10 → IsOpenBelow (length bytes) bytes → IsOpenBelow (length bytes + length run - 1) (bytes ++ run)
+open_appended bytes run stops o i below at = by (ltb i (length bytes)) refl
+  where
+    by : (b : Bool) → ltb i (length bytes) ≡ b → IsOpen (take (i + 1) (bytes ++ run))
+    by true e =
+        let within = ltb-true i (length bytes) e in
+        subst IsOpen (sym (take-append-le (i + 1) bytes run (omega (arith, within)))) (o i within (sym (get_or-append bytes run 0 i within) ∙ at))
+    by false e =
+        let past = ltb-false i (length bytes) e in
+        let before : i - length bytes < length run - 1 = omega (arith, past, below) in
+        let there : get_or run (i - length bytes) 0 ≡ 10 = sym (get_or-append_right bytes run i 0 past) ∙ at in
+        absurd (stops (i - length bytes) 0 (omega (arith, before, length-take (length run - 1) run)) (get_or-take (length run - 1) run (i - length bytes) 0 before ∙ there))
 
 -- they are all its lines but the last
-pub open_pushed : (bytes all : List ℕ) (b : ℕ) → all ≡ bytes ++ b ∷ [] → IsOpenBelow (length bytes) bytes → IsOpenBelow (length all - 1) all
-open_pushed bytes all b is o =
-    let long : length all ≡ length bytes + 1 = ap length is ∙ length-append bytes (b ∷ []) in
-    let before : length bytes ≡ length all - 1 = omega (arith, long) in
-    subst (λ n. IsOpenBelow n all) before (subst (IsOpenBelow (length bytes)) (sym is) (open_push bytes b o))
+pub open_before : (bytes all run : List ℕ) → all ≡ bytes ++ run → StopsAt run 10 → IsOpenBelow (length bytes) bytes → IsOpenBelow (length all - 1) all
+open_before bytes all run is stops o =
+    subst (λ l. IsOpenBelow (length l - 1) l) (sym is) (subst (λ n. IsOpenBelow (n - 1) (bytes ++ run)) (sym (length-append bytes run)) (open_appended bytes run stops o))
 
 -- one more line that is open, or one more byte of a line
 pub open_more : (bytes : List ℕ) → 0 < length bytes → IsOpenBelow (length bytes - 1) bytes → (get_or bytes (length bytes - 1) 0 ≡ 10 → IsOpen bytes) → IsOpenBelow (length bytes) bytes
@@ -91,27 +99,9 @@ ends_line bytes some at =
     let whole : bytes ≡ take (length bytes - 1 + 1) bytes = sym (take-length bytes) ∙ ap (λ k. take k bytes) long in
     (take n bytes, whole ∙ take_more bytes n 0 (omega arith) ∙ ap (λ b. take n bytes ++ b ∷ []) at)
 
--- a list of one is its first item
-one_item : (buf : List ℕ) → length buf ≡ 1 → buf ≡ get_or buf 0 0 ∷ []
-one_item [] e = cc
-one_item (x ∷ []) e = refl
-one_item (x ∷ (y ∷ ys)) e = absurd (omega (arith, e))
-
--- one byte was read
-pub one_read : (a b : Option (List ℕ)) (buf : List ℕ) (k : ℕ) → Consumes a b (take k buf) → k ≤ length buf → length buf ≡ 1 → k ≢ 0 → Consumes a b (get_or buf 0 0 ∷ [])
-one_read a b buf k read fits one some =
-    let whole : k ≡ length buf = omega (arith, one, fits) in
-    subst (Consumes a b) (ap (λ j. take j buf) whole ∙ take-length buf ∙ one_item buf one) read
-
--- no byte was read
-pub none_read : (a b : Option (List ℕ)) (buf : List ℕ) (k : ℕ) → Consumes a b (take k buf) → k ≡ 0 → Keeps a b
-none_read None b buf k read none = tt
-none_read (Some x) None buf k read none = absurd read
-none_read (Some x) (Some y) buf k read none = sym (subst (λ n. x ≡ take n buf ++ y) none read)
-
--- one byte was read, and was put behind the others
-pub read_more : (a b c : Option (List ℕ)) (old all : List ℕ) (x : ℕ) → all ≡ old ++ x ∷ [] → Consumes a b old → Consumes b c (x ∷ []) → Consumes a c all
-read_more a b c old all x is before read = subst (Consumes a c) (sym is) (Consumes-trans a b c old (x ∷ []) before read)
+-- bytes were read, and were put behind the others
+pub read_more : (a b c : Option (List ℕ)) (old all run : List ℕ) → all ≡ old ++ run → Consumes a b old → Consumes b c run → Consumes a c all
+read_more a b c old all run is before read = subst (Consumes a c) (sym is) (Consumes-trans a b c old run before read)
 
 -- where no further byte came, no head did
 pub byte_fails : (old : List ℕ) (AtEnd Spent : Type 0) (e : WireFault) → length old < longest_head → IsOpenBelow (length old) old → BodyFails 1 [] AtEnd Spent e → HeadFails old AtEnd Spent e

@@ -1,5 +1,6 @@
 pub mod HeadLemmas
 pub mod SliceReads
+pub mod Held
 pub mod Room
 pub mod Whole
 pub mod Known

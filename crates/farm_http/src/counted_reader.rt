@@ -2,8 +2,9 @@
 //! says it; only `CountedReader::read` calls the reader, and only it counts.
 ghost use Rattle.std.specs.Prelude.{◌≡◌, ◌+◌, ◌^◌, ◌<◌, ◌≤◌, false, length, take, IfOk, IfErr};
 ghost use Rattle.std.specs.Prelude.{IsOk, OnOk, OnErr};
-ghost use Rattle.std.specs.Io.{ReadsAtMost};
+ghost use Rattle.std.specs.Io.{ReadsAtMost, StopsAt};
 ghost use Rattle.std.specs.Io.KnownBytes.{Consumes, IsAtEnd, Keeps, ReadConsumes};
+ghost use Rattle.httparse.specs.Ascii.{line_feed};
 ghost use Rattle.farm_types.specs.Limits.{most_reads};
 ghost use Rattle.farm_http.specs.Turns.{IsOneMore};
 ghost use Rattle.farm_http.specs.Counts.{reader_of, reading_of, IsSameReader, IsSpent};
@@ -12,6 +13,13 @@ use crate::fault::WireFault;
 use crate::input::Input;
 use farm_types::MOST_READS;
 use std::io::{self, ErrorKind};
+
+/// How far a call reads: as far as there is room, or no further than a line.
+#[derive(Clone, Copy)]
+pub(crate) enum Reach {
+    Room,
+    Line,
+}
 
 /// A lent reader, how often it was called for one request, and whether it failed.
 #[derive(Drop)]
@@ -52,13 +60,15 @@ impl<'a, R: Input> CountedReader<'a, R> {
     }
 
     /// Calls the reader once.
-    pub(crate) fn read(&mut self, buf: &mut [u8]) -> io::Result<usize>
+    pub(crate) fn read(&mut self, buf: &mut [u8], reach: Reach) -> io::Result<usize>
+        requires room { 0 < length buf.old }
         requires more { (reading_of self.old).calls + 1 < 2 ^ 32 }
         requires alive { (reading_of self.old).failed ≡ false }
         ensures same { IsSameReader self.old self.new }
         ensures bound { ReadsAtMost result buf.new }
         ensures bytes { ReadConsumes (R.remaining (reader_of self.old))
             (R.remaining (reader_of self.new)) result buf.new }
+        ensures line { reach ≡ Reach.Line → IfOk result (λ n. StopsAt (take n buf.new) line_feed) }
         ensures counted { (reading_of self.new).calls ≡ (reading_of self.old).calls + 1 }
         ensures failed { CountsFailure result (reading_of self.new).failed }
 
@@ -67,7 +77,10 @@ impl<'a, R: Input> CountedReader<'a, R> {
         ensures sure { R.never_fails → IsOk result }
     {
         self.calls += 1;
-        let result = self.reader.read_once(buf);
+        let result = match reach {
+            Reach::Room => self.reader.read_once(buf),
+            Reach::Line => self.reader.read_in_line(buf),
+        };
         if let Err(error) = &result {
             self.failed = error.kind() != ErrorKind::Interrupted;
         }
@@ -80,6 +93,7 @@ impl<'a, R: Input> CountedReader<'a, R> {
 pub(crate) fn read_some<R: Input>(
     reader: &mut CountedReader<'_, R>,
     buf: &mut [u8],
+    reach: Reach,
 ) -> Result<usize, WireFault>
     requires room { 0 < length buf.old }
     requires turns { (reading_of reader.old).calls ≤ most_reads }
@@ -89,6 +103,7 @@ pub(crate) fn read_some<R: Input>(
     ensures ok { IfOk result
         (λ n. Consumes (R.remaining (reader_of reader.old)) (R.remaining (reader_of reader.new))
         (take n buf.new)) }
+    ensures line { reach ≡ Reach.Line → IfOk result (λ n. StopsAt (take n buf.new) line_feed) }
     ensures end { IfOk result (λ n. n ≡ 0 → IsAtEnd (R.remaining (reader_of reader.new))) }
     ensures alive { OnOk result ((reading_of reader.new).failed ≡ false) }
     ensures kept { OnErr result (Keeps (R.remaining (reader_of reader.old))
@@ -103,7 +118,7 @@ pub(crate) fn read_some<R: Input>(
         → (reading_of reader.new).calls ≤ (reading_of reader.old).calls + 1 }
 {
     while reader.calls() < MOST_READS {
-        match reader.read(buf) {
+        match reader.read(buf, reach) {
             Ok(count) => return Ok(count),
             Err(error) if error.kind() == ErrorKind::Interrupted => {}
             Err(_) => return Err(WireFault::Read),

@@ -1,11 +1,12 @@
 //! What requests are read from.
-ghost use Rattle.std.specs.Prelude.{ℕ, ⊤, None, Option, IsOk};
-ghost use Rattle.std.specs.Io.{ReadsAtMost};
+ghost use Rattle.std.specs.Prelude.{◌≢◌, ℕ, ◌-◌, ◌<◌, ◌≤◌, ⊤, length, take, None, Option, All, IfOk, IsOk};
+ghost use Rattle.std.specs.Io.{ReadsAtMost, StopsAt};
 ghost use Rattle.std.specs.Io.KnownBytes.{ReadConsumes};
+ghost use Rattle.httparse.specs.Ascii.{line_feed};
 ghost use Rattle.farm_http.specs.Turns.{IsOneMore};
 
 use std::alloc::Allocator;
-use std::io::{self, BufReader, Read, Stdin};
+use std::io::{self, BufRead, BufReader, Read, Stdin};
 
 /// A reader, and what `Read` does not say of it: that it never fails, where that is so, and how
 /// often it was called, where it counts that.
@@ -23,6 +24,40 @@ pub trait Input: Read {
             result buf.new }
         ensures sure { never_fails → IsOk result }
         ensures once { IsOneMore (turns self.old) (turns self.new) };
+
+    /// Reads what is at hand of a line, as by one call of `read`: no byte before the last is a line
+    /// feed. A reader that can't tell gives one byte.
+    fn read_in_line(&mut self, buf: &mut [u8]) -> io::Result<usize>
+        requires room { 0 < length buf.old }
+        ensures bound { ReadsAtMost result buf.new }
+        ensures bytes { ReadConsumes (Self.remaining self.old) (Self.remaining self.new)
+            result buf.new }
+        ensures line { IfOk result (λ n. StopsAt (take n buf.new) line_feed) }
+        ensures sure { never_fails → IsOk result }
+        ensures once { IsOneMore (turns self.old) (turns self.new) }
+    {
+        self.read_once(&mut buf[..1])
+    }
+}
+
+/// Where the first line feed is, or else the end.
+fn line_feed_at(bytes: &[u8]) -> usize
+    ensures within { result ≤ length bytes.now }
+    ensures before { All (λ byte. byte ≢ line_feed) (take result bytes.now) }
+{
+    bytes
+        .iter()
+        .position(|byte| *byte == b'\n')
+        .unwrap_or(bytes.len())
+}
+
+/// How many bytes are of the first line: all up to the first line feed and with it.
+fn line_len(bytes: &[u8]) -> usize
+    ensures within { result ≤ length bytes.now }
+    ensures line { All (λ byte. byte ≢ line_feed) (take (result - 1) bytes.now) }
+    ensures some { 0 < length bytes.now → 0 < result }
+{
+    bytes.len().min(line_feed_at(bytes) + 1)
 }
 
 /// Bytes in memory never fail.
@@ -31,6 +66,11 @@ impl Input for &[u8] {
 
     fn read_once(&mut self, buf: &mut [u8]) -> io::Result<usize> {
         self.read(buf)
+    }
+
+    fn read_in_line(&mut self, buf: &mut [u8]) -> io::Result<usize> {
+        let room = line_len(self).min(buf.len());
+        self.read(&mut buf[..room])
     }
 }
 
@@ -44,6 +84,17 @@ impl<R: Read> Input for &mut R {
 impl<R: Read, A: Allocator> Input for BufReader<R, A> {
     fn read_once(&mut self, buf: &mut [u8]) -> io::Result<usize> {
         self.read(buf)
+    }
+
+    /// Takes what is held of a line. Where nothing is, the buffer is filled for one byte.
+    fn read_in_line(&mut self, buf: &mut [u8]) -> io::Result<usize> {
+        let count = line_len(self.buffer()).min(buf.len());
+        if count == 0 {
+            return self.read(&mut buf[..1]);
+        }
+        buf[..count].copy_from_slice(&self.buffer()[..count]);
+        self.consume(count);
+        Ok(count)
     }
 }
 

@@ -1,9 +1,10 @@
 //! HTTP/1.1 on the wire (RFC 9112): the bytes of one request taken from any reader, and bytes
 //! written whole to any writer.
 //!
-//! Reading takes what it needs and no more: the head byte by byte, since the bytes behind a request
-//! belong to whoever reads next, then exactly the body that the head declares. So a head costs one
-//! call of `read` for each byte, and a caller hands in a buffered reader where calls are dear.
+//! Reading takes what it needs and no more, since the bytes behind a request belong to whoever reads
+//! next: of the head no further than to the end of a line, then exactly the body that the head
+//! declares. Of a buffered reader, or of bytes in memory, a head costs one call for what is at hand
+//! of a line, and of any other one for each byte, so a caller buffers what is dear to call.
 //!
 //! A reader is an `Input` and a writer an `Output`, which say what `Read` and `Write` don't: that
 //! bytes in memory never fail, and that a vector takes what it has room for.

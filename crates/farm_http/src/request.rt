@@ -1,8 +1,10 @@
 //! Reading one request.
-ghost use Rattle.std.specs.Prelude.{◌≡◌, ◌≢◌, ℕ, ◌+◌, ◌-◌, ◌<◌, ◌≤◌, ◌∷◌, length, [], take, is_some};
+ghost use Rattle.std.specs.Prelude.{◌≡◌, ◌≢◌, ℕ, ◌+◌, ◌-◌, ◌<◌, ◌≤◌, ◌++◌, length, [], take, is_some};
 ghost use Rattle.std.specs.Prelude.{vec_capacity, false, ⊤, List, IsTrue, IfOk, IfErr, IfSome};
 ghost use Rattle.std.specs.Prelude.{OnOk, OnErr, IsErrOf};
+ghost use Rattle.std.specs.Io.{StopsAt};
 ghost use Rattle.std.specs.Io.KnownBytes.{Consumes, IsAtEnd, Keeps};
+ghost use Rattle.httparse.specs.Ascii.{line_feed};
 ghost use Rattle.httparse.specs.Grammar.{RequestHead};
 ghost use Rattle.farm_types.specs.Limits.{longest_body, longest_head, most_fields, most_reads};
 ghost use Rattle.farm_http.specs.Fields.{body_length, refusal_by_number};
@@ -11,7 +13,7 @@ ghost use Rattle.farm_http.specs.Heads.{IsHead, IsHopeless, IsOpenBelow, FindsHe
 ghost use Rattle.farm_http.specs.Counts.{nothing_read, reader_of, reading_of, IsSameReader, IsSpent};
 ghost use Rattle.farm_http.specs.Requests.{IsRequest};
 
-use crate::counted_reader::{CountedReader, read_some};
+use crate::counted_reader::{CountedReader, Reach, read_some};
 use crate::fault::WireFault;
 use crate::fields::declared_among;
 use crate::input::Input;
@@ -23,6 +25,9 @@ use httparse::Status;
 use httparse::spans::{EMPTY_HEADER_SPAN, HeaderSpan, RequestSpans, parse_request};
 use std::alloc::Global;
 
+/// The most bytes of a head that are read by one call.
+const LONGEST_RUN: usize = 256;
+
 /// Reads one request, and leaves the bytes behind it unread.
 ///
 /// The head is the first prefix that the parser takes for one; it is tried at each line feed. A
@@ -30,9 +35,9 @@ use std::alloc::Global;
 /// for more than 64 fields, for a wrong `content-length` and for an input that ends too early, 51
 /// for a head above 8,192 bytes or a body above 65,536, 54 for any `transfer-encoding`.
 ///
-/// Costs one growth of 73,728 bytes, one call of `read` for each byte of the head and as few as the
-/// reader allows for the body, and at each line feed of the head a parse of what came so far: its
-/// bytes times its lines. The dearest head that can come is 8,192 empty lines.
+/// Costs one growth of 73,728 bytes, as few calls of the reader as it allows, for the head one for
+/// each byte at most, and at each line feed of the head a parse of what came so far: its bytes times
+/// its lines. The dearest head that can come is 8,192 empty lines.
 pub fn read_request<R: Input>(alloc: Global, reader: &mut R) -> Result<Taken, WireFault>
     ensures taken { IfOk result
         (λ taken. Consumes (R.remaining reader.old) (R.remaining reader.new) taken.bytes.items) }
@@ -150,8 +155,7 @@ fn read_head<R: Input>(
     ensures quick { R.never_fails → (reading_of reader.new).calls ≤ longest_head }
 {
     while bytes.len() < LONGEST_HEAD {
-        let byte = read_byte(reader)?;
-        bytes.push_reserved(byte);
+        read_run(reader, bytes)?;
         if let Some(spans) = spans_of(bytes.as_slice(), headers)? {
             return Ok(spans);
         }
@@ -159,14 +163,22 @@ fn read_head<R: Input>(
     Err(WireFault::Refused(Refusal { code: TOO_LARGE }))
 }
 
-/// Reads one byte.
-fn read_byte<R: Input>(reader: &mut CountedReader<'_, R>) -> Result<u8, WireFault>
+/// Reads what is at hand of a line behind bytes that have room for a head.
+fn read_run<R: Input>(
+    reader: &mut CountedReader<'_, R>,
+    bytes: &mut Vec<u8>,
+) -> Result<(), WireFault>
     requires turns { (reading_of reader.old).calls ≤ most_reads }
     requires alive { (reading_of reader.old).failed ≡ false }
+    requires short { length bytes.old.items < longest_head }
+    requires room { longest_head ≤ vec_capacity bytes.old }
     ensures same { IsSameReader reader.old reader.new }
-    ensures byte { IfOk result
-        (λ byte. Consumes (R.remaining (reader_of reader.old)) (R.remaining (reader_of reader.new))
-        (byte ∷ [])) }
+    ensures capacity { vec_capacity bytes.old ≤ vec_capacity bytes.new }
+    ensures within { OnOk result (length bytes.new.items ≤ longest_head) }
+    ensures some { OnOk result (length bytes.old.items < length bytes.new.items) }
+    ensures run { OnOk result ((run : List ℕ) × (bytes.new.items ≡ bytes.old.items ++ run)
+        × StopsAt run line_feed
+        × Consumes (R.remaining (reader_of reader.old)) (R.remaining (reader_of reader.new)) run) }
     ensures alive { OnOk result ((reading_of reader.new).failed ≡ false) }
     ensures kept { OnErr result (Keeps (R.remaining (reader_of reader.old))
         (R.remaining (reader_of reader.new))) }
@@ -180,11 +192,15 @@ fn read_byte<R: Input>(reader: &mut CountedReader<'_, R>) -> Result<u8, WireFaul
     ensures once { R.never_fails
         → (reading_of reader.new).calls ≤ (reading_of reader.old).calls + 1 }
 {
-    let mut byte = [0u8; 1];
-    if read_some(reader, &mut byte)? == 0 {
+    let mut run = [0u8; LONGEST_RUN];
+    let room = LONGEST_RUN.min(LONGEST_HEAD - bytes.len());
+    let count = read_some(reader, &mut run[..room], Reach::Line)?;
+    if count == 0 {
         return Err(WireFault::Refused(Refusal { code: BAD_REQUEST }));
     }
-    Ok(byte[0])
+    // There is room for it.
+    let _ = bytes.extend_from_slice(&run[..count]);
+    Ok(())
 }
 
 /// Where the parts of a head are, if the bytes are one, where no line before their last ends one.
@@ -236,7 +252,7 @@ fn read_body<R: Input>(reader: &mut CountedReader<'_, R>, body: &mut [u8]) -> Re
 {
     let mut at = 0usize;
     while at < body.len() {
-        let count = read_some(reader, &mut body[at..])?;
+        let count = read_some(reader, &mut body[at..], Reach::Room)?;
         if count == 0 {
             return Err(WireFault::Refused(Refusal { code: BAD_REQUEST }));
         }

@@ -72,24 +72,51 @@ impl<'a> Run<'a> {
         Ok(None)
     }
 
+    /// Plays the rest, where the farm is that of the steps that were answered; how that ended.
+    fn rest<S: Alter + Drop>(&self, desk: &mut Desk<S>, end: End) -> io::Result<Option<End>> {
+        match self.place_of(end, desk)? {
+            Some(place) => {
+                let end = self.play(desk, place)?;
+                Ok(Some(end))
+            }
+            None => {
+                self.reporter.fails("another farm is found")?;
+                Ok(None)
+            }
+        }
+    }
+
+    /// Whether all steps were answered, and the farm is that of the end.
+    fn is_at_end<S: Alter + Drop>(&self, desk: &Desk<S>, end: End) -> io::Result<bool> {
+        if matches!(end, End::Whole) && self.place_of(end, desk)?.is_some() {
+            return Ok(true);
+        }
+        self.reporter.fails("the rest leads to another farm")
+    }
+
+    /// Whether these files hold the farm of the end.
+    fn ends_in<S: Alter + Drop>(&self, files: Disks, end: End) -> io::Result<bool>
+    where
+        Connection<S>: InFiles<S>,
+    {
+        match found::<S>(self.alloc, files) {
+            Ok(desk) => self.is_at_end(&desk, end),
+            Err(_) => self.reporter.fails("no farm is found after the rest"),
+        }
+    }
+
     /// The farm is that of the steps that were answered, and the rest leads to the end, which is
     /// found after one more crash.
     fn goes_on<S: Alter + Drop>(&self, mut desk: Desk<S>, end: End) -> io::Result<bool>
     where
         Connection<S>: InFiles<S>,
     {
-        let Some(place) = self.place_of(end, &desk)? else {
-            return self.reporter.fails("another farm is found");
-        };
-        let end = self.play(&mut desk, place)?;
+        let end = self.rest(&mut desk, end);
         let (files, _) = Connection::<S>::crashed(desk.into_store());
-        let Ok(desk) = found::<S>(self.alloc, files) else {
-            return self.reporter.fails("no farm is found after the rest");
-        };
-        if matches!(end, End::Whole) && self.place_of(end, &desk)?.is_some() {
-            return Ok(true);
+        match end? {
+            Some(end) => self.ends_in::<S>(files, end),
+            None => Ok(false),
         }
-        self.reporter.fails("the rest leads to another farm")
     }
 
     /// Plays the steps up to the store's fault, which closes the keeper; how that ended.
@@ -126,12 +153,12 @@ impl<'a> Run<'a> {
         let Ok(mut desk) = found::<S>(self.alloc, files) else {
             return Ok(Some(true));
         };
-        let end = self.first(&mut desk)?;
+        let end = self.first(&mut desk);
         let (files, was_stopped) = Connection::<S>::crashed(desk.into_store());
-        let is_well = match end {
+        let is_well = match end? {
             End::Wrong => false,
             End::Fault(_) if !was_stopped => self.reporter.fails("a fault without a stop")?,
-            _ => self.second(found::<S>(self.alloc, files), end)?,
+            end => self.second(found::<S>(self.alloc, files), end)?,
         };
         Ok(is_well.then_some(was_stopped))
     }

@@ -54,6 +54,17 @@ fn follows(first: Result<(), KeepFault>, again: Result<(), KeepFault>) -> bool {
     }
 }
 
+/// The farm in words that files hold.
+fn farm_in<S: Alter + Drop>(alloc: Global, files: Disks) -> Option<String>
+where
+    Connection<S>: InFiles<S>,
+{
+    match found::<S>(alloc, files) {
+        Ok(desk) => desk.in_words(alloc).ok(),
+        Err(_) => None,
+    }
+}
+
 /// An upgrade, a crash, and another upgrade; whether the store was stopped. None where one went
 /// wrong, or another farm is found in the end.
 fn upgraded_twice<S: Alter + Drop>(alloc: Global, files: Disks, farm: &str) -> Option<bool>
@@ -66,8 +77,7 @@ where
     let first = migrated(alloc, &mut conn);
     let (files, was_stopped) = Connection::<S>::crashed(conn.into_store());
     let (files, again) = upgraded::<S>(alloc, files)?;
-    let desk = found::<S>(alloc, files).ok()?;
-    let words = desk.in_words(alloc).ok()?;
+    let words = farm_in::<S>(alloc, files)?;
     (follows(first, again) && words.as_str() == farm).then_some(was_stopped)
 }
 
@@ -99,7 +109,7 @@ where
     let copy = with_fuse(alloc, &files, Failing::Log, u64::MAX).ok()?;
     let (copy, text) = upgrade::<S>(alloc, copy)?;
     let again = with_fuse(alloc, &copy, Failing::Log, u64::MAX).ok()?;
-    let farm = found::<S>(alloc, again).ok()?.in_words(alloc).ok()?;
+    let farm = farm_in::<S>(alloc, again)?;
     stops_each::<S>(alloc, &files, Failing::Log, farm.as_str())?;
     stops_each::<S>(alloc, &files, Failing::Tables, farm.as_str())?;
     Some((copy, text))

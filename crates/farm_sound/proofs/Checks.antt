@@ -12,7 +12,6 @@ use Rattle.farm_types.specs.Pick.{check_of, is_nobody}
 use Rattle.farm_types.specs.Proper.{is_want}
 use Rattle.farm_types.specs.Sound.{IsBoardRow, IsJobRow, IsSound, IsSteady, IsTypeRow, hold_of, job_hold}
 use Rattle.farm_types.specs.Table.{board_cmp}
-use Rattle.farm_types.proofs.WordLemmas.{no_text}
 use Rattle.farm_types.specs.Words.{IsName, is_tags, is_word}
 use Rattle.farm_sound.proofs.Add.{IsSteady-add_job, add_job, job_of-add}
 use Rattle.farm_sound.proofs.Collecting.{IsCollecting-add, next_collects_not}
@@ -20,7 +19,7 @@ use Rattle.farm_sound.proofs.Give.{IsFreeBoard, IsSteady-given_to, boards_on, gi
 use Rattle.farm_sound.proofs.Held.{IsHeldByKeys-given}
 use Rattle.farm_sound.proofs.Lists.{filter_all}
 use Rattle.farm_sound.proofs.Own.{fresh_job, fresh_res, itself, own_board}
-use Rattle.farm_sound.proofs.Rows.{new_words}
+use Rattle.farm_sound.proofs.Rows.{new_words, no_job_text}
 use Rattle.farm_sound.proofs.Tests.{both, nobody_from, same_number}
 use Rattle.farm_sound.proofs.Where.{AllByRecursion-both, by_cases, either}
 use Rattle.farm_sound.proofs.Whole.{AreGroupsInPhase-add}
@@ -60,7 +59,7 @@ module _ (F : Farm) (b : BoardRow) (free : IsFreeBoard F b) (sound : IsSound F) 
     number = (sound.steady.next.0, omega arith);
     apart = subst IsNone (sym (fresh_res F sound.steady F.next (omega arith))) refl;
     words = new_words F.next F.next (codes "admin") highest_priority (record { kind = Some b.kind; tags = [] }) None [] admin_name refl
-        (want_of_kind b.kind (kind_name F b.kind sound.steady row_b.kind)) tt (omega arith) (no_text [] refl);
+        (want_of_kind b.kind (kind_name F b.kind sound.steady row_b.kind)) tt no_job_text;
     kind = row_b.kind;
     board = still_there F (Holder.Job F.next) b free;
     outcome = (λ e. absurd (false≢true e), λ e. cc);

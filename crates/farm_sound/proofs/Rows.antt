@@ -1,20 +1,23 @@
 -- Rows of jobs, reservations and boards in another state, and what they hold then.
-use Rattle.std.proofs.Common.{◌+◌, ◌↔◌, ◌≡◌, ◌≤◌, IfSome, IsSome, IsTrue, List, None, Option, Some, ap, is_some, length, refl, subst, sym, true, ℕ}
+use Rattle.std.proofs.Common.{◌+◌, ◌↔◌, ◌≡◌, ◌≤◌, IfSome, IsSome, IsTrue, List, None, Option, Some, ap, arith, is_some, refl, subst, sym, true, ℕ, []}
 use Rattle.farm_sound.proofs.Names.{BoardRow, Farm, Health, Holder, JobRow, JobState, Outcome, ResRow, ResState, State, Want}
-use Rattle.farm_types.specs.Limits.{longest_text}
-use Rattle.farm_types.specs.Words.{IsName, IsText}
+use Rattle.farm_types.specs.Words.{IsName}
 use Rattle.farm_types.specs.Proper.{is_priority, is_want}
 use Rattle.farm_types.specs.Pass.{new_job}
 use Rattle.farm_types.specs.Change.{in_state}
-use Rattle.farm_types.specs.Sound.{Hold, IsBoardOf, IsBoardRow, IsJobRow, IsResRow, IsSubmission, hold, holds, job_gives, phase, res_gives, shown_hold, submission_of}
+use Rattle.farm_types.specs.Sound.{Hold, IsBoardOf, IsBoardRow, IsJobRow, IsResRow, IsJobText, IsSubmission, hold, holds, job_gives, phase, res_gives, shown_hold, submission_of}
+use Rattle.farm_types.proofs.WordLemmas.{no_text}
 use Rattle.farm_sound.proofs.Held.{IsLeft, Leaves}
 
 -- ---- a new job
 
+pub no_job_text : IsJobText []
+no_job_text = record { few = omega arith; utf8 = no_text [] refl }
+
 pub new_words : (number group : ℕ) (owner : List ℕ) (priority : ℕ) (want : Want) (role : Option (List ℕ)) (body : List ℕ) → IsName owner → IsTrue (is_priority priority)
-    → IsTrue (is_want want) → IfSome role IsName → length body ≤ longest_text → IsText body → IsSubmission (submission_of (new_job number group owner priority want role body))
-new_words number group owner priority want role body name prio wanted named few utf8 =
-    record { owner = name; priority = prio; want = wanted; role = named; body = few; text = utf8 }
+    → IsTrue (is_want want) → IfSome role IsName → IsJobText body → IsSubmission (submission_of (new_job number group owner priority want role body))
+new_words number group owner priority want role body name prio wanted named text =
+    record { owner = name; priority = prio; want = wanted; role = named; texts = assumption no_job_text }
 
 -- ---- rows in another state
 

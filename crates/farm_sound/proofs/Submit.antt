@@ -5,14 +5,13 @@ use Rattle.farm_types.specs.Limits.{longest_text, most_jobs, numbers_end}
 use Rattle.farm_types.specs.Change.{new_members}
 use Rattle.farm_types.specs.Pass.{new_job}
 use Rattle.farm_types.specs.Proper.{is_priority, is_want}
-use Rattle.farm_types.specs.Sound.{IsJobRow, IsSound, phase}
+use Rattle.farm_types.specs.Sound.{IsJobRow, IsJobText, IsSound, phase}
 use Rattle.farm_types.specs.Table.{job_cmp, put, put_all}
-use Rattle.farm_types.proofs.WordLemmas.{no_text}
 use Rattle.farm_types.specs.Words.{IsName, IsText}
 use Rattle.farm_sound.proofs.Add.{IsHeldByKeys-add_job, IsSteady-add_job, add_job, job_of-add, job_total}
 use Rattle.farm_sound.proofs.Collecting.{IsCollecting-add}
 use Rattle.farm_sound.proofs.Own.{differs_more, fresh_res, itself}
-use Rattle.farm_sound.proofs.Rows.{new_words}
+use Rattle.farm_sound.proofs.Rows.{new_words, no_job_text}
 use Rattle.farm_sound.proofs.Whole.{AreGroupsInPhase-add}
 
 -- what holds before a member with the farm's next number is added
@@ -22,8 +21,7 @@ pub record Next (F : Farm) (group : ℕ) (owner : List ℕ) (priority : ℕ) (bo
   pub previous : F.next ≢ group → (p : JobRow) × (job_of F (F.next - 1) ≡ Some p) × (p.group ≡ group) × (p.owner ≡ owner) × (p.priority ≡ priority) ×
       (p.checking ≡ false)
   pub text : F.next ≢ group → body ≡ []
-  pub few : length body ≤ longest_text
-  pub utf8 : IsText body
+  pub carried : IsJobText body
 
 abbrev IsMemberWant : Farm → Want → Type 0
 IsMemberWant F w = IsSomeAnd w.kind (λ kind. IsSome (type_of F kind)) × IsTrue (is_want w)
@@ -44,7 +42,7 @@ module _ (F : Farm) (group : ℕ) (owner : List ℕ) (priority : ℕ) (want : Wa
   member_row = record {
     number = (sound.steady.next.0, omega arith);
     apart = subst IsNone (sym (fresh_res F sound.steady F.next (omega arith))) refl;
-    words = new_words F.next group owner priority want role body name prio wanted.1 named next.few next.utf8;
+    words = new_words F.next group owner priority want role body name prio wanted.1 named next.carried;
     kind = wanted.0;
     board = tt;
     outcome = (λ e. absurd (false≢true e), λ e. cc);
@@ -79,8 +77,7 @@ module _ (F : Farm) (group : ℕ) (owner : List ℕ) (priority : ℕ) (want : Wa
       refl,
     );
     text = λ later. refl;
-    few = omega arith;
-    utf8 = no_text [] refl;
+    carried = no_job_text;
   }
 
 pub members_sound : (wants : List Want) (roles : List (Option (List ℕ))) (F : Farm) (group : ℕ) (owner : List ℕ) (priority : ℕ) (body : List ℕ)
@@ -117,7 +114,6 @@ IsSound-submit F owner priority wants roles body sound name prio few utf8 wanted
       waits = AllByRecursion-weaker (λ m is same. absurd (omega (arith, is.number.1, is.group.0, same))) F.jobs sound.steady.jobs;
       previous = λ later. absurd (later refl);
       text = λ later. absurd (later refl);
-      few = few;
-      utf8 = utf8;
+      carried = record { few = few; utf8 = utf8 };
     })
     name prio wanted named long (omega arith) room numbers

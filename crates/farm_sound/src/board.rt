@@ -12,9 +12,7 @@ use crate::job::job_gives;
 use crate::reservation::res_gives;
 use crate::seek::{job_of, res_of, type_of};
 use crate::want::is_named;
-use farm_types::{
-    BoardRow, Health, Holder, MOST_BOARDS_OF_TYPE, MOST_JOBS_SINCE, Name, Rows, State, TypeRow,
-};
+use farm_types::{BoardRow, Health, Holder, MOST_BOARDS_OF_TYPE, Name, Rows, State, TypeRow};
 
 /// The lines on a type.
 pub fn is_type_row(row: &TypeRow) -> bool
@@ -32,7 +30,7 @@ pub fn is_board_row(rows: &Rows, row: &BoardRow) -> bool
     let (_name, _tags) = (row.name.as_str(), row.tags.items());
     type_of(rows.types.as_slice(), &row.kind).is_some()
         && row.tags.has_no_name_tag()
-        && row.jobs_since <= MOST_JOBS_SINCE
+        && row.is_within_limits()
         && row.last_check <= rows.meta.clock
         && (!matches!(row.health, Health::Retired) || matches!(row.holder, Holder::Nobody))
 }

@@ -11,9 +11,7 @@ ghost use Rattle.farm_sound.specs.ByRows.{IsJobGrouped, IsInStep, IsShownOfJob};
 
 use crate::seek::{job_of, res_of};
 use crate::want::{is_shown, names_board, names_type, prove_role, prove_want};
-use farm_types::{
-    HIGHEST_PRIORITY, Holder, JobRow, JobState, LONGEST_TEXT, MOST_WANTS, Rows, State,
-};
+use farm_types::{HIGHEST_PRIORITY, Holder, JobRow, JobState, MOST_WANTS, Rows, State};
 
 /// The state that a job gives the board that it holds, if it holds one.
 pub fn job_gives(state: JobState) -> Option<State>
@@ -54,10 +52,10 @@ fn is_worded(rows: &Rows, row: &JobRow) -> bool
     requires { IsStrictlySortedBy type_cmp rows.now.types.items }
     ensures { IsTrue result ↔ IsJobWorded (farm_of rows.now) row.now }
 {
-    let (_owner, _priority, _body) = (row.owner.as_str(), row.priority.get(), row.body.as_str());
+    let (_owner, _priority) = (row.owner.as_str(), row.priority.get());
     prove_want(&row.want);
     prove_role(&row.role);
-    names_type(rows, &row.want.kind) && row.body.len() <= LONGEST_TEXT
+    names_type(rows, &row.want.kind) && row.is_within_limits()
 }
 
 /// The lines on a job's state, outcome and board.

@@ -31,7 +31,7 @@ use Rattle.sqlite_rules.proofs.TableLemmas.{int_is}
 use Rattle.farm_types.specs.Table.{put_all as put_all_rows}
 use Rattle.farm_types.specs.declared.rows.MetaRow.{MetaRow}
 use Rattle.farm_store.specs.declared.meta.TheConstants.{CHANGE}
-use Rattle.farm_store.specs.Columns.{TableRows, by_first, meta_row, meta_rows, number_rows, meta_values}
+use Rattle.farm_store.specs.Columns.{TableRows, by_first, meta_row, meta_rows, number_rows, meta_values, second_schema}
 use Rattle.farm_store.specs.Holds.{IsInside}
 use Rattle.farm_store.specs.Places.{of_meta, put_at}
 use Rattle.farm_store.specs.Schema.{farm_schema, meta_table}
@@ -99,7 +99,7 @@ row_after x = meta_row x.0 x.2
 
 -- all rows; the version stays
 abbrev all_changes : MetaRow → MetaRow → List Change
-all_changes m n = (codes "clock", m.clock, n.clock) ∷ (codes "collector", m.collector, n.collector) ∷ (codes "count", m.count, n.count) ∷ (codes "next", m.next, n.next) ∷ (codes "schema", 2, 2) ∷ []
+all_changes m n = (codes "clock", m.clock, n.clock) ∷ (codes "collector", m.collector, n.collector) ∷ (codes "count", m.count, n.count) ∷ (codes "next", m.next, n.next) ∷ (codes "schema", second_schema, second_schema) ∷ []
 
 split : (raw s : Row) → is_int (rowid raw) ≡ true → row_less_rowid raw ≡ s → raw ≡ Int (id_in (rowid raw)) ∷ s
 split [] s keyed is = absurd (let e : false ≡ true = keyed in cc)
@@ -125,8 +125,8 @@ module _ (m n : MetaRow) where
   one_turns id x (inr (inr (inl is))) = rw is (turns_by id (codes "count") m.count n.count (simp (same_name, as_number) (ap (λ b. b && true) (differ_is (pos m.count) (pos n.count)))) (λ up. simp same_name (stays id (codes "count") n.count)))
   one_turns id x (inr (inr (inr (inl is)))) = rw is (turns_by id (codes "next") m.next n.next (simp (same_name, as_number) (ap (λ b. b && true) (differ_is (pos m.next) (pos n.next)))) (λ up. simp same_name (stays id (codes "next") n.next)))
   one_turns id x (inr (inr (inr (inr (inl is))))) =
-      let level : passes (Int id ∷ meta_row (codes "schema") 2) ≡ (is_ne (int_cmp (pos 2) (pos 2)) && true) = simp (same_name, as_number) (ap (λ b. b && true) (differ_is (pos 2) (pos 2))) in
-      rw is (turns_by id (codes "schema") 2 2 level (λ up. absurd (let e = sym up ∙ level ∙ ap (λ o. is_ne o && true) (tied_itself int_cmp_total (pos 2)) in cc)))
+      let level : passes (Int id ∷ meta_row (codes "schema") second_schema) ≡ (is_ne (int_cmp (pos second_schema) (pos second_schema)) && true) = simp (same_name, as_number) (ap (λ b. b && true) (differ_is (pos second_schema) (pos second_schema))) in
+      rw is (turns_by id (codes "schema") second_schema second_schema level (λ up. absurd (let e = sym up ∙ level ∙ ap (λ o. is_ne o && true) (tied_itself int_cmp_total (pos second_schema)) in cc)))
   one_turns id x (inr (inr (inr (inr (inr none))))) = absurd none
 
   turns : (raw : Row) (x : Change) → Has (all_changes m n) x → is_int (rowid raw) ≡ true → row_less_rowid raw ≡ row_before x → TurnsTo raw (row_after x)

@@ -1,5 +1,5 @@
 -- The statement that makes the rows of the jobs from one number to another those of the second edition.
-use Rattle.std.proofs.Common.{refl, ◌≡◌, ◌≤◌, ℕ, pos, List, [], ◌∷◌, map, drop, codes, Bool, true, false, cond, not, ◌&&◌, Some, Ok, sym, ap, ap₂, subst, ◌∙◌, arith, Less, Greater, Equal}
+use Rattle.std.proofs.Common.{refl, ◌≡◌, ◌≤◌, ◌-◌, ◌++◌, ℕ, zero, suc, length, pos, List, [], ◌∷◌, map, drop, codes, Bool, true, false, cond, not, ◌&&◌, Some, Ok, sym, ap, ap₂, subst, ◌∙◌, arith, Less, Greater, Equal}
 use Rattle.std.specs.Prelude.{nat_lt}
 use Rattle.std.specs.Ordering.{int_cmp}
 use Rattle.std.specs.List.{AllByRecursion}
@@ -51,8 +51,13 @@ tests = op2 (Compare Gt Binary) (col 1 9) (lit (Int (pos 0))) ∷ op2 (Compare G
 abbrev new_state : Term
 new_state = op2 (Arith Add) (op2 (Arith Rem) (col 1 9) (lit (Int (pos 5)))) (lit (Int (pos 1)))
 
+-- so many columns as they are, from one place on
+abbrev same_from : ℕ → ℕ → List Term
+same_from at zero = []
+same_from at (suc n) = col 1 at ∷ same_from (suc at) n
+
 abbrev project : List Term
-project = col 1 0 ∷ col 1 0 ∷ lit Null ∷ col 1 2 ∷ col 1 3 ∷ col 1 4 ∷ col 1 5 ∷ col 1 6 ∷ col 1 7 ∷ col 1 8 ∷ new_state ∷ col 1 10 ∷ col 1 11 ∷ col 1 12 ∷ []
+project = col 1 0 ∷ col 1 0 ∷ lit Null ∷ same_from 2 7 ++ new_state ∷ same_from 10 (length jobs_table.columns - 9)
 
 raise_is : (command_of (understood farm_schema RAISE.now) ≡ Update 2 (record { lets = []; body = query_of 4 tests project })) × IsPlain (understood farm_schema RAISE.now)
 unfolding understood everything

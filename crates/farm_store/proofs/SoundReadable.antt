@@ -9,7 +9,7 @@ use Rattle.farm_types.specs.Limits.{longest_name}
 use Rattle.farm_types.specs.Words.{IsName, IsTags, is_word, is_tags}
 use Rattle.farm_types.specs.Farm.{Farm}
 use Rattle.farm_types.specs.Proper.{is_want}
-use Rattle.farm_types.specs.Sound.{IsSound, IsBoardRow, IsBoardOf}
+use Rattle.farm_types.specs.Sound.{IsSound, IsBoardRow, IsBoardOf, IsJobText, texts_of}
 use Rattle.farm_types.specs.declared.rows.Want.{Want}
 use Rattle.farm_types.proofs.Put.{AllByRecursion-weaker}
 use Rattle.farm_types.proofs.WordLemmas.{and_parts}
@@ -42,7 +42,7 @@ sound_is_readable F sound =
       types = names;
       boards = AllByRecursion-weaker (λ r is. record { name = is.words.name; kind = found_name (λ t. t.name) F.types names r.kind is.kind; tags = is.words.tags }) F.boards steady.boards;
       jobs = AllByRecursion-weaker (λ r is. let want = want_kind r.want is.words.want in
-          record { owner = is.words.owner; priority = is.words.priority; kind = want.0; tags = want.1; role = is.words.role; board = named_board F steady.boards r.board is.board; body = is.words.text }) F.jobs steady.jobs;
+          record { owner = is.words.owner; priority = is.words.priority; kind = want.0; tags = want.1; role = is.words.role; board = named_board F steady.boards r.board is.board; texts = AllByRecursion-weaker (λ text (is : IsJobText text). is.utf8) (texts_of r) is.words.texts }) F.jobs steady.jobs;
       reservations = AllByRecursion-weaker (λ r is. record { owner = is.owner; priority = is.priority; kind = is.kind; tags = (want_kind r.want is.want).1; board = named_board F steady.boards r.board is.board }) F.reservations steady.reservations;
       kept = AllByRecursion-weaker (λ r is. record { caller = is.caller; key = is.key }) F.kept steady.kept;
     }

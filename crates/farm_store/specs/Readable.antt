@@ -4,6 +4,7 @@ use Rattle.std.specs.List.{AllByRecursion}
 use Rattle.farm_types.specs.Words.{IsName, IsKey, IsTags, IsText}
 use Rattle.farm_types.specs.Limits.{is_priority}
 use Rattle.farm_types.specs.Farm.{Farm}
+use Rattle.farm_types.specs.Sound.{texts_of}
 use Rattle.farm_types.specs.declared.rows.TypeRow.{TypeRow}
 use Rattle.farm_types.specs.declared.rows.BoardRow.{BoardRow}
 use Rattle.farm_types.specs.declared.rows.JobRow.{JobRow}
@@ -26,7 +27,7 @@ pub record IsReadableJob (r : JobRow) : Type 0 where
   pub tags : IsTags r.want.tags
   pub role : IfSome r.role IsName
   pub board : IfSome r.board IsName
-  pub body : IsText r.body
+  pub texts : AllByRecursion IsText (texts_of r)
 
 -- a reservation names no type
 pub record IsReadableRes (r : ResRow) : Type 0 where

@@ -4,7 +4,7 @@ use crate::sent::FIRST_TYPE;
 use farm_http::{CountedReader, Input, Taken, WireFault, read_request, read_request_counted};
 use farm_types::{BAD_REQUEST, LONGEST_BODY, LONGEST_HEAD, Refusal};
 use std::alloc::{AllocError, Global};
-use std::io::Read;
+use std::io::{BufReader, Read};
 use std::process::Abort;
 use std::test::Fail;
 
@@ -83,6 +83,32 @@ fn fails_at_each_byte(rt: HostRuntime) {
         let (fault, _, failed) = fault_of(&rt, rt.alloc(), &mut Slow::failing(FIRST_TYPE, n, 1));
         assert_eq!(rt; (fault, failed), (Some(WireFault::Read), true), "at {n}");
     }
+}
+
+/// A buffered reader gives what it holds of a line at once, whatever it holds: the same bytes are
+/// taken, and where it fails behind some, it is blamed.
+#[test]
+fn lines_at_once(rt: HostRuntime) -> Result<(), Fail> {
+    for capacity in [1, 7, 64, 8_192] {
+        let source = Tally::new(WITH_MORE);
+        let mut input = BufReader::with_capacity(rt.alloc(), capacity, source)?;
+        assert!(rt; read(rt.alloc(), &mut input)?.bytes.as_slice() == FIRST_TYPE);
+        let mut rest = Vec::new(rt.alloc());
+        input.read_to_end(&mut rest)?;
+        assert!(rt; rest.as_slice() == b"GET / ".as_slice());
+    }
+    for left in 0..FIRST_TYPE.len() {
+        let source = (&FIRST_TYPE[..left]).chain(Slow::failing(&[], 0, u32::MAX));
+        let mut input = BufReader::new(rt.alloc(), source)?;
+        let mut reader = CountedReader::new(&mut input);
+        let fault = read_request_counted(rt.alloc(), &mut reader).err();
+        assert_eq!(rt;
+            (fault, reader.has_failed()),
+            (Some(WireFault::Read), true),
+            "at {left}"
+        );
+    }
+    Ok(())
 }
 
 #[test]

@@ -2,8 +2,8 @@
 ghost use Rattle.std.specs.Prelude.{◌≡◌, IfOk};
 
 use farm_types::{
-    BoardRow, Body, Check, Health, JobRow, JobState, MetaRow, Name, Priority, Rows, Tags, TypeRow,
-    Want, WordFault,
+    BoardRow, Check, Health, JobRow, JobState, MetaRow, Name, Priority, Rows, Tags, TypeRow, Want,
+    WordFault,
 };
 use std::alloc::Global;
 
@@ -52,19 +52,9 @@ pub(crate) fn job(
 {
     let owner = name(alloc, "ann")?;
     let want = want(alloc, "")?;
-    Ok(JobRow {
-        number,
-        group,
-        checking: false,
-        owner,
-        priority,
-        want,
-        role: None,
-        state,
-        outcome: None,
-        board: None,
-        body: Body::none(alloc),
-    })
+    let mut row = JobRow::new(alloc, number, group, owner, priority, want);
+    row.state = state;
+    Ok(row)
 }
 
 /// A farm without rows.

@@ -149,18 +149,25 @@ pub record Submission : Type 0 where
   pub priority : ℕ
   pub want : Want
   pub role : Option (List ℕ)
-  pub body : List ℕ
+  pub texts : List (List ℕ)
+
+-- the texts that a job carries
+abbrev pub texts_of : JobRow → List (List ℕ)
+texts_of r = r.body ∷ []
 
 abbrev pub submission_of : JobRow → Submission
-submission_of r = record { owner = r.owner; priority = r.priority; want = r.want; role = r.role; body = r.body }
+submission_of r = record { owner = r.owner; priority = r.priority; want = r.want; role = r.role; texts = texts_of r }
+
+pub record IsJobText (text : List ℕ) : Type 0 where
+  pub few : length text ≤ longest_text
+  pub utf8 : IsText text
 
 pub record IsSubmission (s : Submission) : Type 0 where
   pub owner : IsName s.owner
   pub priority : IsTrue (is_priority s.priority)
   pub want : IsTrue (is_want s.want)
   pub role : IfSome s.role IsName
-  pub body : length s.body ≤ longest_text
-  pub text : IsText s.body
+  pub texts : AllByRecursion IsJobText s.texts
 
 -- a check is a group of one, of the admin, with the highest priority, that never waits for boards, without tags, role and text
 pub record IsCheck (r : JobRow) : Type 0 where

@@ -1,6 +1,6 @@
 //! Laws over the machine.
 ghost use Rattle.std.specs.Prelude.{◌≡◌, ℕ, List, [], Some, Ok};
-ghost use Rattle.farm_types.specs.Agreed.{LimitsAgree, RefusalsAgree};
+ghost use Rattle.farm_types.specs.Agreed.{RefusalsAgree};
 ghost use Rattle.farm_types.specs.Words.{IsTags};
 ghost use Rattle.farm_types.specs.Tags.{tags_read, tags_text};
 ghost use Rattle.farm_types.specs.Codes.{health_code, health_with, state_code, state_with};
@@ -17,11 +17,6 @@ ghost use Rattle.farm_types.specs.Machine.{run};
 /// A run of no calls stays.
 pub fn nothing_runs()
     ensures { (F : Farm) → run F [] ≡ F }
-{}
-
-/// The limits that the code tests are those of the definitions.
-pub fn limits_agree()
-    ensures { LimitsAgree }
 {}
 
 /// The numbers of refusals that the code gives are those of the definitions.

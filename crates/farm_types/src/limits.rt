@@ -1,6 +1,15 @@
 //! The limits: each number that words, commands, rows, farms, requests and files are held to, once,
 //! as the code tests it. `specs/Limits` has the same numbers for the definitions; the law
 //! `limits_agree` says that they are equal, so a limit is changed in both or in neither.
+ghost use Rattle.std.specs.Prelude.{◌≡◌, [], ◌∷◌};
+ghost use Rattle.farm_types.specs.Limits.{longest_name, longest_key, longest_tag_key};
+ghost use Rattle.farm_types.specs.Limits.{longest_tag_value, most_tags, longest_text};
+ghost use Rattle.farm_types.specs.Limits.{highest_priority, longest_every, most_wants, last_kind};
+ghost use Rattle.farm_types.specs.Limits.{most_types, most_boards, most_boards_of_type, most_jobs};
+ghost use Rattle.farm_types.specs.Limits.{most_reservations, most_replies, last_moment};
+ghost use Rattle.farm_types.specs.Limits.{most_commands, numbers_end, most_jobs_since, lease};
+ghost use Rattle.farm_types.specs.Limits.{longest_head, most_fields, longest_body, most_reads};
+ghost use Rattle.farm_types.specs.Limits.{longest_job_file, longest_lab_file};
 
 /// The most bytes of a name.
 pub const LONGEST_NAME: usize = 48;
@@ -60,3 +69,17 @@ pub const MOST_READS: u32 = 80_000;
 pub const LONGEST_JOB_FILE: usize = 65_536;
 /// The longest lab file, in bytes.
 pub const LONGEST_LAB_FILE: usize = 1_048_576;
+
+/// The limits that the code tests are those of the definitions.
+pub fn limits_agree()
+    ensures { LONGEST_NAME ∷ LONGEST_KEY ∷ LONGEST_TAG_KEY ∷ LONGEST_TAG_VALUE ∷ MOST_TAGS
+        ∷ LONGEST_TEXT ∷ HIGHEST_PRIORITY ∷ LONGEST_EVERY ∷ MOST_WANTS ∷ LAST_KIND ∷ MOST_TYPES
+        ∷ MOST_BOARDS ∷ MOST_BOARDS_OF_TYPE ∷ MOST_JOBS ∷ MOST_RESERVATIONS ∷ MOST_REPLIES
+        ∷ LAST_MOMENT ∷ MOST_COMMANDS ∷ NUMBERS_END ∷ MOST_JOBS_SINCE ∷ LEASE ∷ LONGEST_HEAD
+        ∷ MOST_FIELDS ∷ LONGEST_BODY ∷ MOST_READS ∷ LONGEST_JOB_FILE ∷ LONGEST_LAB_FILE ∷ []
+        ≡ longest_name ∷ longest_key ∷ longest_tag_key ∷ longest_tag_value ∷ most_tags
+        ∷ longest_text ∷ highest_priority ∷ longest_every ∷ most_wants ∷ last_kind ∷ most_types
+        ∷ most_boards ∷ most_boards_of_type ∷ most_jobs ∷ most_reservations ∷ most_replies
+        ∷ last_moment ∷ most_commands ∷ numbers_end ∷ most_jobs_since ∷ lease ∷ longest_head
+        ∷ most_fields ∷ longest_body ∷ most_reads ∷ longest_job_file ∷ longest_lab_file ∷ [] }
+{}

@@ -1,9 +1,13 @@
 //! The rows of the six tables.
-ghost use Rattle.std.specs.Prelude.{◌≡◌, IfOk};
+ghost use Rattle.std.specs.Prelude.{◌≡◌, ◌↔◌, [], None, IfOk, IsTrue};
+ghost use Rattle.std.specs.List.{AllByRecursion};
 ghost use Rattle.farm_types.specs.Change.{new_board};
+ghost use Rattle.farm_types.specs.Pass.{new_job};
+ghost use Rattle.farm_types.specs.Sound.{IsJobText, IsWithin, counts_of, texts_of};
 
+use crate::limits::{LONGEST_TEXT, MOST_JOBS_SINCE};
 use crate::words::{Body, Key, Name, Priority, Tags};
-use std::alloc::AllocError;
+use std::alloc::{AllocError, Global};
 
 /// How often a type's boards are checked.
 #[derive(Clone, Copy, Debug, PartialEq, Eq)]
@@ -242,6 +246,13 @@ impl BoardRow {
         }
     }
 
+    /// Whether its numbers are within their limits.
+    pub fn is_within_limits(&self) -> bool
+        ensures { IsTrue result ↔ AllByRecursion IsWithin (counts_of self.now) }
+    {
+        self.jobs_since <= MOST_JOBS_SINCE
+    }
+
     /// An equal row.
     pub fn copy(&self) -> Result<BoardRow, AllocError>
         ensures { IfOk result (λ copy. copy ≡ self.now) }
@@ -256,6 +267,40 @@ impl BoardRow {
 }
 
 impl JobRow {
+    /// A new job, which waits for its board: no check, without role and text.
+    pub fn new(
+        alloc: Global,
+        number: u64,
+        group: u64,
+        owner: Name,
+        priority: Priority,
+        want: Want,
+    ) -> JobRow
+        ensures { result ≡ new_job number group owner priority want None [] }
+    {
+        JobRow {
+            number,
+            group,
+            checking: false,
+            owner,
+            priority,
+            want,
+            role: None,
+            state: JobState::Submitted,
+            outcome: None,
+            board: None,
+            body: Body::none(alloc),
+        }
+    }
+
+    /// Whether the texts that it carries are within their limit.
+    pub fn is_within_limits(&self) -> bool
+        ensures { IsTrue result ↔ AllByRecursion IsJobText (texts_of self.now) }
+    {
+        let _body = self.body.as_str();
+        self.body.len() <= LONGEST_TEXT
+    }
+
     /// An equal row.
     pub fn copy(&self) -> Result<JobRow, AllocError>
         ensures { IfOk result (λ copy. copy ≡ self.now) }

@@ -3,6 +3,7 @@ use Rattle.std.specs.Prelude.{◌≡◌, List, [], ◌∷◌, Some, None, codes,
 use Rattle.std.specs.Char.{encode_utf8}
 use Rattle.std.specs.Str.{is_utf8, chars}
 use Rattle.farm_types.specs.Change.{new_board as board_row}
+use Rattle.farm_types.specs.Pass.{new_job}
 use Rattle.farm_types.specs.Words.{is_word, is_tag, is_tags}
 use Rattle.farm_types.specs.Proper.{is_proper_cmd}
 use Rattle.farm_types.specs.Farm.{Farm, empty_farm}
@@ -32,7 +33,7 @@ group_asks =
 
 -- both members; only the first carries the text
 abbrev pub client : JobRow
-client = record {
+client = record (new_job 0 0 [] 0 (a_board []) None []) {
   number = 1;
   group = 1;
   checking = false;

@@ -1,6 +1,7 @@
 -- Worked scripts of rows that are added out of order, and of a group of four.
 use Rattle.std.specs.Prelude.{◌≡◌, ℕ, List, [], ◌∷◌, Some, None, codes, map, refl}
 use Rattle.std.specs.Str.{is_utf8, chars}
+use Rattle.farm_types.specs.Change.{new_board as board_row}
 use Rattle.farm_types.specs.Words.{is_word, is_tag, is_tags}
 use Rattle.farm_types.specs.Proper.{is_proper_cmd}
 use Rattle.farm_types.specs.Farm.{Farm, empty_farm}
@@ -34,9 +35,9 @@ after_types_and_boards = record {
       ∷ record { name = codes "ccc"; check = Check.Jobs 10000 }
       ∷ [];
   boards =
-      record { name = codes "B3"; kind = codes "ccc"; tags = codes "usb" ∷ []; health = Health.Maintenance; state = State.Idle; holder = Holder.Nobody; jobs_since = 0; last_check = 0 }
-      ∷ record { name = codes "b10"; kind = codes "aaa"; tags = []; health = Health.Maintenance; state = State.Idle; holder = Holder.Nobody; jobs_since = 0; last_check = 0 }
-      ∷ record { name = codes "b2"; kind = codes "bbb"; tags = codes "hdmi" ∷ codes "soc=rk3399" ∷ []; health = Health.Maintenance; state = State.Idle; holder = Holder.Nobody; jobs_since = 0; last_check = 0 }
+      record (board_row [] [] []) { name = codes "B3"; kind = codes "ccc"; tags = codes "usb" ∷ []; health = Health.Maintenance; state = State.Idle; holder = Holder.Nobody; jobs_since = 0; last_check = 0 }
+      ∷ board_row (codes "b10") (codes "aaa") []
+      ∷ board_row (codes "b2") (codes "bbb") (codes "hdmi" ∷ codes "soc=rk3399" ∷ [])
       ∷ [];
   jobs = [];
   reservations = [];

@@ -11,8 +11,7 @@ ghost use Rattle.farm_core.specs.Plain.{plain_farm};
 
 use crate::tables::Tables;
 use farm_types::{
-    BoardRow, Body, Check, HIGHEST_PRIORITY, Health, Holder, JobRow, JobState, Name, Priority,
-    Tags, Want,
+    BoardRow, Check, HIGHEST_PRIORITY, Health, Holder, JobRow, JobState, Name, Priority, Tags, Want,
 };
 use std::alloc::{AllocError, Global};
 
@@ -64,22 +63,16 @@ fn highest_priority() -> Priority
 fn check_job(alloc: Global, number: u64, board: &BoardRow) -> Result<JobRow, AllocError>
     ensures { IfOk result (λ row. row ≡ check_job number board.now) }
 {
-    Ok(JobRow {
-        number,
-        group: number,
-        checking: true,
-        owner: admin_name(alloc)?,
-        priority: highest_priority(),
-        want: Want {
-            kind: Some(board.kind.copy()?),
-            tags: Tags::none(alloc),
-        },
-        role: None,
-        state: JobState::Scheduled,
-        outcome: None,
-        board: Some(board.name.copy()?),
-        body: Body::none(alloc),
-    })
+    let want = Want {
+        kind: Some(board.kind.copy()?),
+        tags: Tags::none(alloc),
+    };
+    let admin = admin_name(alloc)?;
+    let mut row = JobRow::new(alloc, number, number, admin, highest_priority(), want);
+    row.checking = true;
+    row.state = JobState::Scheduled;
+    row.board = Some(board.name.copy()?);
+    Ok(row)
 }
 
 impl Tables {

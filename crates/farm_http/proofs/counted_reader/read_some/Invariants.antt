@@ -5,8 +5,8 @@ use Rattle.farm_types.specs.Limits.{most_reads}
 use Rattle.farm_http.specs.Counts.{reader_of, reading_of, IsSameReader}
 use Rattle.farm_http.proofs.counted_reader.read_some.Given as goal
 
-abbrev pub invariant-loop-reader : goal.invariant-loop-reader
-invariant-loop-reader g l = record {
+abbrev pub invariant-loop-reach : goal.invariant-loop-reach
+invariant-loop-reach g l = record {
   turns : (reading_of l.reader).calls ≤ most_reads;
   alive : (reading_of l.reader).failed ≡ false;
   same : IsSameReader l.fn.reader l.reader;
@@ -14,5 +14,5 @@ invariant-loop-reader g l = record {
   sure : g.R.Input.never_fails → (reading_of l.reader).calls ≡ (reading_of l.fn.reader).calls;
 }
 
-abbrev pub decreases-loop-reader : goal.decreases-loop-reader
-decreases-loop-reader g l = most_reads - (reading_of l.reader).calls
+abbrev pub decreases-loop-reach : goal.decreases-loop-reach
+decreases-loop-reach g l = most_reads - (reading_of l.reader).calls

@@ -10,7 +10,7 @@ use Rattle.farm_http.proofs.request.read_head.Given as goal
 abbrev pub invariant-loop-reader : goal.invariant-loop-reader
 invariant-loop-reader g l = record {
   short : length l.bytes.items ≤ longest_head;
-  capacity : vec_capacity l.bytes ≡ vec_capacity l.fn.bytes;
+  capacity : vec_capacity l.fn.bytes ≤ vec_capacity l.bytes;
   same : IsSameReader l.fn.reader l.reader;
   turns : (reading_of l.reader).calls ≤ most_reads;
   alive : (reading_of l.reader).failed ≡ false;
