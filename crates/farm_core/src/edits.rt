@@ -121,12 +121,8 @@ impl JobFilter {
         match *self {
             JobFilter::Members(group) => row.group == group,
             JobFilter::Unstarted(group) => row.group == group && is_unstarted(row),
-            JobFilter::Running(group) => {
-                row.group == group && matches!(row.state, JobState::Running)
-            }
-            JobFilter::Scheduling(group) => {
-                row.group == group && matches!(row.state, JobState::Scheduling)
-            }
+            JobFilter::Running(group) => row.group == group && row.state == JobState::Running,
+            JobFilter::Scheduling(group) => row.group == group && row.state == JobState::Scheduling,
             JobFilter::Numbered(number) => row.number == number,
         }
     }
@@ -303,10 +299,8 @@ impl Tables {
             (seen self.old)) self.new) }
     {
         // The boards first: the jobs as they were say which change.
-        self.boards.change_where(&Held {
-            holders: Holders::Jobs(&self.jobs, edit.jobs),
-            effect,
-        })?;
+        let holders = Holders::Jobs(&self.jobs, edit.jobs);
+        self.boards.change_where(&Held { holders, effect })?;
         edit_jobs(&mut self.jobs, edit)
     }
 
@@ -324,11 +318,8 @@ impl Tables {
             (plain_farm self.old)) (seen self.old)) self.new) }
     {
         // The board first, as above.
-        let row = ResFilter::Numbered(edit.number);
-        self.boards.change_where(&Held {
-            holders: Holders::Res(&self.reservations, row),
-            effect,
-        })?;
+        let holders = Holders::Res(&self.reservations, ResFilter::Numbered(edit.number));
+        self.boards.change_where(&Held { holders, effect })?;
         self.reservations.edit(edit)
     }
 }

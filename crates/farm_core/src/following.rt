@@ -25,11 +25,10 @@ fn note_board(queues: &mut Queues, types: &[TypeRow], row: &BoardRow) -> Result<
     }) }
 {
     if farm_pick::is_free(types, row) {
-        queues.put_board(row.name.copy()?, &row.kind)
-    } else {
-        queues.take_board(&row.name);
-        Ok(())
+        return queues.put_board(row.name.copy()?, &row.kind);
     }
+    queues.take_board(&row.name);
+    Ok(())
 }
 
 /// The free boards follow some rows, one after the other. With B free boards each costs a binary

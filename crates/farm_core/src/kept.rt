@@ -115,11 +115,8 @@ fn insert(
     ensures stays { OnErr result (rows.new.entries ≡ rows.old.entries) }
 {
     let text = String::from_str(alloc, joined(&row.caller, &row.key).as_str())?;
-    let reply = KeptReply {
-        kind: row.kind,
-        reply: row.reply,
-    };
-    let _former = rows.insert(text, reply)?;
+    let (kind, reply) = (row.kind, row.reply);
+    let _former = rows.insert(text, KeptReply { kind, reply })?;
     Ok(())
 }
 

@@ -152,10 +152,8 @@ impl ResTable {
     {
         let mut leases = BTreeSet::new(alloc);
         note_leases(&mut leases, &rows)?;
-        Ok(ResTable {
-            table: Table::of(rows),
-            leases,
-        })
+        let table = Table::of(rows);
+        Ok(ResTable { table, leases })
     }
 
     /// The rows in order of number.

@@ -65,6 +65,10 @@ IsLocal (SocketAddr.V6 it) port = ⊥
 abbrev pub outstanding : Pending → ℕ
 outstanding it = it.to_accept + it.refused + deque_len it.incomplete + deque_len it.ready
 
+-- as many are outstanding as before
+abbrev pub LosesNobody : Pending → Pending → Type 0
+LosesNobody old new = outstanding old < 2 ^ 64 → outstanding new ≡ outstanding old
+
 -- none of so many was accepted or refused, or is kept waiting
 pub record IsUntouched (max : ℕ) (it : Pending) : Type 0 where
   pub to_accept : it.to_accept ≡ max

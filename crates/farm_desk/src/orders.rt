@@ -246,9 +246,7 @@ fn answer_one<R: Input, W: Output, S: Alter>(
 fn memory_keeper(alloc: Global) -> Result<Keeper<MemStore>, DeskFault>
     ensures { OpensMemory result }
 {
-    let Ok(conn) = Connection::open_in_memory(alloc) else {
-        return Err(DeskFault::NoMemory);
-    };
+    let conn = Connection::open_in_memory(alloc).map_err(|_| DeskFault::NoMemory)?;
     Ok(Keeper::fresh(alloc, conn)?)
 }
 
@@ -278,10 +276,8 @@ fn print_line<W: Output>(output: &mut W, line: &[u8]) -> Ended
     ensures { PrintsLine (W.has_room output.old) (W.contents output.old) (W.contents output.new)
         line.now result }
 {
-    match write_whole(output, line) {
-        Ok(()) => Ok(End::Done),
-        Err(_) => Err(DeskFault::Write),
-    }
+    write_whole(output, line).map_err(|_| DeskFault::Write)?;
+    Ok(End::Done)
 }
 
 /// Prints, where standard error is a terminal, what is done with a large file, since that takes a
@@ -414,11 +410,8 @@ fn print_report<W: Output, S: Alter>(
     ensures { PrintsReportOf (W.has_room output.old) keeper.now (W.contents output.old)
         (W.contents output.new) zone.0 zone.1 which result }
 {
-    let Some(farm) = keeper.farm() else {
-        return Err(DeskFault::Keep(KeepFault::Closed));
-    };
-    let Ok(text) = report_text(alloc, farm, which, zone_between(zone.0, zone.1)) else {
-        return Err(DeskFault::NoMemory);
-    };
+    let farm = keeper.farm().ok_or(DeskFault::Keep(KeepFault::Closed))?;
+    let zone = zone_between(zone.0, zone.1);
+    let text = report_text(alloc, farm, which, zone).map_err(|_| DeskFault::NoMemory)?;
     print_line(output, text.as_bytes())
 }

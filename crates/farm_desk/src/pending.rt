@@ -1,16 +1,17 @@
 //! Connections that wait until their requests are there.
-ghost use Rattle.std.specs.Prelude.{◌≡◌, ◌⊎◌, ◌↔◌, ◌+◌, false, take, is_some};
+ghost use Rattle.std.specs.Prelude.{◌≡◌, ◌⊎◌, ◌↔◌, ◌+◌, ◌-◌, ◌^◌, ◌<◌, false, take, is_some};
 ghost use Rattle.std.specs.Prelude.{if◌then◌else◌, IfSome, IsErrAnd, IsOkAnd, IsTrue};
 ghost use Rattle.std.specs.Duration.{as_nanos};
 ghost use Rattle.std.specs.IoError.{error_kind};
 ghost use Rattle.std.specs.Option.{option_map};
-ghost use Rattle.std.specs.VecDeque.{deque_items};
+ghost use Rattle.std.specs.VecDeque.{deque_items, deque_len};
 ghost use Rattle.std.specs.declared.io.ErrorKind.TheVariants.{WouldBlock};
 ghost use Rattle.farm_desk.specs.Pending.{IsDecided};
 
 use crate::deadline_stream::{ClientStream, is_shorter, limit};
 use farm_http::read_from_memory;
 use farm_types::{LONGEST_BODY, LONGEST_HEAD};
+use mio::event::Event;
 use mio::unix::SourceFd;
 use mio::{Events, Interest, Poll, Token};
 use std::alloc::Global;
@@ -75,7 +76,8 @@ pub(crate) struct Pending {
 
 impl Pending {
     ghost use Rattle.farm_desk.specs.Waiting.{limit_left, outstanding, pause_left, shorter, time_of};
-    ghost use Rattle.farm_desk.specs.Waiting.{IsDue, IsOverdue, IsPaused, IsUntouched, TakesNext};
+    ghost use Rattle.farm_desk.specs.Waiting.{IsDue, IsOverdue, IsPaused, IsUntouched, LosesNobody};
+    ghost use Rattle.farm_desk.specs.Waiting.{TakesNext};
 
     /// The first `max` connections of a listener, none of which was accepted yet; none where the
     /// system or the memory refuses what that takes, and then the listener is as it was.
@@ -118,7 +120,10 @@ impl Pending {
         &mut self,
         listener: &TcpListener,
         clock: &C,
-    ) -> Option<ClientStream> {
+    ) -> Option<ClientStream>
+        ensures { outstanding self.old < 2 ^ 64
+            → outstanding self.new ≡ outstanding self.old - 1 }
+    {
         let mut now = clock.monotonic().ok();
         for _ in 0..u64::MAX {
             self.accept_all(listener, now);
@@ -172,7 +177,8 @@ impl Pending {
     /// Accepts those that came, as far as there is room.
     fn accept_all(&mut self, listener: &TcpListener, now: Option<Duration>)
         // Nobody is accepted for a while once the system has refused to.
-        ensures { IsPaused now self.old.paused_until → self.new ≡ self.old }
+        ensures paused { IsPaused now self.old.paused_until → self.new ≡ self.old }
+        ensures all { LosesNobody self.old self.new }
     {
         let times = self.paused_until.zip(now);
         if times.is_some_and(|(until, now)| is_shorter(now, until)) {
@@ -238,27 +244,17 @@ impl Pending {
 
     /// Waits so long at most until bytes or connections came, and moves those whose requests are
     /// complete to the ready ones.
-    fn poll_events(&mut self, until: Option<Duration>) {
+    fn poll_events(&mut self, until: Option<Duration>)
+        ensures { LosesNobody self.old self.new }
+    {
         if self.poll.poll(&mut self.events, until).is_err() {
             return;
         }
         for event in self.events.iter() {
-            if event.token() == LISTENER {
-                self.has_arrivals = true;
-            }
-            let number = event.token().0;
-            let place = self.incomplete.partition_point(|it| it.number < number);
-            if let Some(waiting) = self.incomplete.get(place)
-                && waiting.number == number
-                && (event.is_read_closed()
-                    || event.is_error()
-                    || is_complete(self.alloc, &waiting.stream, self.bytes.as_mut_slice()))
-                && let Some(waiting) = self.incomplete.remove(place)
-            {
-                let place = self.ready.partition_point(|it| it.number < number);
-                // There is room for it.
-                let _ = self.ready.insert(place, waiting);
-            }
+            self.has_arrivals |= event.token() == LISTENER;
+            let (bytes, incomplete) = (self.bytes.as_mut_slice(), &mut self.incomplete);
+            let lost = move_complete(self.alloc, event, bytes, incomplete, &mut self.ready);
+            self.refused = self.refused.saturating_add(lost);
         }
     }
 
@@ -283,6 +279,32 @@ impl Pending {
             _ => Some(left),
         }
     }
+}
+
+/// Moves the connection that an event names to the ready ones, in the order of arrival, where its
+/// request is complete. Returns how many were lost for want of memory: none or that one.
+fn move_complete(
+    alloc: Global,
+    event: &Event,
+    bytes: &mut [u8],
+    incomplete: &mut VecDeque<Waiting>,
+    ready: &mut VecDeque<Waiting>,
+) -> u64
+    ensures { deque_len incomplete.new + deque_len ready.new + result
+        ≡ deque_len incomplete.old + deque_len ready.old }
+{
+    let number = event.token().0;
+    let place = incomplete.partition_point(|it| it.number < number);
+    let is_over = event.is_read_closed() || event.is_error();
+    if let Some(waiting) = incomplete.get(place)
+        && waiting.number == number
+        && (is_over || is_complete(alloc, &waiting.stream, bytes))
+        && let Some(waiting) = incomplete.remove(place)
+    {
+        let place = ready.partition_point(|it| it.number < number);
+        return u64::from(ready.insert(place, waiting).is_err());
+    }
+    0
 }
 
 /// Whether no further byte is wanted of a connection: a whole request came, or what is none, or as

@@ -40,24 +40,14 @@ pub trait Input: Read {
     }
 }
 
-/// Where the first line feed is, or else the end.
-fn line_feed_at(bytes: &[u8]) -> usize
-    ensures within { result ≤ length bytes.now }
-    ensures before { All (λ byte. byte ≢ line_feed) (take result bytes.now) }
-{
-    bytes
-        .iter()
-        .position(|byte| *byte == b'\n')
-        .unwrap_or(bytes.len())
-}
-
 /// How many bytes are of the first line: all up to the first line feed and with it.
 fn line_len(bytes: &[u8]) -> usize
     ensures within { result ≤ length bytes.now }
     ensures line { All (λ byte. byte ≢ line_feed) (take (result - 1) bytes.now) }
     ensures some { 0 < length bytes.now → 0 < result }
 {
-    bytes.len().min(line_feed_at(bytes) + 1)
+    let feed = bytes.iter().position(|byte| *byte == b'\n');
+    feed.map_or(bytes.len(), |at| at + 1)
 }
 
 /// Bytes in memory never fail.

@@ -48,10 +48,9 @@ fn priority_at(value: &Value) -> Result<Priority, Fault>
 fn count_of(value: &Value) -> Result<u64, Fault>
     ensures { result ≡ count_in (view value.now) }
 {
-    match natural_at(FileKind::JobFile, value, "count")? {
-        Some(count) if count >= 1 && count <= MOST_WANTS as u64 => Ok(count),
-        _ => Err(Fault::Word(Refusal { code: BAD_COUNT })),
-    }
+    let count = natural_at(FileKind::JobFile, value, "count")?;
+    let count = count.filter(|count| *count >= 1 && *count <= MOST_WANTS as u64);
+    count.ok_or(Fault::Word(Refusal { code: BAD_COUNT }))
 }
 
 /// So many equal members.

@@ -53,10 +53,8 @@ fn every_of(value: &Value) -> Result<u64, Fault>
     ensures every { result ≡ every_in (view value.now) }
     ensures range { IfOk result (λ every. IsTrue (is_every every)) }
 {
-    match natural_at(FileKind::LabFile, value, "every")? {
-        Some(every) if is_every(every) => Ok(every),
-        _ => Err(NO_CHECK),
-    }
+    let every = natural_at(FileKind::LabFile, value, "every")?;
+    every.filter(|every| is_every(*every)).ok_or(NO_CHECK)
 }
 
 /// The check that the keys `check` and `every` spell.

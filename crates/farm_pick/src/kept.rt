@@ -86,13 +86,8 @@ fn forget(several: &mut BTreeSet<Rank>, spot: Spot)
 fn copied(claim: &Claim) -> Result<Claim, AllocError>
     ensures { IfOk result (λ copy. copy ≡ claim.now) }
 {
-    Ok(Claim {
-        kind: claim.kind,
-        number: claim.number,
-        owner: claim.owner.copy()?,
-        priority: claim.priority,
-        boards: claim.boards,
-    })
+    let owner = claim.owner.copy()?;
+    Ok(Claim { owner, ..*claim })
 }
 
 /// Copies of the claims in the order `before`. Each queue is in that order already, so the sort has
@@ -106,11 +101,7 @@ pub fn in_order(alloc: Global, claims: &BTreeMap<Spot, Claim>) -> Result<Vec<Cla
     for claim in claims.values() {
         sorted.push(copied(claim)?)?;
     }
-    sorted.sort_by(
-        |first, second| -> Ordering
-            ensures { result ≡ shown_cmp first.now second.now }
-        { queue_order(first, second) },
-    )?;
+    sorted.sort_by(queue_order)?;
     Ok(sorted)
 }
 
@@ -160,11 +151,8 @@ impl Kept {
         ensures kinds { self.new.kinds ≡ self.old.kinds }
         ensures idle { self.new.idle ≡ self.old.idle }
     {
-        let place = Place {
-            queue: spot.queue,
-            priority: spot.priority,
-        };
-        let _none = self.places.insert(spot.number, place)?;
+        let (queue, priority) = (spot.queue, spot.priority);
+        let _none = self.places.insert(spot.number, Place { queue, priority })?;
         if let Err(_refused) = self.claims.insert(spot, claim) {
             let _place = self.places.remove(&spot.number);
             return Err(AllocError);

@@ -30,10 +30,8 @@ impl Picked {
     pub fn new() -> Picked
         ensures { result ≡ [] }
     {
-        Picked {
-            len: 0,
-            at: [0; MOST_WANTS],
-        }
+        let at = [0; MOST_WANTS];
+        Picked { len: 0, at }
     }
 
     /// How many places there are.
@@ -58,9 +56,7 @@ impl Picked {
     {
         let mut at = self.at;
         at[self.len] = place;
-        Picked {
-            len: self.len + 1,
-            at,
-        }
+        let len = self.len + 1;
+        Picked { len, at }
     }
 }

@@ -73,9 +73,7 @@ fn leads(job: &JobRow, near: &[JobRow]) -> bool
 fn all_wait(group: u64, near: &[JobRow]) -> bool
     ensures { result ≡ list_all waits (filter (λ m. m.group == group) near.now) }
 {
-    near.iter()
-        .filter(|job| job.group == group)
-        .all(|job| waits(job))
+    near.iter().filter(|job| job.group == group).all(waits)
 }
 
 fn count_mates(group: u64, near: &[JobRow]) -> u64
@@ -135,11 +133,7 @@ pub fn queue_of(
     let mut claims = Vec::new(alloc);
     add_reservations(&mut claims, reservations)?;
     add_groups(&mut claims, jobs)?;
-    claims.sort_unstable_by(
-        |first, second| -> Ordering
-            ensures { result ≡ shown_cmp first.now second.now }
-        { queue_order(first, second) },
-    );
+    claims.sort_unstable_by(queue_order);
     Ok(claims)
 }
 

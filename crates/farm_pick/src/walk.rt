@@ -190,12 +190,9 @@ impl<'a> Iterator for Heads<'a> {
 
     fn next(&mut self) -> Option<&'a Claim> {
         while self.queue <= self.kept.kinds.len() {
-            let spot = Spot {
-                queue: self.queue,
-                ..self.last
-            };
+            let queue = self.queue;
             self.queue += 1;
-            if let Some(claim) = seen_head(self.kept, spot, self.all) {
+            if let Some(claim) = seen_head(self.kept, Spot { queue, ..self.last }, self.all) {
                 return Some(claim);
             }
         }

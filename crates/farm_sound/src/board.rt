@@ -1,26 +1,18 @@
-//! The test of type rows and board rows: each by itself, and against the rows that it names.
+//! The test of board rows: each by itself, and against the rows that it names.
 ghost use Rattle.std.specs.Prelude.{◌≡◌, ◌↔◌, IsTrue, length};
 ghost use Rattle.std.specs.List.{filter};
 ghost use Rattle.std.specs.List.Sorted.{IsStrictlySortedBy};
 ghost use Rattle.std.specs.Str.{bytes_eq};
 ghost use Rattle.farm_types.specs.Table.{type_cmp};
 ghost use Rattle.farm_types.specs.Farm.{farm_of, type_of};
-ghost use Rattle.farm_types.specs.Sound.{IsTypeRow, IsBoardRow};
+ghost use Rattle.farm_types.specs.Sound.{IsBoardRow};
 ghost use Rattle.farm_sound.specs.ByRows.{IsOrdered, IsOfFew, IsNamedBy};
 
 use crate::job::job_gives;
 use crate::reservation::res_gives;
 use crate::seek::{job_of, res_of, type_of};
 use crate::want::is_named;
-use farm_types::{BoardRow, Health, Holder, MOST_BOARDS_OF_TYPE, Name, Rows, State, TypeRow};
-
-/// The lines on a type.
-pub fn is_type_row(row: &TypeRow) -> bool
-    ensures { IsTrue result ↔ IsTypeRow row.now }
-{
-    let _name = row.name.as_str();
-    row.check.is_frequency()
-}
+use farm_types::{BoardRow, Health, Holder, MOST_BOARDS_OF_TYPE, Name, Rows, State};
 
 /// The lines on a board.
 pub fn is_board_row(rows: &Rows, row: &BoardRow) -> bool

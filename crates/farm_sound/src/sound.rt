@@ -2,10 +2,10 @@
 ghost use Rattle.std.specs.Prelude.{◌≡◌, ◌↔◌, IsTrue};
 ghost use Rattle.std.specs.List.{AllByRecursion};
 ghost use Rattle.farm_types.specs.Farm.{farm_of};
-ghost use Rattle.farm_types.specs.Sound.{IsSound, IsKeptRow};
+ghost use Rattle.farm_types.specs.Sound.{IsSound};
 ghost use Rattle.farm_sound.specs.ByRows.{IsOrdered, IsFew, IsSoundByRows};
 
-use crate::board::{is_board_row, is_held, is_of_few, is_type_row};
+use crate::board::{is_board_row, is_held, is_of_few};
 use crate::job::{is_collecting, is_in_step, is_job_row, is_shown_of_job};
 use crate::reservation::{is_res_row, is_shown_of_res};
 use farm_types::{
@@ -37,18 +37,6 @@ fn is_few(rows: &Rows) -> bool
         && rows.meta.next <= NUMBERS_END
 }
 
-/// The lines on a kept reply.
-fn is_kept_row(row: &KeptRow) -> bool
-    ensures { IsTrue result ↔ IsKeptRow row.now }
-{
-    let (_caller, _key) = (row.caller.as_str(), row.key.as_str());
-    1 <= row.kind
-        && row.kind <= LAST_KIND
-        && row.reply.0 <= NUMBERS_END
-        && row.reply.1 <= NUMBERS_END
-        && row.reply.2 <= NUMBERS_END
-}
-
 /// A row of a table.
 trait SoundRow {
     ghost use Rattle.farm_types.specs.Farm.{Farm, farm_of};
@@ -70,7 +58,8 @@ impl SoundRow for TypeRow {
     ghost IsIn = { λ _ row. IsTypeRow row };
 
     fn is_sound_among(&self, _rows: &Rows) -> bool {
-        is_type_row(self)
+        let _name = self.name.as_str();
+        self.check.is_frequency()
     }
 }
 
@@ -110,7 +99,12 @@ impl SoundRow for KeptRow {
     ghost IsIn = { λ _ row. IsKeptRow row };
 
     fn is_sound_among(&self, _rows: &Rows) -> bool {
-        is_kept_row(self)
+        let (_caller, _key) = (self.caller.as_str(), self.key.as_str());
+        1 <= self.kind
+            && self.kind <= LAST_KIND
+            && self.reply.0 <= NUMBERS_END
+            && self.reply.1 <= NUMBERS_END
+            && self.reply.2 <= NUMBERS_END
     }
 }
 
@@ -120,13 +114,7 @@ fn are_sound_among<R: SoundRow>(rows: &Rows, list: &[R]) -> bool
     requires few { IsFew (farm_of rows.now) }
     ensures { IsTrue result ↔ AllByRecursion (R.IsIn (farm_of rows.now)) list.now }
 {
-    list.iter().all(
-        |row: &R| -> bool
-            requires ordered { IsOrdered (farm_of rows.now) }
-            requires few { IsFew (farm_of rows.now) }
-            ensures { IsTrue result ↔ R.IsIn (farm_of rows.entry.now) row.now }
-        { row.is_sound_among(rows) },
-    )
+    list.iter().all(|row| row.is_sound_among(rows))
 }
 
 /// Whether the rows are those of a sound farm, row by row.

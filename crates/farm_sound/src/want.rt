@@ -16,18 +16,14 @@ pub(crate) fn prove_want(want: &Want)
     ensures { IsTrue (is_want want.now) }
 {
     let _tags = want.tags.items();
-    if let Some(kind) = &want.kind {
-        let _kind = kind.as_str();
-    }
+    prove_role(&want.kind);
 }
 
 /// A role, if there is one, is a name.
 pub(crate) fn prove_role(role: &Option<Name>)
     ensures { IfSome role.now IsName }
 {
-    if let Some(name) = role {
-        let _name = name.as_str();
-    }
+    let _name = role.as_ref().map(|name| name.as_str());
 }
 
 /// Whether a type is named that is there.

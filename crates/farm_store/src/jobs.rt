@@ -1,10 +1,7 @@
 //! The table of jobs: its statements, and what its rows stand for.
 ghost use Rattle.std.specs.Prelude.{◌≡◌, ◌↔◌, ◌≤◌, IsTrue, pos, List, [], ◌∷◌, OnOk};
 ghost use Rattle.std.specs.List.{AllByRecursion};
-ghost use Rattle.std.specs.Option.{option_map_or};
 ghost use Rattle.sqlite.specs.declared.types.Value.TheVariants.{Int};
-ghost use Rattle.sqlite_value.specs.Value.{owned};
-ghost use Rattle.farm_types.specs.Codes.{outcome_code};
 ghost use Rattle.sqlite.specs.Held.{state};
 ghost use Rattle.sqlite.specs.State.{HasCleanDisk};
 ghost use Rattle.sqlite.specs.Values.{bound};
@@ -77,16 +74,9 @@ pub(crate) fn is_jobs(table: &Table) -> bool
     is_numbered(table, "jobs", 4) && are_columns(table.columns.as_slice(), &wanted)
 }
 
-/// The number of a job's outcome, and 0 while it has none.
-#[tactic(auto, using(crate::proofs::SmallCodes::outcome_is_small))]
-fn outcome(row: &JobRow) -> ValueRef<'_>
-    ensures { owned result ≡ Int (pos (option_map_or outcome_code row.now.outcome 0)) }
-{
-    number(row.outcome.map_or(0, |outcome| outcome.code()))
-}
-
-/// Its columns; `tags` is the text of the tags that it wants.
-#[tactic(auto, using(crate::proofs::SmallCodes::priority_is_small, crate::proofs::SmallCodes::job_state_is_small))]
+/// Its columns, with 0 for an outcome while it has none; `tags` is the text of the tags that it
+/// wants.
+#[tactic(auto, using(crate::proofs::SmallCodes::outcome_is_small, crate::proofs::SmallCodes::priority_is_small, crate::proofs::SmallCodes::job_state_is_small))]
 fn job_columns<'a>(row: &'a JobRow, tags: &'a str) -> [ValueRef<'a>; 12]
     requires small { IsSmallJob row.now }
     requires tags { tags.now ≡ tags_text row.now.want.tags }
@@ -102,7 +92,7 @@ fn job_columns<'a>(row: &'a JobRow, tags: &'a str) -> [ValueRef<'a>; 12]
         text(tags),
         name_if_any(&row.role),
         number(row.state.code()),
-        outcome(row),
+        number(row.outcome.map_or(0, |outcome| outcome.code())),
         name_if_any(&row.board),
         text(row.body.as_str()),
     ]
@@ -152,8 +142,7 @@ pub(crate) fn raise_jobs<S: Alter>(
             from = row.number;
         }
     }
-    raise_window(tx, from, END)?;
-    Ok(())
+    raise_window(tx, from, END)
 }
 
 impl Upsert for Tagged<'_, JobRow> {

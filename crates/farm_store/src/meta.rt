@@ -186,12 +186,10 @@ pub(crate) fn look_at_schema(rows: &[Row], edition: Edition) -> Result<(), Store
 {
     let (other, refusal) = edition.other();
     if have_version(rows, other) {
-        Err(refusal)
-    } else if have_version(rows, edition.schema()) {
-        Ok(())
-    } else {
-        Err(StoreFault::BadStore)
+        return Err(refusal);
     }
+    let is_known = have_version(rows, edition.schema());
+    is_known.then_some(()).ok_or(StoreFault::BadStore)
 }
 
 /// All rows of the table.

@@ -88,11 +88,7 @@ fn read_edition<S: Alter>(
 {
     let is_ours = is_farm_schema(conn.schema());
     let rows = read_any(alloc, conn, edition)?;
-    if is_ours {
-        Ok(rows)
-    } else {
-        Err(StoreFault::BadStore)
-    }
+    is_ours.then_some(rows).ok_or(StoreFault::BadStore)
 }
 
 /// Reads the rows of all tables, in order of their keys, and writes nothing. The version that `meta`

@@ -28,8 +28,7 @@ fn raise_all<S: Alter>(tx: &mut Transaction<'_, S>, rows: &Rows) -> Result<(), E
 {
     raise_jobs(tx, &rows.jobs)?;
     put_number(tx, "collector", 0)?;
-    put_number(tx, "schema", SCHEMA)?;
-    Ok(())
+    put_number(tx, "schema", SCHEMA)
 }
 
 /// Makes tables of the first edition, whose rows these are, the same farm's tables of the second,

@@ -32,8 +32,7 @@ fn make<S: Alter>(tx: &mut Transaction<'_, S>, sql: &str) -> Result<(), Error>
         → IsTrue (state S.Store tx.old.conn.now).in_transaction
         → KeepsCommit (state S.Store tx.old.conn.now) (state S.Store tx.new.conn.now) }
 {
-    tx.execute(sql, &[])?;
-    Ok(())
+    tx.execute(sql, &[]).map(|_| ())
 }
 
 fn make_all<S: Alter>(tx: &mut Transaction<'_, S>) -> Result<(), Error>
@@ -54,8 +53,7 @@ fn make_all<S: Alter>(tx: &mut Transaction<'_, S>) -> Result<(), Error>
     make(tx, jobs::MAKE)?;
     make(tx, reservations::MAKE)?;
     make(tx, kept::MAKE)?;
-    make(tx, meta::MAKE)?;
-    Ok(())
+    make(tx, meta::MAKE)
 }
 
 /// No command was accepted at moment 0, no group collects, and the first number is 1.
@@ -71,8 +69,7 @@ fn put_first_numbers<S: Alter>(tx: &mut Transaction<'_, S>) -> Result<(), Error>
     put_number(tx, "collector", 0)?;
     put_number(tx, "count", 0)?;
     put_number(tx, "next", 1)?;
-    put_number(tx, "schema", SCHEMA)?;
-    Ok(())
+    put_number(tx, "schema", SCHEMA)
 }
 
 /// Makes the six tables of the empty farm in one transaction, whose commit is the last call of the

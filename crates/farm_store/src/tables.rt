@@ -117,17 +117,15 @@ fn is_key(index: &Index, name: &str, table: u32, places: &[usize]) -> bool
 fn are_tables(tables: &[Table]) -> bool
     ensures { IsTrue result ↔ (tables.now ≡ farm_schema.tables) }
 {
-    match tables {
-        [types, boards, jobs, reservations, replies, numbers] => {
-            is_types(types)
-                && is_boards(boards)
-                && is_jobs(jobs)
-                && is_reservations(reservations)
-                && is_replies(replies)
-                && is_numbers(numbers)
-        }
-        _ => false,
-    }
+    let [types, boards, jobs, reservations, replies, numbers] = tables else {
+        return false;
+    };
+    is_types(types)
+        && is_boards(boards)
+        && is_jobs(jobs)
+        && is_reservations(reservations)
+        && is_replies(replies)
+        && is_numbers(numbers)
 }
 
 /// Whether these are such indexes, in this order.

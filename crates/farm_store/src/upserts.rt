@@ -130,8 +130,7 @@ fn put_all<S: Alter>(
     put_rows(tx, jobs)?;
     put_rows(tx, reservations)?;
     put_rows(tx, &changes.kept)?;
-    change_numbers(tx, changes.meta)?;
-    Ok(())
+    change_numbers(tx, changes.meta)
 }
 
 /// Puts the changed rows, each by its key, and the farm's four numbers in one transaction, whose

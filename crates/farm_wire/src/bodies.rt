@@ -36,10 +36,8 @@ fn every_of(value: &Value) -> Result<u64, Refusal>
     ensures every { by_code result ≡ every_in (view value.now) }
     ensures range { IfOk result (λ every. IsTrue (is_every every)) }
 {
-    match value.get("every").and_then(Value::as_u64) {
-        Some(every) if is_every(every) => Ok(every),
-        _ => Err(BAD),
-    }
+    let every = value.get("every").and_then(Value::as_u64);
+    every.filter(|every| is_every(*every)).ok_or(BAD)
 }
 
 /// The check that the keys `check` and `every` spell.

@@ -90,10 +90,8 @@ pub(crate) fn caller_of(alloc: Global, parts: &Parts<'_>) -> Read<Name>
     ensures reads { OrNoMemory refused_code (λ name. name) result (caller_in parts.now.fields) }
     ensures memory { result ≡ Err WordFault.NoMemory → IsOk (caller_in parts.now.fields) }
 {
-    match parts.field(b"x-user") {
-        Ok(Some(value)) => Name::parse(alloc, value),
-        _ => Err(WordFault::Refused(BAD)),
-    }
+    let value = parts.field(b"x-user").ok().flatten();
+    Name::parse(alloc, value.ok_or(BAD)?)
 }
 
 /// The key in the field `x-key`, which may stand there once; memory is wanted only where there is

@@ -76,11 +76,7 @@ fn hex_digit(digit: u8) -> u8
     requires { digit < 16 }
     ensures { result ≡ digit_char digit }
 {
-    if digit < 10 {
-        b'0' + digit
-    } else {
-        b'a' + (digit - 10)
-    }
+    b"0123456789abcdef"[digit as usize]
 }
 
 /// Puts a byte as it stands between quotes.

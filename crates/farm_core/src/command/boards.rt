@@ -49,11 +49,8 @@ impl Tables {
     pub fn count_kind(&self, kind: &Name) -> usize
         ensures { result ≡ length (filter (λ b. bytes_eq b.kind kind.now) (plain_farm self.now).boards) }
     {
-        self.boards
-            .rows()
-            .iter()
-            .filter(|row| row.kind.is(kind))
-            .count()
+        let boards = self.boards.rows();
+        boards.iter().filter(|row| row.kind.is(kind)).count()
     }
 
     /// Why a board of that name and type isn't added.
@@ -84,10 +81,7 @@ impl Tables {
         match self.find_board(name) {
             None => Some(NO_BOARD),
             Some(row) if is_retired(row) => Some(RETIRED),
-            Some(row)
-                if matches!(health, Health::Retired) && !matches!(row.holder, Holder::Nobody) => {
-                Some(HELD)
-            }
+            Some(row) if health == Health::Retired && row.holder != Holder::Nobody => Some(HELD),
             Some(_) => None,
         }
     }
@@ -106,12 +100,11 @@ impl Tables {
         ensures { OnOk result (CameTo self.old (seen_at (with_board (λ b. record b { tags = tags.now })
             (plain_farm self.old) (Some name.now)) (seen self.old)) self.new) }
     {
-        let mut row = match self.find_board(name) {
-            None => return Ok(()),
-            Some(row) => row.copy()?,
-        };
-        row.tags = tags.copy()?;
-        self.boards.put(row)?;
+        if let Some(board) = self.find_board(name) {
+            let mut row = board.copy()?;
+            row.tags = tags.copy()?;
+            self.boards.put(row)?;
+        }
         Ok(())
     }
 
@@ -120,12 +113,11 @@ impl Tables {
         ensures { OnOk result (CameTo self.old (seen_at (with_board (λ b. record b { health = health })
             (plain_farm self.old) (Some name.now)) (seen self.old)) self.new) }
     {
-        let mut row = match self.find_board(name) {
-            None => return Ok(()),
-            Some(row) => row.copy()?,
-        };
-        row.health = health;
-        self.boards.put(row)?;
+        if let Some(board) = self.find_board(name) {
+            let mut row = board.copy()?;
+            row.health = health;
+            self.boards.put(row)?;
+        }
         Ok(())
     }
 }

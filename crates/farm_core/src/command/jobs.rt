@@ -43,9 +43,7 @@ fn can_cancel(row: &JobRow) -> bool
 fn some_can_cancel(rows: &[JobRow], group: u64) -> bool
     ensures { result ≡ list_any can_cancel (filter (λ j. j.group == group) rows.now) }
 {
-    rows.iter()
-        .filter(|row| row.group == group)
-        .any(|row| can_cancel(row))
+    rows.iter().filter(|row| row.group == group).any(can_cancel)
 }
 
 /// The outcome of a job: one that is being canceled ends as canceled, whatever is named.

@@ -42,10 +42,8 @@ impl Tables {
         ensures { result ≡ list_any (λ b. fits b (record { kind = None; tags = tags.now })
             && not_retired b) (plain_farm self.now).boards }
     {
-        self.boards
-            .rows()
-            .iter()
-            .any(|board| may_serve(board, tags))
+        let boards = self.boards.rows();
+        boards.iter().any(|board| may_serve(board, tags))
     }
 
     /// Why a reservation isn't made. With B boards it costs O(B), and no memory.
@@ -71,14 +69,12 @@ impl Tables {
         ensures { IfOk result (λ n. Acts self.old owner.now (Cmd.Reserve priority tags.now) n self.new) }
     {
         let number = self.next;
+        let tags = tags.copy()?;
         let row = ResRow {
             number,
             owner: owner.copy()?,
             priority,
-            want: Want {
-                kind: None,
-                tags: tags.copy()?,
-            },
+            want: Want { kind: None, tags },
             state: ResState::Waiting,
             deadline: self.clock + LEASE,
             board: None,
@@ -97,14 +93,11 @@ impl Tables {
     }
 }
 
-/// Whether a reservation waits, or has been allocated or acquired.
+/// Whether a reservation waits, or has been allocated or acquired: it has not ended.
 fn is_alive(row: &ResRow) -> bool
     ensures { result ≡ is_alive row.now }
 {
-    matches!(
-        row.state,
-        ResState::Waiting | ResState::Allocated | ResState::Acquired
-    )
+    !matches!(row.state, ResState::Expired | ResState::Canceled)
 }
 
 /// Why a command on a reservation is refused, where it is there: it is another's, its deadline has
@@ -181,8 +174,7 @@ impl Tables {
         requires { self.old.clock ≤ last_moment }
         ensures { IfOk result (λ n. Acts self.old [] (Cmd.Release number) n self.new) }
     {
-        let deadline = Some(self.clock + LEASE);
-        let edit = ResEdit::new(number, Some(ResState::Allocated), deadline);
+        let edit = ResEdit::new(number, Some(ResState::Allocated), Some(self.clock + LEASE));
         self.edit_reservation_and_board(edit, BoardEffect::State(State::Reserved))?;
         Ok(number)
     }
@@ -192,8 +184,7 @@ impl Tables {
         requires { self.old.clock ≤ last_moment }
         ensures { IfOk result (λ n. Acts self.old [] (Cmd.Refresh number) n self.new) }
     {
-        let deadline = Some(self.clock + LEASE);
-        let edit = ResEdit::new(number, None, deadline);
+        let edit = ResEdit::new(number, None, Some(self.clock + LEASE));
         self.reservations.edit(edit)?;
         Ok(number)
     }

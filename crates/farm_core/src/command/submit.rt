@@ -18,8 +18,8 @@ ghost use Rattle.farm_core.specs.Plain.{plain_farm};
 use crate::tables::Tables;
 use farm_pick::Free;
 use farm_types::{
-    Body, Claim, ClaimKind, JobRow, JobState, NO_SUCH_BOARDS, NO_TYPE, Name, Priority, Roles, Want,
-    Wants, copy_name,
+    Body, Claim, ClaimKind, JobRow, NO_SUCH_BOARDS, NO_TYPE, Name, Priority, Roles, Want, Wants,
+    copy_name,
 };
 use std::alloc::{AllocError, Global};
 
@@ -86,19 +86,11 @@ impl Tables {
     {
         let alloc = *self.boards.allocator();
         for at in 0..wants.len() {
-            self.jobs.put(JobRow {
-                number: group + at as u64,
-                group,
-                checking: false,
-                owner: owner.copy()?,
-                priority,
-                want: wants[at].copy()?,
-                role: copy_name(&roles[at])?,
-                state: JobState::Submitted,
-                outcome: None,
-                board: None,
-                body: member_text(alloc, at, body)?,
-            })?;
+            let (owner, want) = (owner.copy()?, wants[at].copy()?);
+            let mut row = JobRow::new(alloc, group + at as u64, group, owner, priority, want);
+            row.role = copy_name(&roles[at])?;
+            row.body = member_text(alloc, at, body)?;
+            self.jobs.put(row)?;
         }
         Ok(())
     }

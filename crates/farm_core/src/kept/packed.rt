@@ -42,11 +42,8 @@ pub struct Packed {
 fn piece(text: &[u8], from: usize, len: usize) -> &[u8]
     ensures { result.now ≡ take len (drop from text.now) }
 {
-    if text.len() < from {
-        return &[];
-    }
-    let rest = &text[from..];
-    if rest.len() < len { rest } else { &rest[..len] }
+    let rest = &text[from.min(text.len())..];
+    &rest[..len.min(rest.len())]
 }
 
 /// The word of up to `len` bytes from a place on; where the bytes there are none, the empty text.
@@ -74,14 +71,9 @@ impl Entry {
     pub fn reply(&self) -> KeptReply
         ensures { result ≡ kept_reply (entry_row [] self.now) }
     {
-        KeptReply {
-            kind: u64::from(self.kind),
-            reply: Reply(
-                u64::from(self.first),
-                u64::from(self.second),
-                u64::from(self.third),
-            ),
-        }
+        let kind = self.kind.into();
+        let reply = Reply(self.first.into(), self.second.into(), self.third.into());
+        KeptReply { kind, reply }
     }
 }
 
@@ -97,13 +89,10 @@ pub fn is_packable(row: &KeptRow) -> bool
 
 /// How many bytes the texts of the rows take, to make room for them.
 fn text_len(rows: &[KeptRow]) -> usize {
-    let mut len = 0usize;
-    for row in rows {
-        len = len
-            .saturating_add(row.caller.as_str().len())
-            .saturating_add(row.key.as_str().len());
-    }
-    len
+    rows.iter().fold(0usize, |len, row| {
+        len.saturating_add(row.caller.as_str().len())
+            .saturating_add(row.key.as_str().len())
+    })
 }
 
 /// Adds a row behind the others. Texts of 4 GiB and more are refused like too little memory.
@@ -139,12 +128,7 @@ fn place_of(texts: &[u8], entries: &[Entry], caller: &Name, key: &Key) -> Result
     ensures searched { IsBinarySearchResult
         (λ e. kept_cmp (entry_row texts.now e) (asked_row caller.now key.now)) entries.now result }
 {
-    entries.binary_search_by(
-        |e: &Entry| -> Ordering
-            ensures { result ≡ kept_cmp (entry_row texts.entry.now e.now)
-                (asked_row caller.entry.now key.entry.now) }
-        { e.order(texts, caller, key) },
-    )
+    entries.binary_search_by(|entry| entry.order(texts, caller, key))
 }
 
 impl Packed {
@@ -177,10 +161,8 @@ impl Packed {
     pub fn words(&self, entry: &Entry) -> (&str, &str) {
         let start = entry.start as usize;
         let long = entry.caller as usize;
-        (
-            word(&self.texts, start, long),
-            word(&self.texts, start + long, entry.key as usize),
-        )
+        let caller = word(&self.texts, start, long);
+        (caller, word(&self.texts, start + long, entry.key as usize))
     }
 
     /// What is kept here for a caller and a key. With K replies it costs O(log K).

@@ -63,10 +63,9 @@ fn highest_priority() -> Priority
 fn check_job(alloc: Global, number: u64, board: &BoardRow) -> Result<JobRow, AllocError>
     ensures { IfOk result (λ row. row ≡ check_job number board.now) }
 {
-    let want = Want {
-        kind: Some(board.kind.copy()?),
-        tags: Tags::none(alloc),
-    };
+    let kind = Some(board.kind.copy()?);
+    let tags = Tags::none(alloc);
+    let want = Want { kind, tags };
     let admin = admin_name(alloc)?;
     let mut row = JobRow::new(alloc, number, number, admin, highest_priority(), want);
     row.checking = true;

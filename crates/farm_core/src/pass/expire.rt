@@ -86,11 +86,9 @@ impl Tables {
             ≡ length (filter (is_dead self.old.clock) (plain_farm self.old).reservations)) }
     {
         // The boards first: the reservations as they were say which are freed.
-        let dead = ResFilter::Dead(self.clock);
-        self.boards.change_where(&Held {
-            holders: Holders::Res(&self.reservations, dead),
-            effect: BoardEffect::Free,
-        })?;
+        let holders = Holders::Res(&self.reservations, ResFilter::Dead(self.clock));
+        let effect = BoardEffect::Free;
+        self.boards.change_where(&Held { holders, effect })?;
         let count = self.expire_reservations()?;
         Ok(count)
     }

@@ -82,10 +82,7 @@ fn remember(misses: &mut Misses, wants: &[&Want]) -> Result<(), AllocError>
 fn copied(last: &Option<(Priority, u64)>) -> Option<(Priority, u64)>
     ensures { result ≡ last.now }
 {
-    match last {
-        None => None,
-        Some((priority, number)) => Some((*priority, *number)),
-    }
+    last.as_ref().map(|(priority, number)| (*priority, *number))
 }
 
 /// Of two claims the one that goes first; of one alone this one.
@@ -111,13 +108,9 @@ impl Tables {
         match kind {
             ClaimKind::Group => {
                 let rows = self.member_rows(number);
-                let first = rows.first()?;
-                Some(wants_in(rows, number, &first.want))
+                Some(wants_in(rows, number, &rows.first()?.want))
             }
-            ClaimKind::Reservation => {
-                let row = self.find_reservation(number)?;
-                Some(([&row.want; MOST_WANTS], 1))
-            }
+            ClaimKind::Reservation => Some(([&self.find_reservation(number)?.want; MOST_WANTS], 1)),
         }
     }
 

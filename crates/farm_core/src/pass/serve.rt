@@ -43,10 +43,8 @@ pub fn numbers_in(rows: &[JobRow], group: u64) -> ArrayVec<u64, MOST_WANTS>
 fn all_wait(rows: &[JobRow], group: u64) -> bool
     ensures { result ≡ list_all waits (filter (λ j. j.group == group) rows.now) }
 {
-    rows.iter().filter(|row| row.group == group).all(|row| matches!(
-        row.state,
-        JobState::Submitted | JobState::Scheduling
-    ))
+    let mut members = rows.iter().filter(|row| row.group == group);
+    members.all(|row| matches!(row.state, JobState::Submitted | JobState::Scheduling))
 }
 
 /// How many members a group has among some rows.
@@ -179,10 +177,9 @@ impl Tables {
         ensures logs { OnOk result (LeadOn self.old self.new) }
     {
         if self.collector == 0 && kind == ClaimKind::Group && boards >= 2 {
-            self.collect_group(number)
-        } else {
-            Ok(())
+            self.collect_group(number)?;
         }
+        Ok(())
     }
 
     /// Tries a claim. One that isn't met is remembered, since where boards are only taken away,

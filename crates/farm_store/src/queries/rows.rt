@@ -44,10 +44,8 @@ impl Reader {
         ensures same { IfOk result (λ shared. shared ≡ tags) }
         ensures edition { self.new.edition ≡ self.old.edition }
     {
-        for seen in &self.lists {
-            if seen.is(&tags) {
-                return seen.copy();
-            }
+        if let Some(seen) = self.lists.iter().find(|seen| seen.is(&tags)) {
+            return seen.copy();
         }
         if self.lists.len() < MOST {
             self.lists.push(tags.copy()?)?;

@@ -1,4 +1,5 @@
 use Rattle.std.proofs.Common.{◌<◌, length, sym, subst, arith, rules}
+use Rattle.std.proofs.lemmas.Result.{on_ok_weaker}
 use Rattle.sqlite.specs.Held.{state}
 use Rattle.sqlite.specs.State.{HasCleanDisk}
 use Rattle.sqlite_trees.proofs.ListLemmas.{all-get_or}
@@ -45,8 +46,8 @@ loop-at-preserved g c =
     ]
 
 pub returns-clause-raised : goal.returns-clause-raised
-returns-clause-raised g c clean T at =
+returns-clause-raised g c clean = on_ok_weaker c.raise_window-2.result (λ raises T at.
     let early = was_clean c.raise_window-2.ensures.goes_on clean in
     let before = c.loop-at.invariant.raised early T at in
-    let after = c.in_ok-raise_window-2.ensures.raised clean T c.args.rows.now before in
-    subst (λ rows. IsInside (state g.S.Store c.raise_window-2.new.tx.conn.now) (record T { jobs = rows })) (all_raised c.args.rows.now c.requires.small) after
+    let after = raises T c.args.rows.now before in
+    subst (λ rows. IsInside (state g.S.Store c.raise_window-2.new.tx.conn.now) (record T { jobs = rows })) (all_raised c.args.rows.now c.requires.small) after) (c.raise_window-2.ensures.raised clean)

@@ -1,4 +1,5 @@
 use Rattle.std.proofs.Common.{sym, subst}
+use Rattle.std.proofs.lemmas.Result.{on_ok_weaker}
 use Rattle.farm_store.specs.Holds.{ShowsTables}
 use Rattle.sqlite.specs.Held.{state}
 use Rattle.farm_store.proofs.Creates.{makes_all, tables_taken}
@@ -6,7 +7,7 @@ use Rattle.farm_store.proofs.GoingOn.{was_clean}
 use Rattle.farm_store.proofs.schema.make_all.Goals as goal
 
 pub returns-clause-made : goal.returns-clause-made
-returns-clause-made g c clean inside has =
+returns-clause-made g c clean = on_ok_weaker c.make-6.result (λ ran inside has.
     let late5 = was_clean c.make-6.ensures.goes_on clean in
     let late4 = was_clean c.make-5.ensures.goes_on late5 in
     let late3 = was_clean c.make-4.ensures.goes_on late4 in
@@ -17,9 +18,9 @@ returns-clause-made g c clean inside has =
     let three = c.in_ok-make-3.ensures.ran late3 two.4 in
     let four = c.in_ok-make-4.ensures.ran late4 three.4 in
     let five = c.in_ok-make-5.ensures.ran late5 four.4 in
-    let six = c.in_ok-make-6.ensures.ran clean five.4 in
+    let six = ran five.4 in
     makes_all (state g.S.Store c.args.tx.now.conn.now) (state g.S.Store c.make.new.tx.conn.now) (state g.S.Store c.make-2.new.tx.conn.now) (state g.S.Store c.make-3.new.tx.conn.now)
-    (state g.S.Store c.make-4.new.tx.conn.now) (state g.S.Store c.make-5.new.tx.conn.now) (state g.S.Store c.make-6.new.tx.conn.now) has one two three four five six
+    (state g.S.Store c.make-4.new.tx.conn.now) (state g.S.Store c.make-5.new.tx.conn.now) (state g.S.Store c.make-6.new.tx.conn.now) has one two three four five six) (c.make-6.ensures.ran clean)
 
 pub returns-in_err-make-2-clause-kept : goal.returns-in_err-make-2-clause-kept
 returns-in_err-make-2-clause-kept g c clean T at =
@@ -37,10 +38,6 @@ pub returns-in_err-make-5-clause-kept : goal.returns-in_err-make-5-clause-kept
 returns-in_err-make-5-clause-kept g c clean T at =
     absurd (tables_taken (state g.S.Store c.args.tx.now.conn.now) (state g.S.Store c.make.new.tx.conn.now) T at (c.in_ok-make.ensures.ran (was_clean c.make-2.ensures.goes_on (was_clean c.make-3.ensures.goes_on (was_clean c.make-4.ensures.goes_on (was_clean c.make-5.ensures.goes_on clean)))) at.inside))
 
-pub returns-in_err-make-6-clause-kept : goal.returns-in_err-make-6-clause-kept
-returns-in_err-make-6-clause-kept g c clean T at =
-    absurd (tables_taken (state g.S.Store c.args.tx.now.conn.now) (state g.S.Store c.make.new.tx.conn.now) T at (c.in_ok-make.ensures.ran (was_clean c.make-2.ensures.goes_on (was_clean c.make-3.ensures.goes_on (was_clean c.make-4.ensures.goes_on (was_clean c.make-5.ensures.goes_on (was_clean c.make-6.ensures.goes_on clean))))) at.inside))
-
 pub returns-in_err-make-clause-kept : goal.returns-in_err-make-clause-kept
 returns-in_err-make-clause-kept g c clean T at shows still =
     let keeps = c.make.ensures.kept clean at.inside in
@@ -51,5 +48,5 @@ returns-clause-kept g c clean T at =
     absurd (tables_taken (state g.S.Store c.args.tx.now.conn.now) (state g.S.Store c.make.new.tx.conn.now) T at (c.in_ok-make.ensures.ran (was_clean c.make-2.ensures.goes_on (was_clean c.make-3.ensures.goes_on (was_clean c.make-4.ensures.goes_on (was_clean c.make-5.ensures.goes_on (was_clean c.make-6.ensures.goes_on clean))))) at.inside))
 
 pub returns-clause-refused : goal.returns-clause-refused
-returns-clause-refused g c clean T at =
-    tables_taken (state g.S.Store c.args.tx.now.conn.now) (state g.S.Store c.make.new.tx.conn.now) T at (c.in_ok-make.ensures.ran (was_clean c.make-2.ensures.goes_on (was_clean c.make-3.ensures.goes_on (was_clean c.make-4.ensures.goes_on (was_clean c.make-5.ensures.goes_on (was_clean c.make-6.ensures.goes_on clean))))) at.inside)
+returns-clause-refused g c clean = on_ok_weaker c.make-6.result (λ _ T at.
+    tables_taken (state g.S.Store c.args.tx.now.conn.now) (state g.S.Store c.make.new.tx.conn.now) T at (c.in_ok-make.ensures.ran (was_clean c.make-2.ensures.goes_on (was_clean c.make-3.ensures.goes_on (was_clean c.make-4.ensures.goes_on (was_clean c.make-5.ensures.goes_on (was_clean c.make-6.ensures.goes_on clean))))) at.inside)) (c.make-6.ensures.ran clean)

@@ -1,5 +1,6 @@
 use Rattle.std.proofs.Common.{sym, subst}
 use Rattle.sqlite.specs.Held.{state}
+use Rattle.sqlite_rules.proofs.ViewLemmas.{on_ok_both}
 use Rattle.farm_types.specs.Small.{IsSmallBoard, IsSmallJob, IsSmallRes}
 use Rattle.farm_store.specs.Columns.{board_columns, job_columns, numbers_of, res_columns, rows_of}
 use Rattle.farm_store.specs.Holds.{IsInside}
@@ -18,7 +19,7 @@ pub put_rows-requires-4 : goal.put_rows-requires-4
 put_rows-requires-4 g c = record { small = all_through (λ t. t.row.now) IsSmallRes c.args.reservations.now c.requires.reservations c.requires.small.reservations }
 
 pub returns-clause-put : goal.returns-clause-put
-returns-clause-put g c clean F at =
+returns-clause-put g c clean = on_ok_both c.change_numbers.result (λ put opened F at.
     let kept = was_clean c.change_numbers.ensures.goes_on clean in
     let reserved = was_clean c.put_rows-5.ensures.goes_on kept in
     let jobs = was_clean c.put_rows-4.ensures.goes_on reserved in
@@ -29,6 +30,6 @@ returns-clause-put g c clean F at =
     let three = rw (map_through (λ t. t.row.now) job_columns c.args.jobs.now c.requires.jobs) at (c.in_ok-put_rows-3.ensures.put jobs _ two) in
     let four = rw (map_through (λ t. t.row.now) res_columns c.args.reservations.now c.requires.reservations) at (c.in_ok-put_rows-4.ensures.put reserved _ three) in
     let five = rw c.deref-2.ensures.value at (c.in_ok-put_rows-5.ensures.put kept _ four) in
-    let six = c.in_ok-change_numbers.ensures.put clean _ (numbers_of F) five (numbers_there F) in
-    let still = c.in_ok-change_numbers.ensures.stays_open clean five.inside in
-    (subst (IsInside (state g.S.Store c.change_numbers.new.tx.conn.now)) (sym (commutes F c.args.changes.now)) six, still.1)
+    let six = put _ (numbers_of F) five (numbers_there F) in
+    let still = opened five.inside in
+    (subst (IsInside (state g.S.Store c.change_numbers.new.tx.conn.now)) (sym (commutes F c.args.changes.now)) six, still.1)) (c.change_numbers.ensures.put clean) (c.change_numbers.ensures.stays_open clean)
