@@ -96,3 +96,5 @@ pub record TakesNext (now : Option Duration) (old new : Pending) (result : Optio
       → IsSomeAnd result (IsFirst (deque_items old.incomplete))
   pub in_time : (IsOverdue now (deque_items old.incomplete) → ⊥) → 0 < deque_len old.ready
       → IsSomeAnd result (IsFirst (deque_items old.ready))
+  pub accepted : new.accepted ≡ old.accepted
+  pub arrivals : new.has_arrivals ≡ old.has_arrivals

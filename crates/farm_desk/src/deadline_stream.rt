@@ -1,10 +1,10 @@
 //! A client's stream, with limits of time.
 ghost use Rattle.std.specs.Prelude.{◌≡◌, ◌↔◌, ◌-◌, ◌*◌, ◌^◌, ◌<◌, ◌≤◌, IfSome, IsOk, IsSome, IsTrue};
-ghost use Rattle.std.specs.Prelude.{None, OnOk, Some};
+ghost use Rattle.std.specs.Prelude.{None, IfErr, OnOk, Some};
 ghost use Rattle.std.specs.Duration.{as_nanos};
 ghost use Rattle.std.specs.IoError.{error_kind};
 ghost use Rattle.std.specs.Option.{unwrap_or};
-ghost use Rattle.std.specs.declared.io.ErrorKind.TheVariants.{WouldBlock};
+ghost use Rattle.std.specs.declared.io.ErrorKind.TheVariants.{TimedOut, WouldBlock};
 
 use farm_http::Output;
 use std::cell::Cell;
@@ -126,6 +126,7 @@ impl<'a, C: Clock> DeadlineStream<'a, C> {
         ensures begun { self.new.since ≡ Some (unwrap_or self.old.since now) }
         ensures in_time { IsOk result
             ↔ (as_nanos now - as_nanos (unwrap_or self.old.since now) ≤ 10 * 10 ^ 9) }
+        ensures kind { IfErr result (λ error. error_kind error ≡ TimedOut) }
     {
         let since = self.since.unwrap_or(now);
         self.since = Some(since);

@@ -211,7 +211,11 @@ impl Pending {
     /// Adds a connection, to the ready ones where its request is complete; none where the system
     /// refuses.
     fn add(&mut self, stream: TcpStream, now: Option<Duration>) -> Option<()>
-        ensures { outstanding self.new ≡ outstanding self.old + (if is_some result then 1 else 0) }
+        ensures one { outstanding self.new
+            ≡ outstanding self.old + (if is_some result then 1 else 0) }
+        ensures number { IfSome result (λ _. self.old.accepted + 1 < 2 ^ 64
+            → self.new.accepted ≡ self.old.accepted + 1) }
+        ensures arrivals { self.new.has_arrivals ≡ self.old.has_arrivals }
     {
         stream.set_nonblocking(true).ok()?;
         let number = self.accepted;
