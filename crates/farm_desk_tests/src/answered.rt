@@ -3,7 +3,7 @@ use farm_desk::{DeskFault, Input, Output, converse_counted};
 use farm_keep::Keeper;
 use farm_tests::fakes::{Interrupted, Narrow, Slow, Tally};
 use farm_tests::sent::{FIRST_TYPE, request};
-use farm_tests::stores::made;
+use farm_tests::stores::{in_memory, made};
 use farm_wire::{CountedReader, CountedWriter};
 use sqlite::{Alter, Connection};
 use std::alloc::{AllocError, Global};
@@ -124,7 +124,7 @@ fn readers_that_fail<S: Alter + Drop>(
 #[test]
 fn reader_that_halts(rt: HostRuntime) -> Result<(), Fail> {
     let alloc = rt.alloc();
-    readers_that_fail(&rt, alloc, Connection::open_in_memory(alloc)?)
+    readers_that_fail(&rt, alloc, in_memory(alloc).ok_or("no store")?)
 }
 
 /// Both the reader and the writer give and take one byte a call, and the reader is interrupted
@@ -145,7 +145,7 @@ fn bytes_one_by_one<S: Alter + Drop>(
 #[test]
 fn one_byte_a_call(rt: HostRuntime) -> Result<(), Fail> {
     let alloc = rt.alloc();
-    bytes_one_by_one(&rt, alloc, Connection::open_in_memory(alloc)?)
+    bytes_one_by_one(&rt, alloc, in_memory(alloc).ok_or("no store")?)
 }
 
 /// The head of a pass with the largest body.
@@ -184,7 +184,7 @@ fn largest_body_byte_by_byte(rt: HostRuntime) -> Result<(), Fail> {
     largest_body(
         &rt,
         alloc,
-        Connection::open_in_memory(alloc)?,
+        in_memory(alloc).ok_or("no store")?,
         request.as_slice(),
     )
 }
@@ -229,7 +229,7 @@ fn one_after_the_other<S: Alter + Drop>(
 #[test]
 fn two_requests_in_one_reader(rt: HostRuntime) -> Result<(), Fail> {
     let alloc = rt.alloc();
-    one_after_the_other(&rt, alloc, Connection::open_in_memory(alloc)?)
+    one_after_the_other(&rt, alloc, in_memory(alloc).ok_or("no store")?)
 }
 
 /// Makes the type `bbb` and its Good board b1.
@@ -287,7 +287,7 @@ fn answer_lost(rt: HostRuntime) -> Result<(), Fail> {
             lost_after(
                 &rt,
                 alloc,
-                Connection::open_in_memory(alloc)?,
+                in_memory(alloc).ok_or("no store")?,
                 (room, stops),
             )?;
         }

@@ -3,7 +3,7 @@ use crate::answered::DONE;
 use farm_desk::{DeskFault, ScriptedClient, ScriptedClients, serve};
 use farm_keep::Keeper;
 use farm_tests::sent::FIRST_TYPE;
-use farm_tests::stores::made;
+use farm_tests::stores::{in_memory, made};
 use sqlite::{Alter, Connection};
 use std::alloc::{AllocError, Global};
 use std::process::Abort;
@@ -129,5 +129,5 @@ fn serve_all<S: Alter + Drop>(
 #[test]
 fn scripted_clients(rt: HostRuntime) -> Result<(), Fail> {
     let alloc = rt.alloc();
-    serve_all(&rt, alloc, Connection::open_in_memory(alloc)?)
+    serve_all(&rt, alloc, in_memory(alloc).ok_or("no store")?)
 }
