@@ -7,7 +7,7 @@ use Rattle.std.specs.declared.io.traits.Take.{Take}
 use Rattle.sqlite_trees.specs.declared.store.Store.{Ghosts}
 use Rattle.farm_keep.specs.KeeperState.{KeeperState}
 use Rattle.farm_desk.specs.Tasks.{ImportsFile}
-use Rattle.farm_desk.specs.declared.fault.DeskFault.{DeskFault}
+use Rattle.farm_serve.specs.declared.fault.DeskFault.{DeskFault}
 use Rattle.farm_desk.proofs.LineLemmas.{keeps_same}
 
 first_bytes : (known : Option (List ℕ)) (n : ℕ) (bytes : List ℕ) → IfSome (option_map (take n) known) (λ some. bytes ≡ some) → IfSome known (λ input. bytes ≡ take n input)

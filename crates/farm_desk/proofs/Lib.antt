@@ -1,13 +1,6 @@
-mod AnswerLemmas
-mod ReceivedLemmas
-mod ConverseLemmas
 mod ImportLemmas
 mod FileLemmas
 mod UpgradeLemmas
-mod ConversationLemmas
-mod PrefixLemmas
-mod ServingLemmas
-mod ConnectionLemmas
 mod LineLemmas
 mod PendingLemmas
 mod LabLemmas

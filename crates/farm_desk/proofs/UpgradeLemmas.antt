@@ -18,7 +18,7 @@ use Rattle.farm_keep.specs.First.{IsSoundFirst}
 use Rattle.farm_keep.specs.declared.fault.KeepFault.{KeepFault}
 use Rattle.farm_desk.specs.InFiles.{ShowsFiles}
 use Rattle.farm_desk.specs.Upgrades.{AreFirst, DeniesRaise, DeniesUpgrade, FilesHoldEither, RaisesFarm, RaisesTables}
-use Rattle.farm_desk.specs.declared.fault.DeskFault.{DeskFault}
+use Rattle.farm_serve.specs.declared.fault.DeskFault.{DeskFault}
 use Rattle.farm_desk.proofs.FileLemmas.{IsStanding, opens_tables, stands_on}
 
 -- ---- any store

@@ -1,24 +1,10 @@
--- The numbers of the desk's faults, and the program's exit statuses after them.
+-- The program's exit statuses.
 use Rattle.std.specs.Prelude.{◌==◌, ℕ, Result, Ok, Err, if◌then◌else◌}
-use Rattle.farm_types.specs.Refusals.{no_memory, read_fault, write_fault}
-use Rattle.farm_jobfile.specs.Reading.{file_fault_code}
 use Rattle.farm_jobfile.specs.declared.fault.FileFault.{FileFault}
-use Rattle.farm_keep.specs.Faults.{keep_fault_code}
 use Rattle.farm_wire.specs.Replies.{ok_status}
 use Rattle.farm_keep.specs.declared.fault.KeepFault.{KeepFault}
-use Rattle.farm_desk.specs.declared.fault.DeskFault.{DeskFault}
+use Rattle.farm_serve.specs.declared.fault.DeskFault.{DeskFault}
 use Rattle.farm_desk.specs.declared.orders.End.{End}
-
--- ---- the numbers
-
-abbrev pub desk_fault_code : DeskFault → ℕ
-desk_fault_code DeskFault.NoMemory = no_memory
-desk_fault_code DeskFault.Read = read_fault
-desk_fault_code DeskFault.Write = write_fault
-desk_fault_code (DeskFault.Keep fault) = keep_fault_code fault
-desk_fault_code (DeskFault.File fault) = file_fault_code fault
-
--- ---- the exit statuses
 
 -- the order was carried out
 abbrev pub done : ℕ

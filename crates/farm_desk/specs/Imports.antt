@@ -15,7 +15,8 @@ use Rattle.farm_types.specs.Reads.{FaultOrNoMemory}
 use Rattle.farm_jobfile.specs.Reading.{text_fault}
 use Rattle.farm_jobfile.specs.Lab.{entry_of, lab}
 use Rattle.farm_jobfile.specs.declared.fault.FileFault.{FileFault}
-use Rattle.farm_desk.specs.declared.fault.DeskFault.{DeskFault}
+use Rattle.farm_serve.specs.Serving.{Reaches}
+use Rattle.farm_serve.specs.declared.fault.DeskFault.{DeskFault}
 use Rattle.farm_desk.specs.declared.lab_import.ImportEnd.{ImportEnd}
 
 -- ---- how far it went
@@ -50,13 +51,6 @@ pub record IsCounted (F : Farm) (calls : List Call) (accepted kept : ℕ) : Type
   pub kept_are : kept ≡ count_by is_kept (answers_of F (take (accepted + kept) calls))
 
 -- ---- how it ended
-
--- the keeper has the farm after these calls, and its store keeps that farm
-pub record Reaches {S : Type 0} (g : Ghosts S) (old new : KeeperState S) (calls : List Call)
-    : Type 0 where
-  pub opened : new.is_open ≡ old.is_open
-  pub farm : new.farm.farm ≡ run old.farm.farm calls
-  pub keeps : KeepsOwnFarm g old → KeepsOwnFarm g new
 
 -- all calls were done
 pub record ImportsAll {S : Type 0} (g : Ghosts S) (old new : KeeperState S) (calls : List Call)

@@ -30,7 +30,7 @@ use Rattle.farm_keep.specs.Lives.{LeavesDone}
 use Rattle.farm_keep.specs.Versions.{LooksForFarm}
 use Rattle.farm_keep.specs.declared.fault.KeepFault.{KeepFault}
 use Rattle.farm_keep.specs.declared.keeper.run.RunEnd.{RunEnd}
-use Rattle.farm_desk.specs.declared.fault.DeskFault.{DeskFault}
+use Rattle.farm_serve.specs.declared.fault.DeskFault.{DeskFault}
 
 -- ---- what the files hold
 

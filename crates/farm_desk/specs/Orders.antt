@@ -14,13 +14,13 @@ use Rattle.farm_keep.specs.KeeperState.{KeeperState, KeepsOwnFarm}
 use Rattle.farm_keep.specs.declared.fault.KeepFault.{KeepFault}
 use Rattle.farm_cli.specs.declared.order.Database.{Database}
 use Rattle.farm_cli.specs.declared.order.Order.{Order}
-use Rattle.farm_desk.specs.Conversations.{Desk, desk}
+use Rattle.farm_serve.specs.Conversations.{Desk, desk}
 use Rattle.farm_desk.specs.InFiles.{FindsFarm, HasReason, IsOpenFault, LooksForFarmIn, MakesFarm}
 use Rattle.farm_desk.specs.Lines.{migrated_line, ready_line, PrintsLine}
 use Rattle.farm_desk.specs.Tasks.{DoesTask}
 use Rattle.farm_desk.specs.Upgrades.{HasUpgradeReason, IsUpgradeFault, LooksForFirstIn}
 use Rattle.farm_desk.specs.Upgrades.{RaisesFarm}
-use Rattle.farm_desk.specs.declared.fault.DeskFault.{DeskFault}
+use Rattle.farm_serve.specs.declared.fault.DeskFault.{DeskFault}
 use Rattle.farm_desk.specs.declared.orders.End.{End}
 use Rattle.farm_desk.specs.declared.orders.Task.{Task}
 

@@ -8,11 +8,12 @@ use Rattle.farm_cli.specs.Faults.{IsFaultAmong}
 use Rattle.farm_cli.specs.Orders.{form_of, order_in}
 use Rattle.farm_cli.specs.declared.fault.OrderFault.{OrderFault}
 use Rattle.farm_cli.specs.declared.order.Order.{Order}
-use Rattle.farm_desk.specs.Ends.{Writes}
-use Rattle.farm_desk.specs.Faults.{done, exit_status, desk_fault_code, order_status, wrong_words}
+use Rattle.farm_serve.specs.Ends.{Writes}
+use Rattle.farm_serve.specs.Faults.{desk_fault_code}
+use Rattle.farm_desk.specs.Faults.{done, exit_status, order_status, wrong_words}
 use Rattle.farm_desk.specs.Lines.{WritesPart, fault_line, error_line}
 use Rattle.farm_desk.specs.Orders.{Streams}
-use Rattle.farm_desk.specs.declared.fault.DeskFault.{DeskFault}
+use Rattle.farm_serve.specs.declared.fault.DeskFault.{DeskFault}
 use Rattle.farm_desk.specs.declared.orders.End.{End}
 
 -- words without a fault are read as the order that they name, and others as a fault of theirs

@@ -7,14 +7,15 @@ use Rattle.farm_types.specs.Farm.{Farm}
 use Rattle.farm_keep.specs.KeeperState.{KeeperState}
 use Rattle.farm_keep.specs.declared.fault.KeepFault.{KeepFault}
 use Rattle.farm_cli.specs.declared.order.Report.{Report}
-use Rattle.farm_desk.specs.Conversations.{AnswersOne, Desk}
-use Rattle.farm_desk.specs.Ends.{Writes}
+use Rattle.farm_serve.specs.Conversations.{Converses, Desk, IsComplete}
+use Rattle.farm_serve.specs.Ends.{Writes}
+use Rattle.farm_serve.specs.Serving.{ServesUntil}
+use Rattle.farm_serve.specs.declared.fault.DeskFault.{DeskFault}
+use Rattle.farm_desk.specs.Faults.{ended_order}
 use Rattle.farm_desk.specs.Imports.{IsImport}
 use Rattle.farm_desk.specs.LabFiles.{IsTextOf}
 use Rattle.farm_desk.specs.Lines.{PrintsImport, port_line}
 use Rattle.farm_desk.specs.Reports.{Reports, seconds_ahead}
-use Rattle.farm_desk.specs.Serving.{ServesUntil}
-use Rattle.farm_desk.specs.declared.fault.DeskFault.{DeskFault}
 use Rattle.farm_desk.specs.declared.lab_import.ImportEnd.{ImportEnd}
 use Rattle.farm_desk.specs.declared.orders.End.{End}
 use Rattle.farm_desk.specs.declared.orders.Task.{Task}
@@ -25,6 +26,14 @@ pub record DoesNothing {S : Type 0} (old new : KeeperState S) (held holds : Opti
   pub fault_is : result ≡ Err fault
   pub unchanged : new ≡ old
   pub nothing_written : Keeps held holds
+
+-- one conversation at this moment: the order ends as the conversation does
+pub record AnswersOne {S : Type 0} (g : Ghosts S) (old new : Desk S) (now : ℕ) (Sure : Type 0)
+    (Room : ℕ → Type 0) (result : Result End DeskFault) : Type 0 where
+  pub end : Result ℕ DeskFault
+  pub converses : Converses g old new now end
+  pub complete : IsComplete g old new now Sure Room end
+  pub ends : result ≡ ended_order end
 
 -- a lab file's text is imported at that moment, and what was done is printed
 pub record ImportsText {S : Type 0} (g : Ghosts S) (Room : ℕ → Type 0) (lab : Option (List ℕ))

@@ -18,7 +18,7 @@ use Rattle.farm_keep.specs.Headline.{IsAlwaysClean}
 use Rattle.farm_keep.specs.Versions.{LooksForFirst}
 use Rattle.farm_keep.specs.declared.fault.KeepFault.{KeepFault}
 use Rattle.farm_desk.specs.InFiles.{HoldsFarm, HoldsTables, LooksIn, OpensTables}
-use Rattle.farm_desk.specs.declared.fault.DeskFault.{DeskFault}
+use Rattle.farm_serve.specs.declared.fault.DeskFault.{DeskFault}
 
 -- ---- the files
 

@@ -13,10 +13,10 @@ ghost use Rattle.farm_desk.specs.Upgrades.{DeniesRaise, HasUpgradeReason, IsUpgr
 ghost use Rattle.farm_desk.specs.Upgrades.{LooksForFirstIn};
 ghost use Rattle.farm_desk.specs.Upgrades.{RaisesFarm, RaisesTables};
 
-use crate::fault::DeskFault;
 use crate::new_file::NewFile;
 use crate::preflight::Preflight;
 use farm_keep::{KeepFault, Keeper, migrate};
+use farm_serve::DeskFault;
 use farm_store::opened_stands;
 use sqlite::{Alter, Connection, FileFrom, FileStore, Start};
 use sqlite_disk::Disk;

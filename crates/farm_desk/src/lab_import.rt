@@ -8,9 +8,9 @@ ghost use Rattle.sqlite_trees.specs.View.{doubt};
 ghost use Rattle.farm_desk.specs.Imports.{IsImport, DoesCalls};
 ghost use Rattle.farm_desk.specs.LabFiles.{IsTextOf};
 
-use crate::fault::DeskFault;
 use farm_jobfile::lab_of;
 use farm_keep::Keeper;
+use farm_serve::DeskFault;
 use farm_types::{Answer, Call, LONGEST_LAB_FILE, Refusal};
 use sqlite::Alter;
 use std::alloc::Global;

@@ -1,28 +1,27 @@
 //! Carrying out an order: its files are opened or made, its task done, and what it did printed.
 ghost use Rattle.std.specs.Prelude.{◌≡◌, None};
 ghost use Rattle.sqlite_wal.specs.Files.{image_at};
-ghost use Rattle.farm_desk.specs.Conversations.{AnswersOne, desk};
+ghost use Rattle.farm_serve.specs.Conversations.{desk};
 ghost use Rattle.farm_desk.specs.Lines.{counts_line, port_line, ready_line, PrintsLine, PrintsImport};
 ghost use Rattle.farm_desk.specs.Orders.{streams, DoesInFiles, DoesInMemory, DoesOrder};
 ghost use Rattle.farm_desk.specs.Orders.{DoesWhileThere, Inits, MigratesFile, OpensMemory};
 ghost use Rattle.farm_desk.specs.Orders.{PrintsIfDone};
-ghost use Rattle.farm_desk.specs.Tasks.{DoesTask, ImportsFile, PrintsReportOf, ServesIfListening};
+ghost use Rattle.farm_desk.specs.Tasks.{AnswersOne, DoesTask, ImportsFile, PrintsReportOf};
+ghost use Rattle.farm_desk.specs.Tasks.{ServesIfListening};
 ghost use Rattle.farm_desk.specs.Waiting.{IsLocal};
 ghost use Rattle.farm_keep.specs.KeeperState.{KeeperState};
 
-use crate::conversation::converse;
-use crate::fault::DeskFault;
 use crate::files::{make_farm, make_new_farm, migrate_farm, open_farm};
 use crate::lab_import::{ImportEnd, LabFiles, import, lab_fault, read_lab};
 use crate::new_file::NewFile;
 use crate::open_files::OpenFiles;
 use crate::report::{report_text, zone_between};
-use crate::serving;
 use crate::socket_clients::SocketClients;
 use arrayvec::ArrayString;
 use farm_cli::{Database, Order, Report};
 use farm_http::{Input, Output};
 use farm_keep::{KeepFault, Keeper};
+use farm_serve::{DeskFault, converse};
 use farm_types::Refusal;
 use farm_wire::{OK, write_whole};
 use itoa::Buffer;
@@ -369,7 +368,7 @@ fn serve<W: Output, S: Alter>(
     };
     print_line(output, port_line(port).as_bytes())?;
     let mut clients = SocketClients::new(rt.alloc(), &listener, max, rt, files);
-    serving::serve(rt.alloc(), keeper, &mut clients, max)?;
+    farm_serve::serve(rt.alloc(), keeper, &mut clients, max)?;
     Ok(End::Done)
 }
 

@@ -1,18 +1,12 @@
-//! Serving one client after another: of a listener, or of any other list of clients.
-ghost use Rattle.std.specs.Prelude.{◌≡◌, ◌≤◌, ◌↔◌, true, false, Err, IsOk, Result};
+//! Serving the clients of a listener.
+ghost use Rattle.std.specs.Prelude.{◌≡◌, ◌≤◌, ◌↔◌, false, Err, Result};
 ghost use Rattle.sqlite.specs.Held.{state};
 ghost use Rattle.sqlite_trees.specs.View.{doubt};
-ghost use Rattle.farm_desk.specs.Conversations.{ConversesOnce, desk};
-ghost use Rattle.farm_desk.specs.Serving.{ServesUntil, PassesOn};
-ghost use Rattle.farm_desk.specs.Connections.{ServesInTurn};
+ghost use Rattle.farm_serve.specs.Serving.{ServesUntil};
 
-use crate::clients::Clients;
-use crate::conversation::Context;
-use crate::fault::DeskFault;
 use crate::socket_clients::SocketClients;
-use farm_http::{Input, Output};
 use farm_keep::{KeepFault, Keeper};
-use farm_wire::{CountedReader, CountedWriter, Routes};
+use farm_serve::{DeskFault, serve};
 use sqlite::Alter;
 use std::alloc::Global;
 use std::net::{Net, TcpListener};
@@ -20,12 +14,8 @@ use std::time::Clock;
 
 /// Takes that many connections in turn; of each it reads one request, answers it as `converse`
 /// does, and closes it. The moment of a request is the clock's once it is complete, in whole
-/// seconds since 1970-01-01 00:00:00 UTC.
-///
-/// A failed accept counts as a connection. A fault that leaves the keeper open ends its connection
-/// alone: a client that goes away or is too slow, want of memory outside the keeper, the clock's. A
-/// keeper that is closed ends the serving with its fault, 1 or 60, once its client was answered;
-/// one that was closed before ends it with 61 at once, and nobody is answered.
+/// seconds since 1970-01-01 00:00:00 UTC. It is `serve` over the listener's clients: a failed
+/// accept counts as a connection, and a clock that fails ends its connection alone.
 ///
 /// Connections are served one at a time, those first whose requests are complete, in the order in
 /// which they came. Up to 1,024 wait aside until all bytes of their requests came, for
@@ -35,12 +25,11 @@ use std::time::Clock;
 /// and for nothing else.
 ///
 /// The clauses say what becomes of the farm and of its store. That anybody was served they don't
-/// say: nothing can be said of what a socket sends and takes. It is `serve` over the listener's
-/// clients, and `serve` says it of scripted ones.
+/// say: nothing can be said of what a socket sends and takes. `serve` says it of scripted clients.
 ///
-/// Costs building a router of seventeen paths, once, and for each connection an accept, a peek for
-/// each time that bytes of its request came, one read, one write where the answer is taken whole, a
-/// dozen short calls of the system, and what its command or view costs.
+/// Costs what `serve` does, and for each connection an accept, a peek for each time that bytes of
+/// its request came, one read, one write where the answer is taken whole, and a dozen short calls
+/// of the system.
 pub fn serve_on<S: Alter, C: Clock + Net>(
     alloc: Global,
     keeper: &mut Keeper<S>,
@@ -48,12 +37,8 @@ pub fn serve_on<S: Alter, C: Clock + Net>(
     max: u64,
     clock: &C,
 ) -> Result<(), DeskFault>
-    // The farm is the machine's after some calls, at most one a connection, and the store keeps it.
-    // The fault is the keeper's: with 1 the store keeps the farm before the call that closed it,
-    // with 60 a stop leaves that farm or the one after it.
+    // The farm and its store are then as `serve` says.
     ensures serves { ServesUntil S.Store keeper.old keeper.new max result }
-
-    // 61 comes where the keeper was closed before, and only there.
     ensures closed { (result ≡ Err (DeskFault.Keep KeepFault.Closed))
         ↔ (keeper.old.is_open ≡ false) }
     ensures clean { doubt (state S.Store keeper.old.conn).is_clean ≤ doubt
@@ -63,95 +48,4 @@ pub fn serve_on<S: Alter, C: Clock + Net>(
     let ended = serve(alloc, keeper, &mut clients, max);
     let _ = listener.set_nonblocking(false);
     ended
-}
-
-/// Serves that many clients in turn: of each it reads one request at the moment that comes with it,
-/// answers it as `converse` does, and closes it. It ends as `serve_on` does; that one
-/// serves the clients of a listener.
-pub fn serve<S: Alter, K: Clients>(
-    alloc: Global,
-    keeper: &mut Keeper<S>,
-    clients: &mut K,
-    max: u64,
-) -> Result<(), DeskFault>
-    // The next clients, as far as they are known, were conversed with in their order, each at its
-    // moment, over what it sent and what it was written. Where readers never fail each is received,
-    // and one whose writer has room for its answer gets it whole.
-    ensures connections { ServesInTurn S.Store K.Reader.never_fails (K.client_list clients.old)
-        (K.client_list clients.new) keeper.old keeper.new max (IsOk result) }
-
-    // The farm and its store are then as `serve_on` says.
-    ensures serves { ServesUntil S.Store keeper.old keeper.new max result }
-    ensures closed { (result ≡ Err (DeskFault.Keep KeepFault.Closed))
-        ↔ (keeper.old.is_open ≡ false) }
-    ensures clean { doubt (state S.Store keeper.old.conn).is_clean ≤ doubt
-        (state S.Store keeper.new.conn).is_clean }
-{
-    if keeper.farm().is_none() {
-        return Err(DeskFault::Keep(KeepFault::Closed));
-    }
-    let context = Context::new(alloc, Routes::new(alloc).ok());
-    for _ in 0..max {
-        if clients.is_over() {
-            return Ok(());
-        }
-        context.serve_next(keeper, clients)?;
-    }
-    Ok(())
-}
-
-impl Context {
-    /// Serves the next client, if there is one.
-    fn serve_next<S: Alter, K: Clients>(
-        &self,
-        keeper: &mut Keeper<S>,
-        clients: &mut K,
-    ) -> Result<(), DeskFault>
-        requires { keeper.old.is_open ≡ true }
-        ensures connections { ServesInTurn S.Store K.Reader.never_fails (K.client_list clients.old)
-            (K.client_list clients.new) keeper.old keeper.new 1 (IsOk result) }
-        ensures serves { ServesUntil S.Store keeper.old keeper.new 1 result }
-        ensures clean { doubt (state S.Store keeper.old.conn).is_clean ≤ doubt
-            (state S.Store keeper.new.conn).is_clean }
-    {
-        let Some(mut client) = clients.next() else {
-            return Ok(());
-        };
-        let ended = self.serve_one(keeper, &mut client.reader, &mut client.writer, client.now);
-        clients.close(client.reader, client.writer);
-        ended
-    }
-
-    /// Answers one request as `converse` does, and returns the keeper's fault where that closed it,
-    /// also where the answer was lost.
-    fn serve_one<R: Input, W: Output, S: Alter>(
-        &self,
-        keeper: &mut Keeper<S>,
-        reader: &mut R,
-        writer: &mut W,
-        now: u64,
-    ) -> Result<(), DeskFault>
-        requires { keeper.old.is_open ≡ true }
-        ensures converses { ConversesOnce S.Store
-            (desk keeper.old (R.remaining reader.old) (W.contents writer.old))
-            (desk keeper.new (R.remaining reader.new) (W.contents writer.new)) now
-            R.never_fails (W.has_room writer.old) }
-        ensures serves { ServesUntil S.Store keeper.old keeper.new 1 result }
-        ensures clean { doubt (state S.Store keeper.old.conn).is_clean ≤ doubt
-            (state S.Store keeper.new.conn).is_clean }
-    {
-        let mut reader = CountedReader::new(reader);
-        let mut writer = CountedWriter::new(writer);
-        pass_on(self.converse(keeper, &mut reader, &mut writer, now))
-    }
-}
-
-/// The keeper's fault, where a conversation ended with one.
-fn pass_on(end: Result<u16, DeskFault>) -> Result<(), DeskFault>
-    ensures { PassesOn end result }
-{
-    match end {
-        Err(DeskFault::Keep(fault)) => Err(DeskFault::Keep(fault)),
-        _ => Ok(()),
-    }
 }

@@ -2,10 +2,10 @@
 //! take nothing is known.
 ghost use Rattle.std.specs.Prelude.{◌≡◌, false, None, ⊤};
 
-use crate::clients::{Client, Clients};
 use crate::deadline_stream::{ClientStream, DeadlineStream};
 use crate::open_files::OpenFiles;
 use crate::pending::Pending;
+use farm_serve::{Client, Clients};
 use farm_wire::{no_memory_answer, store_answer};
 use std::alloc::Global;
 use std::io::BufReader;

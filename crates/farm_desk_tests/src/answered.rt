@@ -1,9 +1,9 @@
 //! Conversations over readers and writers that give and take little, or fail.
+use crate::stores::{in_memory, made};
 use farm_desk::{DeskFault, Input, Output, converse_counted};
 use farm_keep::Keeper;
 use farm_tests::fakes::{Interrupted, Narrow, Slow, Tally};
 use farm_tests::sent::{FIRST_TYPE, request};
-use farm_tests::stores::{in_memory, made};
 use farm_wire::{CountedReader, CountedWriter};
 use sqlite::{Alter, Connection};
 use std::alloc::{AllocError, Global};

@@ -2,7 +2,7 @@
 use Rattle.std.proofs.Common.{◌≡◌, ◌≤◌, ◌<◌, ◌+◌, length, arith, sym, ◌∙◌, subst}
 use Rattle.std.specs.Prelude.{Some, None}
 use Rattle.farm_core.specs.Answers.{answer_of}
-use Rattle.farm_desk.specs.declared.fault.DeskFault.{DeskFault}
+use Rattle.farm_serve.specs.declared.fault.DeskFault.{DeskFault}
 use Rattle.farm_desk.specs.declared.lab_import.ImportEnd.{ImportEnd}
 use Rattle.farm_desk.specs.Imports.{DoesCalls, EndsBy}
 use Rattle.farm_desk.proofs.ImportLemmas.{counts_on, counts_out, farm_after, faulted_at, unchanged_when_denied, stopped_at, whole_at}

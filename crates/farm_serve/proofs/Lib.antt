@@ -1,0 +1,7 @@
+mod AnswerLemmas
+mod ReceivedLemmas
+mod ConverseLemmas
+mod ConversationLemmas
+mod PrefixLemmas
+mod ServingLemmas
+mod ConnectionLemmas

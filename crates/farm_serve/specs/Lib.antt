@@ -1,0 +1,11 @@
+pub mod Faults
+pub mod Received
+pub mod Answers
+pub mod Response
+pub mod Ends
+pub mod Encoding
+pub mod Serving
+pub mod Conversations
+pub mod Clients
+pub mod Connections
+pub mod Scripts
