@@ -41,7 +41,7 @@ const ROOT: usize = 100;
 const LEAF: u8 = 13;
 
 /// What there is at a path.
-#[derive(Clone, Copy, Debug, PartialEq, Eq)]
+#[derive(Clone, Copy, PartialEq, Eq)]
 enum PathState {
     /// No file and no folder.
     Nothing,
@@ -54,7 +54,7 @@ enum PathState {
 }
 
 /// The paths of a farm's file and of its log, and what there was before the store was opened.
-#[derive(Debug, Drop)]
+#[derive(Drop)]
 pub(crate) struct Preflight<'a> {
     /// The path of the file.
     pub(crate) file: &'a str,
