@@ -1,11 +1,14 @@
 #!/usr/bin/env python3
 """waves.py [CRATE | CRATE/EDIT ..]: tries the wrong bodies crates/NAME/wrong/*.edit, many in one check.
-waves.py --read: only reads them, within a second: each has to be the text of one function, and to apply once.
+waves.py --read: only reads them, within a second: each has to be the text of one function, or of a constant under
+a law, and to apply once.
 
 An edit has the form of a must-fail edit of rt ci: a line 'file: src/..', then pairs of lines 'old: TEXT' and
 'new: TEXT', each old text once in the file. All of an edit lies in one function. rt ci checks a crate once for
 each edit in must-fail/. Here a copy of the crate gets many edits at once, at most one a function, and the check
 reads only the edited functions and what they call: that is a wave. Two edits of one function go into two waves.
+An edit of a constant lies in no function: its line 'law: PATH' names the function in the crate that has to fail,
+and it is tried alone, since other functions may fail for it too.
 
 An edit is refused where its function is not proved and an error stands at the function's own lines or in its own
 proof files. What calls an edited function stays unproved too, but has no error of its own, so no edit passes for
@@ -37,14 +40,32 @@ class BadEdit(Exception):
 
 
 class Edit(NamedTuple):
-    """A wrong body: its name, the function that it changes, and its new lines by file and number."""
+    """A wrong body: its name, the function that has to fail, its new lines by file and number, and whether it is
+    tried alone."""
 
     name: str
     function: Function
     lines: dict
+    is_alone: bool = False
 
 
 # --- edits and waves ---
+
+
+LAW = re.compile(r"(?m)^law: (\S+)$")
+
+
+def law_of(crate, file, sources):
+    """Returns the function that an edit's line 'law: PATH' names, None without such a line, or raises BadEdit."""
+    with open(file, encoding="utf-8") as it:
+        said = LAW.search(it.read())
+    if not said:
+        return None
+    for path, text in sources.items():
+        for function in functions_of(crate.name, path, text, modules_of_types(sources)):
+            if function.name == f"{crate.name}::{said[1]}":
+                return function
+    raise BadEdit(f"there is no function {said[1]}")
 
 
 def read_edit(crate, file, sources):
@@ -64,17 +85,20 @@ def read_edit(crate, file, sources):
             if old != new:
                 lines[path, at] = new
                 touched.add(next((it for it in reversed(functions) if it.has(path, at)), None))
-    if len(touched) != 1 or None in touched:
-        raise BadEdit("what it changes is not the text of one function")
-    return Edit(os.path.basename(file).removesuffix(".edit"), touched.pop(), lines)
+    name, law = os.path.basename(file).removesuffix(".edit"), law_of(crate, file, sources)
+    if law and touched == {None}:
+        return Edit(name, law, lines, is_alone=True)
+    if law or len(touched) != 1 or None in touched:
+        raise BadEdit("what it changes is not the text of one function, or of none under a law")
+    return Edit(name, touched.pop(), lines)
 
 
 def waves_of(edits):
     """Returns the edits in as few waves as can be with at most one edit a function in each."""
     waves = []
     for edit in edits:
-        wave = next((it for it in waves if all(edit.function != other.function for other in it)), None)
-        if wave is None:
+        wave = next((it for it in waves if all(edit.function != other.function for other in it) and not it[0].is_alone), None)
+        if wave is None or edit.is_alone:
             waves.append([edit])
         else:
             wave.append(edit)

@@ -132,6 +132,24 @@ class Edits(unittest.TestCase):
         with self.assertRaisesRegex(waves.BadEdit, "not the text of one function"):
             self.read("file: src/heap.rt\nold:         1\nnew:         2\nold:     WIDTH\nnew:     2\n")
 
+    def test_a_constant_is_tried_under_a_law(self):
+        edit = self.read("law: heap::width\nfile: src/heap.rt\nold: usize = 4;\nnew: usize = 5;\n")
+        self.assertEqual((edit.function.name, edit.is_alone), ("shed::heap::width", True))
+        self.assertEqual(edit.lines, {("src/heap.rt", 29): "const WIDTH: usize = 5;"})
+
+    def test_a_law_has_to_be_there_and_its_edit_outside_of_functions(self):
+        with self.assertRaisesRegex(waves.BadEdit, "no function heap::height"):
+            self.read("law: heap::height\nfile: src/heap.rt\nold: usize = 4;\nnew: usize = 5;\n")
+        with self.assertRaisesRegex(waves.BadEdit, "not the text of one function"):
+            self.read("law: heap::width\nfile: src/heap.rt\nold:         1\nnew:         2\n")
+
+    def test_an_edit_of_a_constant_has_a_wave_of_its_own(self):
+        constant = self.read("law: heap::width\nfile: src/heap.rt\nold: usize = 4;\nnew: usize = 5;\n")
+        first = self.read("file: src/heap.rt\nold:         1\nnew:         2\n")
+        other = self.read("file: src/heap.rt\nold: held.heap()\nnew: held\n")
+        self.assertEqual(waves.waves_of([constant, first, other]), [[constant], [first, other]])
+        self.assertEqual(waves.waves_of([first, constant, other]), [[first, other], [constant]])
+
     def test_one_function_has_one_edit_in_a_wave(self):
         first = self.read("file: src/heap.rt\nold:         1\nnew:         2\n")
         other = self.read("file: src/heap.rt\nold: held.heap()\nnew: held\n")

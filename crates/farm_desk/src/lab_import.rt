@@ -70,7 +70,7 @@ pub(crate) fn lab_fault(error: &io::Error) -> DeskFault
 }
 
 /// How far an import went.
-#[derive(Debug, Drop)]
+#[derive(Debug, Default, Drop)]
 pub struct ImportEnd {
     /// The number of commands that were accepted.
     pub accepted: usize,
@@ -115,10 +115,8 @@ pub fn import<S: Alter>(alloc: Global, keeper: &mut Keeper<S>, text: &[u8], now:
     match lab_of(alloc, text, now) {
         Ok(calls) => do_calls(keeper, calls.as_slice()),
         Err(fault) => ImportEnd {
-            accepted: 0,
-            kept: 0,
-            stopped: None,
             fault: Some(DeskFault::File(fault)),
+            ..ImportEnd::default()
         },
     }
 }
@@ -129,12 +127,7 @@ fn do_calls<S: Alter>(keeper: &mut Keeper<S>, calls: &[Call]) -> ImportEnd
     ensures clean { doubt (state S.Store keeper.old.conn).is_clean ≤ doubt
         (state S.Store keeper.new.conn).is_clean }
 {
-    let mut end = ImportEnd {
-        accepted: 0,
-        kept: 0,
-        stopped: None,
-        fault: None,
-    };
+    let mut end = ImportEnd::default();
     for call in calls {
         match keeper.act(call) {
             Ok(answer) => {

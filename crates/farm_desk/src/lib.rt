@@ -4,8 +4,8 @@
 //! converses with one client after another, as farm_serve says; `serve_on` serves the clients of a
 //! listener; `import` adds what a lab file lists; `program` is the program `farm`.
 //!
-//! Read `src/` in the order lab_import; serving, socket_clients with pending and deadline_stream;
-//! new_file, preflight, files, open_files; report, orders, command_line; laws.
+//! Read `src/` in the order lab_import; pending, deadline_stream, socket_clients; new_file,
+//! preflight, files, open_files; report, orders, command_line; laws.
 //!
 //! Read `specs/` in the order Imports, LabFiles, what an import is; Pending, Waiting, who is served
 //! next; Preflight, NewFile, InFiles, Upgrades, which farm files hold; Faults, Lines, Reports, what the
@@ -23,15 +23,17 @@ mod orders;
 mod pending;
 mod preflight;
 mod report;
-mod serving;
 mod socket_clients;
 
-// Conversations: with one client, and with one after another.
+// Conversations with one client, and with one after another; what ends them; and what is proved of
+// them, functions that only proofs read.
 pub use farm_serve::{
     Client, Clients, DeskFault, Input, Output, ScriptedClient, ScriptedClients, ServedClient,
-    converse, converse_counted, serve,
+    answered_act_as_run, conversations_join, conversations_keep_a_prefix, converse,
+    converse_counted, converse_in_memory, converse_in_turn, request_answered_again, serve,
+    serve_in_memory,
 };
-pub use serving::serve_on;
+pub use socket_clients::serve_on;
 
 // A lab file's commands, done by a keeper.
 pub use lab_import::{ImportEnd, import};
@@ -49,8 +51,4 @@ pub use lab_import::LabFiles;
 pub use orders::{End, carry_out, carry_out_from};
 
 // What is proved of desks: functions that only proofs read.
-pub use farm_serve::{
-    answered_act_as_run, conversations_join, conversations_keep_a_prefix, converse_in_memory,
-    converse_in_turn, request_answered_again, serve_in_memory,
-};
 pub use laws::{statuses_agree, stopped_files_hold, upgraded_files_hold};
