@@ -1,4 +1,3 @@
-mod ImportLemmas
 mod FileLemmas
 mod UpgradeLemmas
 mod LineLemmas

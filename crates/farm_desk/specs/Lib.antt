@@ -1,5 +1,4 @@
 pub mod Faults
-pub mod Imports
 pub mod LabFiles
 pub mod InFiles
 pub mod Upgrades

@@ -7,7 +7,7 @@ use Rattle.farm_types.specs.declared.refusal.Refusal.{Refusal}
 use Rattle.farm_serve.specs.Ends.{Writes}
 use Rattle.farm_serve.specs.Faults.{desk_fault_code}
 use Rattle.farm_serve.specs.declared.fault.DeskFault.{DeskFault}
-use Rattle.farm_desk.specs.declared.lab_import.ImportEnd.{ImportEnd}
+use Rattle.farm_serve.specs.declared.lab_import.ImportEnd.{ImportEnd}
 use Rattle.farm_desk.specs.declared.orders.End.{End}
 
 -- so many commands of a lab file were accepted, and so many had been before

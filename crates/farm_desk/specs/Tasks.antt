@@ -12,11 +12,11 @@ use Rattle.farm_serve.specs.Ends.{Writes}
 use Rattle.farm_serve.specs.Serving.{ServesUntil}
 use Rattle.farm_serve.specs.declared.fault.DeskFault.{DeskFault}
 use Rattle.farm_desk.specs.Faults.{ended_order}
-use Rattle.farm_desk.specs.Imports.{IsImport}
+use Rattle.farm_serve.specs.Imports.{IsImport}
 use Rattle.farm_desk.specs.LabFiles.{IsTextOf}
 use Rattle.farm_desk.specs.Lines.{PrintsImport, port_line}
 use Rattle.farm_desk.specs.Reports.{Reports, seconds_ahead}
-use Rattle.farm_desk.specs.declared.lab_import.ImportEnd.{ImportEnd}
+use Rattle.farm_serve.specs.declared.lab_import.ImportEnd.{ImportEnd}
 use Rattle.farm_desk.specs.declared.orders.End.{End}
 use Rattle.farm_desk.specs.declared.orders.Task.{Task}
 

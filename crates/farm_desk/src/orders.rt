@@ -12,7 +12,7 @@ ghost use Rattle.farm_desk.specs.Waiting.{IsLocal};
 ghost use Rattle.farm_keep.specs.KeeperState.{KeeperState};
 
 use crate::files::{make_farm, make_new_farm, migrate_farm, open_farm};
-use crate::lab_import::{ImportEnd, LabFiles, import, lab_fault, read_lab};
+use crate::lab_files::{LabFiles, lab_fault, read_lab};
 use crate::new_file::NewFile;
 use crate::open_files::OpenFiles;
 use crate::report::{report_text, zone_between};
@@ -21,7 +21,7 @@ use arrayvec::ArrayString;
 use farm_cli::{Database, Order, Report};
 use farm_http::{Input, Output};
 use farm_keep::{KeepFault, Keeper};
-use farm_serve::{DeskFault, converse};
+use farm_serve::{DeskFault, ImportEnd, converse, import};
 use farm_types::Refusal;
 use farm_wire::{OK, write_whole};
 use itoa::Buffer;

@@ -1,10 +1,9 @@
 //! Serving connections: clients on 127.0.0.1, whose connections wait in the system's queue until
 //! the desk takes them.
-use crate::answered::DONE;
-use crate::stores::{in_memory, made, opened, stopping};
 use farm_desk::{DeskFault, serve_on};
 use farm_keep::{KeepFault, Keeper};
-use farm_tests::sent::FIRST_TYPE;
+use farm_tests::sent::{DONE, FIRST_TYPE};
+use farm_tests::stores::{in_memory, made, opened, stopping};
 use sqlite::{Alter, Connection, Files};
 use sqlite_disk::Disk;
 use std::alloc::Global;

@@ -3,9 +3,9 @@
 use crate::script::{Deed, Step};
 use crate::text::{first_word, shown};
 use farm_core::Farm;
-use farm_desk::{DeskFault, ImportEnd, Input, Output, converse, import};
 use farm_keep::{KeepFault, Keeper};
 use farm_report::{boards_text, queue_text, reservations_text, zone_of};
+use farm_serve::{DeskFault, ImportEnd, Input, Output, converse, import};
 use sqlite::{Alter, Connection};
 use std::alloc::{AllocError, Global};
 

@@ -5,3 +5,4 @@ mod ConversationLemmas
 mod PrefixLemmas
 mod ServingLemmas
 mod ConnectionLemmas
+mod ImportLemmas

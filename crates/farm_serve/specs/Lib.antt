@@ -9,3 +9,4 @@ pub mod Conversations
 pub mod Clients
 pub mod Connections
 pub mod Scripts
+pub mod Imports

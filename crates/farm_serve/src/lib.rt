@@ -1,17 +1,21 @@
-//! Conversations with clients: a request's bytes are read, what it asks is done by a keeper or shown
-//! of its farm, and one answer is written.
+//! What a keeper is asked from outside. A conversation: a request's bytes are read, what it asks is
+//! done by the keeper or shown of its farm, and one answer is written. An import: the keeper does
+//! what a lab file's text lists.
 //!
-//! `converse` converses once; `serve` with one client after another, wherever they come from.
+//! `converse` converses once, `serve` with one client after another, wherever they come from;
+//! `import` adds what a lab file lists.
 //!
-//! Read `src/` in the order fault, answer, conversation; clients, serving, scripted_clients; laws.
-//! Read `specs/` in the order Faults, Received, Answers, Encoding, Response, Ends, which say what a
-//! conversation is; Serving, Conversations, Clients, Scripts, Connections, what several are.
+//! Read `src/` in the order fault, answer, conversation; lab_import; clients, serving,
+//! scripted_clients; laws. Read `specs/` in the order Faults, Received, Answers, Encoding, Response,
+//! Ends, which say what a conversation is; Serving, Conversations, Clients, Scripts, Connections, what
+//! several are; Imports, what an import is.
 #![tactic(auto)]
 
 mod answer;
 mod clients;
 mod conversation;
 mod fault;
+mod lab_import;
 mod laws;
 mod scripted_clients;
 mod serving;
@@ -19,6 +23,9 @@ mod serving;
 // One conversation: a request, what it asks, and its answer.
 pub use conversation::{converse, converse_counted};
 pub use farm_http::{Input, Output};
+
+// A lab file's commands, done by a keeper.
+pub use lab_import::{ImportEnd, import};
 
 // Conversations with one client after another.
 pub use clients::{Client, Clients};

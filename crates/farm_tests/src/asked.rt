@@ -1,15 +1,21 @@
 //! Calls as requests spell them.
+use crate::requests::read;
 use crate::sent::request;
-use farm_http::read_request;
 use farm_types::Call;
 use farm_wire::Ask;
 use std::alloc::Global;
 use std::test::Fail;
 
 /// The call that a request asks for at a moment.
-pub fn call(alloc: Global, now: u64, who: &str, line: &str, body: &str) -> Result<Call, Fail> {
+pub(crate) fn call(
+    alloc: Global,
+    now: u64,
+    who: &str,
+    line: &str,
+    body: &str,
+) -> Result<Call, Fail> {
     let bytes = request(alloc, who, line, body)?;
-    let taken = read_request(alloc, &mut bytes.as_bytes())?;
+    let taken = read(alloc, &mut bytes.as_bytes())?;
     match Ask::of(alloc, &taken, now) {
         Ok(Ask::Call(call)) => Ok(call),
         _ => Err(Fail::new("no call")),

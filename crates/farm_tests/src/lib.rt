@@ -1,13 +1,20 @@
-//! Tests of the public calls that cross crates and need no store, and of what no contract says; and
-//! what the tests over a store share with them.
+//! Tests of the public calls that cross crates below the desk, and of what no contract says, and of
+//! conversations over readers and writers that fail; and what the desk's tests share with them.
 #![tactic(auto)]
 
-pub mod asked;
+#[cfg(test)]
+mod answered;
+#[cfg(test)]
+mod asked;
 #[cfg(test)]
 mod copies;
+#[cfg(test)]
+mod created;
 pub mod fakes;
 #[cfg(test)]
 mod files;
+#[cfg(test)]
+mod fourteen;
 #[cfg(test)]
 mod full;
 #[cfg(test)]
@@ -15,14 +22,22 @@ mod heads;
 #[cfg(test)]
 mod picks;
 #[cfg(test)]
+mod puts;
+#[cfg(test)]
 mod queues;
 #[cfg(test)]
 mod readers;
 #[cfg(test)]
 mod requests;
-pub mod rows;
+#[cfg(test)]
+mod rows;
 #[cfg(test)]
 mod search;
 pub mod sent;
+#[cfg(test)]
+mod served;
+pub mod stores;
+#[cfg(test)]
+mod tables;
 #[cfg(test)]
 mod written;

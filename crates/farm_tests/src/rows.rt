@@ -7,23 +7,23 @@ use farm_types::{
 };
 use std::alloc::Global;
 
-pub fn name(alloc: Global, text: &str) -> Result<Name, WordFault> {
+pub(crate) fn name(alloc: Global, text: &str) -> Result<Name, WordFault> {
     Name::parse(alloc, text.as_bytes())
 }
 
 /// Tags of their canonical text.
-pub fn tags(alloc: Global, text: &str) -> Result<Tags, WordFault> {
+pub(crate) fn tags(alloc: Global, text: &str) -> Result<Tags, WordFault> {
     Tags::parse(alloc, text.as_bytes())
 }
 
 /// A device type.
-pub fn type_row(alloc: Global, called: &str, check: Check) -> Result<TypeRow, WordFault> {
+pub(crate) fn type_row(alloc: Global, called: &str, check: Check) -> Result<TypeRow, WordFault> {
     let name = name(alloc, called)?;
     Ok(TypeRow { name, check })
 }
 
 /// A Good board of type `bbb` that nobody holds.
-pub fn board(alloc: Global, called: &str, texts: &str) -> Result<BoardRow, WordFault> {
+pub(crate) fn board(alloc: Global, called: &str, texts: &str) -> Result<BoardRow, WordFault> {
     let name = name(alloc, called)?;
     let kind = Name::parse(alloc, b"bbb")?;
     let tags = tags(alloc, texts)?;
@@ -33,14 +33,14 @@ pub fn board(alloc: Global, called: &str, texts: &str) -> Result<BoardRow, WordF
 }
 
 /// A want of type `bbb`.
-pub fn want(alloc: Global, texts: &str) -> Result<Want, WordFault> {
+pub(crate) fn want(alloc: Global, texts: &str) -> Result<Want, WordFault> {
     let kind = Some(name(alloc, "bbb")?);
     let tags = tags(alloc, texts)?;
     Ok(Want { kind, tags })
 }
 
 /// An ordinary job of ann's for any board of type `bbb`.
-pub fn job(
+pub(crate) fn job(
     alloc: Global,
     number: u64,
     group: u64,
@@ -58,7 +58,7 @@ pub fn job(
 }
 
 /// A farm without rows.
-pub fn no_rows(alloc: Global, next: u64) -> Rows {
+pub(crate) fn no_rows(alloc: Global, next: u64) -> Rows {
     let meta = MetaRow {
         clock: 20,
         collector: 0,

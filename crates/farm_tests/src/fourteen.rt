@@ -1,8 +1,8 @@
 //! All fourteen commands in one run of the keeper, and in a run that a store is opened for.
+use crate::asked::call;
 use crate::stores::{in_memory, made, make};
 use farm_core::Farm;
 use farm_keep::{KeepFault, Keeper, RunEnd};
-use farm_tests::asked::call;
 use farm_types::{Answer, Call, Holder, JobState, Outcome, Reply, ResState, State};
 use sqlite::{Alter, Connection};
 use std::alloc::Global;

@@ -17,7 +17,7 @@ use Rattle.farm_jobfile.specs.Lab.{entry_of, lab}
 use Rattle.farm_jobfile.specs.declared.fault.FileFault.{FileFault}
 use Rattle.farm_serve.specs.Serving.{Reaches}
 use Rattle.farm_serve.specs.declared.fault.DeskFault.{DeskFault}
-use Rattle.farm_desk.specs.declared.lab_import.ImportEnd.{ImportEnd}
+use Rattle.farm_serve.specs.declared.lab_import.ImportEnd.{ImportEnd}
 
 -- ---- how far it went
 

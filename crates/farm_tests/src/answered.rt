@@ -1,18 +1,14 @@
 //! Conversations over readers and writers that give and take little, or fail.
+use crate::fakes::{Interrupted, Narrow, Slow, Tally};
+use crate::sent::{DONE, FIRST_TYPE, request};
 use crate::stores::{in_memory, made};
-use farm_desk::{DeskFault, Input, Output, converse_counted};
 use farm_keep::Keeper;
-use farm_tests::fakes::{Interrupted, Narrow, Slow, Tally};
-use farm_tests::sent::{FIRST_TYPE, request};
+use farm_serve::{DeskFault, Input, Output, converse_counted};
 use farm_wire::{CountedReader, CountedWriter};
 use sqlite::{Alter, Connection};
 use std::alloc::{AllocError, Global};
 use std::process::Abort;
 use std::test::Fail;
-
-/// The answer to a command that is done and gives no number.
-pub(crate) const DONE: &[u8] =
-    b"HTTP/1.1 200 OK\r\ncontent-type: application/json\r\ncontent-length: 12\r\nconnection: close\r\n\r\n{\"number\":0}";
 
 /// The same with number 1.
 const FIRST_NUMBER: &[u8] =

@@ -3,10 +3,10 @@ use Rattle.std.proofs.Common.{◌≡◌, ◌≤◌, ◌<◌, ◌+◌, length, ar
 use Rattle.std.specs.Prelude.{Some, None}
 use Rattle.farm_core.specs.Answers.{answer_of}
 use Rattle.farm_serve.specs.declared.fault.DeskFault.{DeskFault}
-use Rattle.farm_desk.specs.declared.lab_import.ImportEnd.{ImportEnd}
-use Rattle.farm_desk.specs.Imports.{DoesCalls, EndsBy}
-use Rattle.farm_desk.proofs.ImportLemmas.{counts_on, counts_out, farm_after, faulted_at, unchanged_when_denied, stopped_at, whole_at}
-use Rattle.farm_desk.proofs.lab_import.do_calls.Goals as goal
+use Rattle.farm_serve.specs.declared.lab_import.ImportEnd.{ImportEnd}
+use Rattle.farm_serve.specs.Imports.{DoesCalls, EndsBy}
+use Rattle.farm_serve.proofs.ImportLemmas.{counts_on, counts_out, farm_after, faulted_at, unchanged_when_denied, stopped_at, whole_at}
+use Rattle.farm_serve.proofs.lab_import.do_calls.Goals as goal
 
 pub returns-in-Some-clause-does : goal.returns-in-Some-clause-does
 returns-in-Some-clause-does g c =

@@ -5,8 +5,8 @@ ghost use Rattle.farm_types.specs.Small.{IsSmallType, IsSmallBoard, IsSmallJob, 
 ghost use Rattle.farm_types.specs.Small.{IsSmallKept, AreSmall};
 
 use crate::puts::write;
+use crate::rows::{board, job, name, tags, type_row};
 use crate::stores::{in_memory, make, read};
-use farm_tests::rows::{board, job, name, tags, type_row};
 use farm_types::{
     BoardRow, Body, Changes, Check, Health, Holder, JobRow, JobState, KeptRow, Key, MetaRow,
     Outcome, Priority, Reply, ResRow, ResState, Rows, State, TypeRow, Want,

@@ -1,9 +1,8 @@
 //! Serving scripted clients: what each is answered, byte by byte, and the farm afterwards.
-use crate::answered::DONE;
+use crate::sent::{DONE, FIRST_TYPE};
 use crate::stores::{in_memory, made};
-use farm_desk::{DeskFault, ScriptedClient, ScriptedClients, serve};
 use farm_keep::Keeper;
-use farm_tests::sent::FIRST_TYPE;
+use farm_serve::{DeskFault, ScriptedClient, ScriptedClients, serve};
 use sqlite::{Alter, Connection};
 use std::alloc::{AllocError, Global};
 use std::process::Abort;

@@ -17,9 +17,9 @@ use Rattle.farm_keep.specs.Runs.{answers_of}
 use Rattle.farm_keep.specs.declared.fault.KeepFault.{KeepFault}
 use Rattle.farm_keep.proofs.RunLemmas.{answers_more, next_change, run_more}
 use Rattle.farm_serve.specs.declared.fault.DeskFault.{DeskFault}
-use Rattle.farm_desk.specs.declared.lab_import.ImportEnd.{ImportEnd}
+use Rattle.farm_serve.specs.declared.lab_import.ImportEnd.{ImportEnd}
 use Rattle.farm_serve.specs.Serving.{Reaches}
-use Rattle.farm_desk.specs.Imports.{Counts, EndsBy, IsCounted, IsStopped, ImportsAll, is_accepted, is_kept}
+use Rattle.farm_serve.specs.Imports.{Counts, EndsBy, IsCounted, IsStopped, ImportsAll, is_accepted, is_kept}
 
 -- ---- one more call
 

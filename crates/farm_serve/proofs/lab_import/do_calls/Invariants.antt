@@ -4,8 +4,8 @@ use Rattle.sqlite.specs.Held.{state}
 use Rattle.sqlite_trees.specs.View.{doubt}
 use Rattle.farm_types.specs.Machine.{run}
 use Rattle.farm_keep.specs.KeeperState.{KeepsOwnFarm}
-use Rattle.farm_desk.specs.Imports.{IsCounted}
-use Rattle.farm_desk.proofs.lab_import.do_calls.Given as goal
+use Rattle.farm_serve.specs.Imports.{IsCounted}
+use Rattle.farm_serve.proofs.lab_import.do_calls.Given as goal
 
 -- the first calls are done, none of them was refused, and each answer is counted
 abbrev pub invariant-loop-call : goal.invariant-loop-call

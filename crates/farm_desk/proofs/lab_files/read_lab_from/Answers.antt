@@ -1,5 +1,5 @@
 use Rattle.farm_desk.proofs.LabLemmas.{taken_bytes}
-use Rattle.farm_desk.proofs.lab_import.read_lab_from.Goals as goal
+use Rattle.farm_desk.proofs.lab_files.read_lab_from.Goals as goal
 
 pub returns : goal.returns
 returns g c =
