@@ -17,21 +17,17 @@ For more information, try '--help'.
 
 fn main(rt: HostRuntime) -> ExitCode {
     let alloc = rt.alloc();
+    let (mut input, mut output, mut errors) = (rt.stdin(), rt.stdout(), rt.stderr());
     let words: Vec<String> = match env::args(&rt) {
         Ok(given) => match given.collect(alloc) {
             Ok(words) => words,
-            Err(_) => return ExitCode::from(print_fault(&mut rt.stderr(), DeskFault::NoMemory)),
+            Err(_) => return ExitCode::from(print_fault(&mut errors, DeskFault::NoMemory)),
         },
-        Err(error) => return ExitCode::from(refuse_words(&mut rt.stderr(), &error)),
+        Err(error) => return ExitCode::from(refuse_words(&mut errors, &error)),
     };
-    ExitCode::from(program(
-        &rt,
-        alloc,
-        words.as_slice(),
-        &mut rt.stdin(),
-        &mut rt.stdout(),
-        &mut rt.stderr(),
-    ))
+    let words = words.as_slice();
+    let status = program(&rt, alloc, words, &mut input, &mut output, &mut errors);
+    ExitCode::from(status)
 }
 
 /// Prints to `errors` why there are no words, and returns the exit status: one of them is no UTF-8, or
