@@ -1,9 +1,10 @@
 //! Serving connections: clients on 127.0.0.1, whose connections wait in the system's queue until
 //! the desk takes them.
+use crate::answered::DONE;
 use farm_desk::{DeskFault, serve_on};
 use farm_keep::{KeepFault, Keeper};
-use farm_tests::sent::{DONE, FIRST_TYPE};
-use farm_tests::stores::{in_memory, made, opened, stopping};
+use farm_tests::sent::FIRST_TYPE;
+use farm_tests::stores::{made, opened, stopping};
 use sqlite::{Alter, Connection, Files};
 use sqlite_disk::Disk;
 use std::alloc::Global;
@@ -152,7 +153,7 @@ fn two_clients(rt: HostRuntime) -> Result<(), Fail> {
     let listener = TcpListener::bind(&rt, "127.0.0.1:0")?;
     let (first, second) = two_waiting(&rt, &listener)?;
     let clock = Hands::standing(1_700_000_000);
-    let conn = in_memory(alloc).ok_or("no store")?;
+    let conn = Connection::open_in_memory(alloc)?;
     assert_eq!(rt; serve_on_new(alloc, conn, &listener, 2, &clock)?, Some(1));
     assert!(rt; is_answered(alloc, first, DONE)?);
     assert!(rt; is_answered(alloc, second, STATUS)?);
@@ -207,7 +208,7 @@ fn as_many_as_asked(rt: HostRuntime) -> Result<(), Fail> {
     let listener = TcpListener::bind(&rt, "127.0.0.1:0")?;
     let first = client(&rt, &listener, FIRST_TYPE)?;
     let second = client(&rt, &listener, FIRST_TYPE)?;
-    let conn = in_memory(alloc).ok_or("no store")?;
+    let conn = Connection::open_in_memory(alloc)?;
     serve_in_turns(&rt, alloc, conn, &listener, &turns())?;
     assert!(rt; is_answered(alloc, first, DONE)?);
     assert!(rt; is_answered(alloc, second, EXISTS)?);
@@ -242,7 +243,7 @@ fn clocks_that_fail(rt: HostRuntime) -> Result<(), Fail> {
     for (clock, sent, wanted) in &clocks() {
         let listener = TcpListener::bind(&rt, "127.0.0.1:0")?;
         let first = client(&rt, &listener, sent)?;
-        let conn = in_memory(alloc).ok_or("no store")?;
+        let conn = Connection::open_in_memory(alloc)?;
         let found = serve_on_new(alloc, conn, &listener, 1, clock)?;
         assert_eq!(rt; found, Some(*wanted));
         // Where the request stays unread, its connection may be reset.
@@ -260,7 +261,7 @@ fn served_after_a_slow_one(rt: HostRuntime) -> Result<(), Fail> {
     let listener = TcpListener::bind(&rt, "127.0.0.1:0")?;
     let slow = client(&rt, &listener, &FIRST_TYPE[..40])?;
     let next = client(&rt, &listener, FIRST_TYPE)?;
-    let conn = in_memory(alloc).ok_or("no store")?;
+    let conn = Connection::open_in_memory(alloc)?;
     let turns = [(1, running(), 0), (1, Hands::standing(10), 1)];
     serve_in_turns(&rt, alloc, conn, &listener, &turns)?;
     assert!(rt; is_answered(alloc, slow, b"")?);

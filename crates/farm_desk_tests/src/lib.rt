@@ -1,7 +1,12 @@
-//! Tests of the desk that no transcript can say: clients over sockets, and what faults display.
+//! Tests of the desk that no transcript can say: conversations over readers and writers that fail,
+//! clients over sockets and in memory, and what faults display.
 #![tactic(auto)]
 
+#[cfg(test)]
+mod answered;
 #[cfg(test)]
 mod clients;
 #[cfg(test)]
 mod displayed;
+#[cfg(test)]
+mod served;

@@ -1,6 +1,6 @@
 //! All fourteen commands in one run of the keeper, and in a run that a store is opened for.
 use crate::asked::call;
-use crate::stores::{in_memory, made, make};
+use crate::stores::{made, make};
 use farm_core::Farm;
 use farm_keep::{KeepFault, Keeper, RunEnd};
 use farm_types::{Answer, Call, Holder, JobState, Outcome, Reply, ResState, State};
@@ -166,7 +166,7 @@ fn all_fourteen_commands(rt: HostRuntime) -> Result<(), Fail> {
     run(
         &rt,
         alloc,
-        in_memory(alloc).ok_or("no store")?,
+        Connection::open_in_memory(alloc)?,
         calls.as_slice(),
     )
 }
@@ -193,7 +193,7 @@ fn all_fourteen_resumed(rt: HostRuntime) -> Result<(), Fail> {
     resume(
         &rt,
         alloc,
-        in_memory(alloc).ok_or("no store")?,
+        Connection::open_in_memory(alloc)?,
         calls.as_slice(),
     )
 }

@@ -1,9 +1,7 @@
-//! Tests of the public calls that cross crates below the desk, and of what no contract says, and of
-//! conversations over readers and writers that fail; and what the desk's tests share with them.
+//! Tests of the public calls that cross crates below the desk, and of what no contract says; and
+//! what the desk's tests share with them.
 #![tactic(auto)]
 
-#[cfg(test)]
-mod answered;
 #[cfg(test)]
 mod asked;
 #[cfg(test)]
@@ -34,8 +32,6 @@ mod rows;
 #[cfg(test)]
 mod search;
 pub mod sent;
-#[cfg(test)]
-mod served;
 pub mod stores;
 #[cfg(test)]
 mod tables;

@@ -1,7 +1,7 @@
 //! Changes that are put into the tables straight, and found there.
 ghost use Rattle.farm_types.specs.Small.{AreSmall};
 
-use crate::stores::{in_memory, make, read};
+use crate::stores::{make, read};
 use farm_store::{StoreFault, put};
 use farm_types::{Changes, MetaRow};
 use sqlite::{Alter, Connection, Error};
@@ -77,5 +77,5 @@ fn expect_all_or_nothing<S: Alter + Drop>(
 #[test]
 fn refused_memory(rt: HostRuntime) -> Result<(), Fail> {
     let alloc = rt.alloc();
-    expect_all_or_nothing(&rt, alloc, in_memory(alloc).ok_or("no store")?)
+    expect_all_or_nothing(&rt, alloc, Connection::open_in_memory(alloc)?)
 }

@@ -1,13 +1,9 @@
-//! Requests as they are sent, and an answer.
+//! Requests as they are sent.
 use std::alloc::{AllocError, Global};
 
 /// A request that adds the type `bbb`.
 pub const FIRST_TYPE: &[u8] =
     b"POST /types HTTP/1.1\r\nx-user: admin\r\ncontent-length: 14\r\n\r\n{\"name\":\"bbb\"}";
-
-/// The answer to a command that is done and gives no number.
-pub const DONE: &[u8] =
-    b"HTTP/1.1 200 OK\r\ncontent-type: application/json\r\ncontent-length: 12\r\nconnection: close\r\n\r\n{\"number\":0}";
 
 /// A request: who asks, the method and the path, and the body.
 pub fn request(alloc: Global, who: &str, line: &str, body: &str) -> Result<String, AllocError> {

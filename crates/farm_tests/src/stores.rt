@@ -52,9 +52,3 @@ pub fn opened<D: Disk + Drop>(alloc: Global, files: Files<D>) -> Option<Connecti
 pub fn stopping(alloc: Global, calls: u64) -> Fuse<Memory> {
     Fuse::new(Memory::new(alloc), calls)
 }
-
-/// A store in two new files, which nothing stops; none where it isn't opened.
-pub fn in_memory(alloc: Global) -> Option<Connection<FileStore<Fuse<Memory>>>> {
-    let (log, db) = (stopping(alloc, u64::MAX), stopping(alloc, u64::MAX));
-    opened(alloc, Files { log, db })
-}

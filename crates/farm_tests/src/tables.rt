@@ -6,7 +6,7 @@ ghost use Rattle.farm_types.specs.Small.{IsSmallKept, AreSmall};
 
 use crate::puts::write;
 use crate::rows::{board, job, name, tags, type_row};
-use crate::stores::{in_memory, make, read};
+use crate::stores::{make, read};
 use farm_types::{
     BoardRow, Body, Changes, Check, Health, Holder, JobRow, JobState, KeptRow, Key, MetaRow,
     Outcome, Priority, Reply, ResRow, ResState, Rows, State, TypeRow, Want,
@@ -151,7 +151,7 @@ fn put_and_read<S: Alter + Drop>(
 fn rows_put_and_read(rt: HostRuntime) -> Result<(), Fail> {
     let alloc = rt.alloc();
     let changes = one_of_each(alloc)?;
-    let found = put_and_read(alloc, in_memory(alloc).ok_or("no store")?, &changes)?;
+    let found = put_and_read(alloc, Connection::open_in_memory(alloc)?, &changes)?;
     let wanted = in_words(alloc, &changes)?;
     assert_eq!(rt; found.as_str(), wanted.as_str());
     Ok(())

@@ -1,8 +1,9 @@
 //! Serving scripted clients: what each is answered, byte by byte, and the farm afterwards.
-use crate::sent::{DONE, FIRST_TYPE};
-use crate::stores::{in_memory, made};
+use crate::answered::DONE;
+use farm_desk::{DeskFault, ScriptedClient, ScriptedClients, serve};
 use farm_keep::Keeper;
-use farm_serve::{DeskFault, ScriptedClient, ScriptedClients, serve};
+use farm_tests::sent::FIRST_TYPE;
+use farm_tests::stores::made;
 use sqlite::{Alter, Connection};
 use std::alloc::{AllocError, Global};
 use std::process::Abort;
@@ -128,5 +129,5 @@ fn serve_all<S: Alter + Drop>(
 #[test]
 fn scripted_clients(rt: HostRuntime) -> Result<(), Fail> {
     let alloc = rt.alloc();
-    serve_all(&rt, alloc, in_memory(alloc).ok_or("no store")?)
+    serve_all(&rt, alloc, Connection::open_in_memory(alloc)?)
 }

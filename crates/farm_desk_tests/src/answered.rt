@@ -1,14 +1,18 @@
 //! Conversations over readers and writers that give and take little, or fail.
-use crate::fakes::{Interrupted, Narrow, Slow, Tally};
-use crate::sent::{DONE, FIRST_TYPE, request};
-use crate::stores::{in_memory, made};
+use farm_desk::{DeskFault, Input, Output, converse_counted};
 use farm_keep::Keeper;
-use farm_serve::{DeskFault, Input, Output, converse_counted};
+use farm_tests::fakes::{Interrupted, Narrow, Slow, Tally};
+use farm_tests::sent::{FIRST_TYPE, request};
+use farm_tests::stores::made;
 use farm_wire::{CountedReader, CountedWriter};
 use sqlite::{Alter, Connection};
 use std::alloc::{AllocError, Global};
 use std::process::Abort;
 use std::test::Fail;
+
+/// The answer to a command that is done and gives no number.
+pub(crate) const DONE: &[u8] =
+    b"HTTP/1.1 200 OK\r\ncontent-type: application/json\r\ncontent-length: 12\r\nconnection: close\r\n\r\n{\"number\":0}";
 
 /// The same with number 1.
 const FIRST_NUMBER: &[u8] =
@@ -120,7 +124,7 @@ fn readers_that_fail<S: Alter + Drop>(
 #[test]
 fn reader_that_halts(rt: HostRuntime) -> Result<(), Fail> {
     let alloc = rt.alloc();
-    readers_that_fail(&rt, alloc, in_memory(alloc).ok_or("no store")?)
+    readers_that_fail(&rt, alloc, Connection::open_in_memory(alloc)?)
 }
 
 /// Both the reader and the writer give and take one byte a call, and the reader is interrupted
@@ -141,7 +145,7 @@ fn bytes_one_by_one<S: Alter + Drop>(
 #[test]
 fn one_byte_a_call(rt: HostRuntime) -> Result<(), Fail> {
     let alloc = rt.alloc();
-    bytes_one_by_one(&rt, alloc, in_memory(alloc).ok_or("no store")?)
+    bytes_one_by_one(&rt, alloc, Connection::open_in_memory(alloc)?)
 }
 
 /// The head of a pass with the largest body.
@@ -180,7 +184,7 @@ fn largest_body_byte_by_byte(rt: HostRuntime) -> Result<(), Fail> {
     largest_body(
         &rt,
         alloc,
-        in_memory(alloc).ok_or("no store")?,
+        Connection::open_in_memory(alloc)?,
         request.as_slice(),
     )
 }
@@ -225,7 +229,7 @@ fn one_after_the_other<S: Alter + Drop>(
 #[test]
 fn two_requests_in_one_reader(rt: HostRuntime) -> Result<(), Fail> {
     let alloc = rt.alloc();
-    one_after_the_other(&rt, alloc, in_memory(alloc).ok_or("no store")?)
+    one_after_the_other(&rt, alloc, Connection::open_in_memory(alloc)?)
 }
 
 /// Makes the type `bbb` and its Good board b1.
@@ -283,7 +287,7 @@ fn answer_lost(rt: HostRuntime) -> Result<(), Fail> {
             lost_after(
                 &rt,
                 alloc,
-                in_memory(alloc).ok_or("no store")?,
+                Connection::open_in_memory(alloc)?,
                 (room, stops),
             )?;
         }
