@@ -1,3 +1,4 @@
 pub mod DocumentLemmas
 pub mod CallLemmas
 pub mod LabLemmas
+pub mod RoleLemmas

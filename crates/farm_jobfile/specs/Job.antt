@@ -84,15 +84,20 @@ count_or (Some n) = if nat_le 1 n && nat_le n most_wants then Ok n else Err (wor
 unfoldable pub count_in : Data → Result ℕ Fault
 count_in d = natural_in JobFile (codes "count") d >>= count_or
 
+-- so many members with that role
+unfoldable pub playing_in : Option (List ℕ) → Data → Result (List Member) Fault
+playing_in role d = do
+  kind ← name_in JobFile (codes "device_type") d
+  count ← count_in d
+  tags ← tags_in JobFile d
+  Ok (replicate count (record { role = role; kind = kind; tags = tags }))
+
 -- the members that play one role
 unfoldable pub role_in : List ℕ → Data → Result (List Member) Fault
 role_in name d = do
   role ← name_or name
   table ← kind_or JobFile (as_table d)
-  kind ← name_in JobFile (codes "device_type") d
-  count ← count_in d
-  tags ← tags_in JobFile d
-  Ok (replicate count (record { role = Some role; kind = kind; tags = tags }))
+  playing_in (Some role) d
 
 -- the members of all roles, in the order of the tree, which is the byte order of the roles' names
 abbrev pub roles_in : Members → Result (List Member) Fault

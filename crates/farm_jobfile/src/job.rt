@@ -4,7 +4,7 @@ ghost use Rattle.toml.specs.View.{view, table_view};
 ghost use Rattle.farm_types.specs.Reads.{OrNoMemory, viewed};
 ghost use Rattle.farm_types.specs.Proper.{is_proper_cmd};
 ghost use Rattle.farm_jobfile.specs.Job.{priority_from, priority_in, count_in, role_in, roles_in};
-ghost use Rattle.farm_jobfile.specs.Job.{roles_from, title_in, single_in, members_in, job};
+ghost use Rattle.farm_jobfile.specs.Job.{playing_in, roles_from, title_in, single_in, members_in, job};
 ghost use Rattle.farm_jobfile.specs.Reading.{text_fault};
 
 use crate::fault::{Fault, FileFault, FileKind, FileResult, Reason};
@@ -64,6 +64,18 @@ fn copies(alloc: Global, member: &Member, count: u64) -> Result<Vec<Member>, All
     Ok(members)
 }
 
+/// So many members with that role.
+#[tactic(auto, unfolding(crate::specs::Job::playing_in))]
+fn playing(alloc: Global, role: Option<farm_types::Name>, value: &Value) -> FileResult<Vec<Member>>
+    ensures { OrNoMemory text_fault (λ members. members.items) result
+        (playing_in role (view value.now)) }
+{
+    let kind = name_at(alloc, FileKind::JobFile, value, "device_type")?;
+    let count = count_of(value)?;
+    let tags = tags_at(alloc, FileKind::JobFile, value)?;
+    Ok(copies(alloc, &Member { role, kind, tags }, count)?)
+}
+
 /// The members that play one role.
 #[tactic(auto, unfolding(crate::specs::Job::role_in))]
 fn role_of(alloc: Global, name: &str, value: &Value) -> FileResult<Vec<Member>>
@@ -72,10 +84,7 @@ fn role_of(alloc: Global, name: &str, value: &Value) -> FileResult<Vec<Member>>
 {
     let role = Some(name_of(alloc, name)?);
     let _table = table_of(FileKind::JobFile, value)?;
-    let kind = name_at(alloc, FileKind::JobFile, value, "device_type")?;
-    let count = count_of(value)?;
-    let tags = tags_at(alloc, FileKind::JobFile, value)?;
-    Ok(copies(alloc, &Member { role, kind, tags }, count)?)
+    playing(alloc, role, value)
 }
 
 /// The members of all roles, which a table has in the byte order of their names.
