@@ -126,11 +126,8 @@ fn fitting_place(
     }
     let place = place_of(boards, &row.name, *behind)?;
     *behind = place + 1;
-    if fit::fits(&boards[place], want) {
-        Some(place)
-    } else {
-        None
-    }
+    let fits = fit::fits(&boards[place], want);
+    if fits { Some(place) } else { None }
 }
 
 /// The first places of free boards for the want: all of them, or as many as the limit. The free

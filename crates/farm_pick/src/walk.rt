@@ -32,7 +32,10 @@ fn step<'a>(mut rest: Range<'a, Spot, Claim>, queue: usize) -> Option<Cursor<'a>
     ensures { StepsTo rest.entry queue result }
 {
     let (spot, claim) = rest.next()?;
-    (spot.queue == queue).then_some(Cursor { claim, rest })
+    if spot.queue != queue {
+        return None;
+    }
+    Some(Cursor { claim, rest })
 }
 
 /// Where a walk begins in the queue of a spot: at its first claim after the spot.
@@ -62,8 +65,7 @@ pub fn cursors_after(kept: &Kept, last: Spot) -> Result<Vec<Option<Cursor<'_>>>,
 {
     let mut cursors = Vec::with_capacity(*kept.kinds.allocator(), kept.kinds.len() + 1)?;
     for queue in 0..kept.kinds.len() + 1 {
-        let cursor = open_cursor(kept, Spot { queue, ..last }, false);
-        cursors.push(cursor)?;
+        cursors.push(open_cursor(kept, Spot { queue, ..last }, false))?;
     }
     Ok(cursors)
 }
