@@ -94,8 +94,9 @@ fn own_tags(tags: Tags) -> Result<Tags, Fault>
     ensures tags { result ≡ own_tags tags }
     ensures own { IfOk result (λ tags. IsTrue (has_no_name_tag tags)) }
 {
-    let own = tags.has_no_name_tag().then_some(tags);
-    own.ok_or(Fault::Word(Refusal { code: BAD_TAG }))
+    let fault = Fault::Word(Refusal { code: BAD_TAG });
+    let own = tags.has_no_name_tag();
+    if own { Ok(tags) } else { Err(fault) }
 }
 
 /// The call that adds one board.
