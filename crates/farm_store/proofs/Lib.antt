@@ -12,6 +12,7 @@ pub mod ChangeMeta
 pub mod RaisesJobs
 pub mod Commits
 pub mod GoingOn
+pub mod Executed
 pub mod EmptyRows
 pub mod SmallCodes
 pub mod Through
@@ -21,6 +22,7 @@ pub mod OnlyReads
 pub mod Selects
 pub mod RowSelects
 pub mod LeftAlone
+pub mod NextRow
 pub mod TagsRead
 pub mod ReadRows
 pub mod NumberRows

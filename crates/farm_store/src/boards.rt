@@ -33,22 +33,24 @@ const PUT: &str = "INSERT INTO boards VALUES (?1, ?2, ?3, ?4, ?5, ?6, ?7, ?8, ?9
     health = excluded.health, state = excluded.state, holder = excluded.holder, \
     held_by = excluded.held_by, jobs_since = excluded.jobs_since, last_check = excluded.last_check";
 
+/// Its columns, in this order.
+const COLUMNS: [(&str, Kind); 9] = [
+    ("name", Kind::Text),
+    ("kind", Kind::Text),
+    ("tags", Kind::Text),
+    ("health", Kind::Integer),
+    ("state", Kind::Integer),
+    ("holder", Kind::Integer),
+    ("held_by", Kind::Integer),
+    ("jobs_since", Kind::Integer),
+    ("last_check", Kind::Integer),
+];
+
 /// Whether a table is this one.
 pub(crate) fn is_boards(table: &Table) -> bool
     ensures { IsTrue result ↔ (table.now ≡ record boards_table { tree = 2 }) }
 {
-    let wanted = [
-        ("name", Kind::Text),
-        ("kind", Kind::Text),
-        ("tags", Kind::Text),
-        ("health", Kind::Integer),
-        ("state", Kind::Integer),
-        ("holder", Kind::Integer),
-        ("held_by", Kind::Integer),
-        ("jobs_since", Kind::Integer),
-        ("last_check", Kind::Integer),
-    ];
-    is_keyed(table, "boards", 2, &[1]) && are_columns(table.columns.as_slice(), &wanted)
+    is_keyed(table, "boards", 2, &[1]) && are_columns(table.columns.as_slice(), &COLUMNS)
 }
 
 /// What holds a board, and its number.
@@ -120,9 +122,8 @@ impl Upsert for Tagged<'_, BoardRow> {
 
     ghost IsSmall = { λ row. IsSmallBoard row.row.now };
 
-    fn put<S: Alter>(&self, tx: &mut Transaction<'_, S>) -> Result<(), Error> {
-        tx.execute(PUT, &board_columns(self.row, self.text.as_str()))?;
-        Ok(())
+    fn put<S: Alter>(&self, tx: &mut Transaction<'_, S>) -> Result<usize, Error> {
+        tx.execute(PUT, &board_columns(self.row, self.text.as_str()))
     }
 
     ghost is_place = { record { own = λ T rows. refl; over = λ T rows more. refl; same = λ T. refl } };
@@ -147,14 +148,14 @@ impl Stored for BoardRow {
 
     fn of(row: &Row, reader: &mut Reader) -> Result<BoardRow, WordFault> {
         Ok(BoardRow {
-            name: name_at(row, 0, reader)?,
-            kind: name_at(row, 1, reader)?,
-            tags: tags_at(row, 2, reader)?,
             health: health_at(row, 3)?,
             state: state_at(row, 4)?,
             holder: holder_at(row, 5, 6)?,
             jobs_since: number_at(row, 7)?,
             last_check: number_at(row, 8)?,
+            name: name_at(row, 0, reader)?,
+            kind: name_at(row, 1, reader)?,
+            tags: tags_at(row, 2, reader)?,
         })
     }
 

@@ -53,25 +53,27 @@ const WINDOW: usize = 100;
 /// The number after the largest that is stored.
 const END: u64 = 9_000_000_000_000_000_001;
 
+/// Its columns, in this order.
+const COLUMNS: [(&str, Kind); 12] = [
+    ("number", Kind::Integer),
+    ("grp", Kind::Integer),
+    ("checking", Kind::Integer),
+    ("owner", Kind::Text),
+    ("priority", Kind::Integer),
+    ("kind", Kind::Text),
+    ("tags", Kind::Text),
+    ("role", Kind::Text),
+    ("state", Kind::Integer),
+    ("outcome", Kind::Integer),
+    ("board", Kind::Text),
+    ("body", Kind::Text),
+];
+
 /// Whether a table is this one.
 pub(crate) fn is_jobs(table: &Table) -> bool
     ensures { IsTrue result ↔ (table.now ≡ record jobs_table { tree = 4 }) }
 {
-    let wanted = [
-        ("number", Kind::Integer),
-        ("grp", Kind::Integer),
-        ("checking", Kind::Integer),
-        ("owner", Kind::Text),
-        ("priority", Kind::Integer),
-        ("kind", Kind::Text),
-        ("tags", Kind::Text),
-        ("role", Kind::Text),
-        ("state", Kind::Integer),
-        ("outcome", Kind::Integer),
-        ("board", Kind::Text),
-        ("body", Kind::Text),
-    ];
-    is_numbered(table, "jobs", 4) && are_columns(table.columns.as_slice(), &wanted)
+    is_numbered(table, "jobs", 4) && are_columns(table.columns.as_slice(), &COLUMNS)
 }
 
 /// Its columns, with 0 for an outcome while it has none; `tags` is the text of the tags that it
@@ -157,9 +159,8 @@ impl Upsert for Tagged<'_, JobRow> {
 
     ghost IsSmall = { λ row. IsSmallJob row.row.now };
 
-    fn put<S: Alter>(&self, tx: &mut Transaction<'_, S>) -> Result<(), Error> {
-        tx.execute(PUT, &job_columns(self.row, self.text.as_str()))?;
-        Ok(())
+    fn put<S: Alter>(&self, tx: &mut Transaction<'_, S>) -> Result<usize, Error> {
+        tx.execute(PUT, &job_columns(self.row, self.text.as_str()))
     }
 
     ghost is_place = { record { own = λ T rows. refl; over = λ T rows more. refl; same = λ T. refl } };
@@ -186,15 +187,15 @@ impl Stored for JobRow {
             number: number_at(row, 0)?,
             group: number_at(row, 1)?,
             checking: checking_at(row, 2)?,
-            owner: name_at(row, 3, reader)?,
             priority: priority_at(row, 4)?,
+            state: job_state_at(row, 8, reader.edition)?,
+            outcome: outcome_at(row, 9)?,
+            owner: name_at(row, 3, reader)?,
             want: Want {
                 kind: name_if_any_at(row, 5, reader)?,
                 tags: tags_at(row, 6, reader)?,
             },
             role: name_if_any_at(row, 7, reader)?,
-            state: job_state_at(row, 8, reader.edition)?,
-            outcome: outcome_at(row, 9)?,
             board: name_if_any_at(row, 10, reader)?,
             body: body_at(row, 11, reader)?,
         })

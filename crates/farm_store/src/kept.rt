@@ -66,9 +66,8 @@ impl Upsert for KeptRow {
 
     ghost IsSmall = { IsSmallKept };
 
-    fn put<S: Alter>(&self, tx: &mut Transaction<'_, S>) -> Result<(), Error> {
-        tx.execute(PUT, &kept_columns(self))?;
-        Ok(())
+    fn put<S: Alter>(&self, tx: &mut Transaction<'_, S>) -> Result<usize, Error> {
+        tx.execute(PUT, &kept_columns(self))
     }
 
     ghost is_place = { record { own = λ T rows. refl; over = λ T rows more. refl; same = λ T. refl } };
@@ -93,10 +92,10 @@ impl Stored for KeptRow {
 
     fn of(row: &Row, reader: &mut Reader) -> Result<KeptRow, WordFault> {
         Ok(KeptRow {
-            caller: name_at(row, 0, reader)?,
-            key: key_at(row, 1, reader)?,
             kind: number_at(row, 2)?,
             reply: Reply(number_at(row, 3)?, number_at(row, 4)?, number_at(row, 5)?),
+            caller: name_at(row, 0, reader)?,
+            key: key_at(row, 1, reader)?,
         })
     }
 

@@ -74,9 +74,8 @@ impl Upsert for Tagged<'_, ResRow> {
 
     ghost IsSmall = { λ row. IsSmallRes row.row.now };
 
-    fn put<S: Alter>(&self, tx: &mut Transaction<'_, S>) -> Result<(), Error> {
-        tx.execute(PUT, &res_columns(self.row, self.text.as_str()))?;
-        Ok(())
+    fn put<S: Alter>(&self, tx: &mut Transaction<'_, S>) -> Result<usize, Error> {
+        tx.execute(PUT, &res_columns(self.row, self.text.as_str()))
     }
 
     ghost is_place = { record { own = λ T rows. refl; over = λ T rows more. refl; same = λ T. refl } };
@@ -102,14 +101,14 @@ impl Stored for ResRow {
     fn of(row: &Row, reader: &mut Reader) -> Result<ResRow, WordFault> {
         Ok(ResRow {
             number: number_at(row, 0)?,
-            owner: name_at(row, 1, reader)?,
             priority: priority_at(row, 2)?,
+            state: res_state_at(row, 4)?,
+            deadline: number_at(row, 5)?,
+            owner: name_at(row, 1, reader)?,
             want: Want {
                 kind: None,
                 tags: tags_at(row, 3, reader)?,
             },
-            state: res_state_at(row, 4)?,
-            deadline: number_at(row, 5)?,
             board: name_if_any_at(row, 6, reader)?,
         })
     }

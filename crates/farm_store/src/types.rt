@@ -83,9 +83,8 @@ impl Upsert for TypeRow {
 
     ghost IsSmall = { IsSmallType };
 
-    fn put<S: Alter>(&self, tx: &mut Transaction<'_, S>) -> Result<(), Error> {
-        tx.execute(PUT, &type_columns(self))?;
-        Ok(())
+    fn put<S: Alter>(&self, tx: &mut Transaction<'_, S>) -> Result<usize, Error> {
+        tx.execute(PUT, &type_columns(self))
     }
 
     ghost is_place = { record { own = λ T rows. refl; over = λ T rows more. refl; same = λ T. refl } };
@@ -109,8 +108,8 @@ impl Stored for TypeRow {
     }
 
     fn of(row: &Row, reader: &mut Reader) -> Result<TypeRow, WordFault> {
-        let name = name_at(row, 0, reader)?;
         let check = check_of(number_at(row, 1)?, number_at(row, 2)?).ok_or(BAD)?;
+        let name = name_at(row, 0, reader)?;
         Ok(TypeRow { name, check })
     }
 

@@ -64,8 +64,9 @@ pub(crate) trait Upsert {
 
     ghost IsSmall: { Self → Type 0 };
 
-    /// Puts it in the place of the row with its key, or adds it.
-    fn put<S: Alter>(&self, tx: &mut Transaction<'_, S>) -> Result<(), Error>
+    /// Puts it in the place of the row with its key, or adds it. The store tells how many rows it
+    /// wrote.
+    fn put<S: Alter>(&self, tx: &mut Transaction<'_, S>) -> Result<usize, Error>
         requires small { IsSmall self.now }
         ensures goes_on { GoesOn S.Store tx.old tx.new }
         ensures put { ChangesTables result (state S.Store tx.old.conn.now)

@@ -113,7 +113,9 @@ pub(crate) fn read<R: Stored, S: Alter>(
             return Ok(all);
         };
         let stored = R::of(row, &mut reader)?;
-        all.push(stored).map_err(|_| StoreFault::NoMemory)?;
+        let Ok(()) = all.push(stored) else {
+            return Err(StoreFault::NoMemory);
+        };
     }
     // (no memory holds so many rows)
     Err(StoreFault::NoMemory)

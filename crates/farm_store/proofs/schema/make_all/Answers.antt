@@ -3,7 +3,7 @@ use Rattle.std.proofs.lemmas.Result.{on_ok_weaker}
 use Rattle.farm_store.specs.Holds.{ShowsTables}
 use Rattle.sqlite.specs.Held.{state}
 use Rattle.farm_store.proofs.Creates.{makes_all, tables_taken}
-use Rattle.farm_store.proofs.GoingOn.{was_clean}
+use Rattle.farm_store.proofs.GoingOn.{goes_on_then, was_clean}
 use Rattle.farm_store.proofs.schema.make_all.Goals as goal
 
 pub returns-clause-made : goal.returns-clause-made
@@ -50,3 +50,9 @@ returns-clause-kept g c clean T at =
 pub returns-clause-refused : goal.returns-clause-refused
 returns-clause-refused g c clean = on_ok_weaker c.make-6.result (λ _ T at.
     tables_taken (state g.S.Store c.args.tx.now.conn.now) (state g.S.Store c.make.new.tx.conn.now) T at (c.in_ok-make.ensures.ran (was_clean c.make-2.ensures.goes_on (was_clean c.make-3.ensures.goes_on (was_clean c.make-4.ensures.goes_on (was_clean c.make-5.ensures.goes_on (was_clean c.make-6.ensures.goes_on clean))))) at.inside)) (c.make-6.ensures.ran clean)
+
+pub returns-in_err-make-5-clause-goes_on : goal.returns-in_err-make-5-clause-goes_on
+returns-in_err-make-5-clause-goes_on g c = goes_on_then (goes_on_then (goes_on_then (goes_on_then c.make.ensures.goes_on c.make-2.ensures.goes_on) c.make-3.ensures.goes_on) c.make-4.ensures.goes_on) c.make-5.ensures.goes_on
+
+pub returns-clause-goes_on : goal.returns-clause-goes_on
+returns-clause-goes_on g c = goes_on_then (goes_on_then (goes_on_then (goes_on_then (goes_on_then c.make.ensures.goes_on c.make-2.ensures.goes_on) c.make-3.ensures.goes_on) c.make-4.ensures.goes_on) c.make-5.ensures.goes_on) c.make-6.ensures.goes_on

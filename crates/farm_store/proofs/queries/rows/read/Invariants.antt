@@ -1,8 +1,9 @@
-use Rattle.std.proofs.Common.{◌≡◌, false, [], List, ℕ}
+use Rattle.std.proofs.Common.{◌≡◌, [], List, ℕ}
 use Rattle.sqlite.specs.Given.{HasGiven}
 use Rattle.sqlite.specs.Held.{state}
 use Rattle.sqlite.specs.Order.{Row}
-use Rattle.sqlite.specs.State.{HasCleanDisk, IsUnchanged, Survives}
+use Rattle.sqlite.specs.State.{HasCleanDisk, IsUnchanged}
+use Rattle.farm_store.specs.Holds.{ReadsOnly}
 use Rattle.farm_store.specs.Queries.{AsksFor}
 use Rattle.farm_store.proofs.ReadRows.{SoFar}
 use Rattle.farm_store.proofs.queries.rows.read.Given as goal
@@ -11,8 +12,11 @@ abbrev pub invariant-rows : goal.invariant-rows
 invariant-rows g l =
     let old = state g.S.Store l.fn.conn in
     let now = state g.S.Store l.rows.conn.now in
-    (l.rows.conn.ghost_name ≡ l.initial.rows.conn.ghost_name) × Survives old now (λ _. ⊥) × (l.rows.conn.now.in_transaction ≡ false)
-    × (HasCleanDisk now → IsUnchanged old now
-    × ((text : List ℕ) × AsksFor g.R.Stored.place text
-    × ((given : List Row) × HasGiven g.S.Store text [] l.rows.conn.now given × SoFar (g.R.Stored.IsGood l.fn.edition) (g.R.Stored.columns l.fn.edition) g.R.Stored.place.width given l.all.items)))
-    × (l.reader.edition ≡ l.fn.edition)
+    record {
+      same_reference : l.rows.conn.ghost_name ≡ l.initial.rows.conn.ghost_name;
+      only : ReadsOnly old now;
+      given : HasCleanDisk now → IsUnchanged old now
+          × ((text : List ℕ) × AsksFor g.R.Stored.place text
+          × ((given : List Row) × HasGiven g.S.Store text [] l.rows.conn.now given × SoFar (g.R.Stored.IsGood l.fn.edition) (g.R.Stored.columns l.fn.edition) g.R.Stored.place.width given l.all.items));
+      edition : l.reader.edition ≡ l.fn.edition;
+    }
