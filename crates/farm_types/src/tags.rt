@@ -236,9 +236,10 @@ impl Tags {
         requires { IsTags items.items }
         ensures { IfOk result (λ tags. tags ≡ items.items) }
     {
-        let shared = (!items.is_empty())
-            .then(|| Rc::new(alloc, items))
-            .transpose()?;
+        if items.is_empty() {
+            return Ok(Tags::none(alloc));
+        }
+        let shared = Some(Rc::new(alloc, items)?);
         Ok(Tags { alloc, shared })
     }
 

@@ -144,12 +144,10 @@ impl Body {
     }
 
     /// No text.
-    #[tactic(auto, using(crate::proofs::WordLemmas::no_text))]
     pub fn none(alloc: Global) -> Body
         ensures { result ≡ [] }
     {
-        let text = String::new(alloc);
-        Body { text }
+        Body::of(String::new(alloc))
     }
 
     /// The bytes of the text.
