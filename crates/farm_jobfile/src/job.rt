@@ -12,7 +12,9 @@ use crate::fields::{
     name_at, name_from, name_of, natural, natural_at, table_of, tags_at, text_of, tree_of,
 };
 use crate::group::{Member, group_of};
-use farm_types::{BAD_COUNT, BAD_PRIORITY, Cmd, LONGEST_JOB_FILE, MOST_WANTS, Priority, Refusal};
+use farm_types::{
+    BAD_COUNT, BAD_PRIORITY, Cmd, LONGEST_JOB_FILE, MOST_WANTS, Name, Priority, Refusal,
+};
 use std::alloc::{AllocError, Global};
 use toml::{Table, Value};
 
@@ -66,7 +68,7 @@ fn copies(alloc: Global, member: &Member, count: u64) -> Result<Vec<Member>, All
 
 /// So many members with that role.
 #[tactic(auto, unfolding(crate::specs::Job::playing_in))]
-fn playing(alloc: Global, role: Option<farm_types::Name>, value: &Value) -> FileResult<Vec<Member>>
+fn playing(alloc: Global, role: Option<Name>, value: &Value) -> FileResult<Vec<Member>>
     ensures { OrNoMemory text_fault (λ members. members.items) result
         (playing_in role (view value.now)) }
 {
