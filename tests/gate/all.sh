@@ -22,8 +22,15 @@ counting() {
     return "$(cat "$folder/status")"
 }
 
+# One process to a proof, and as many proofs side by side as there are processors, each with room for 5 GB: several
+# processes to one proof take more of the processor in all.
+proofs=$(nproc)
+room=$(awk '/^MemAvailable:/ { print int($2 / 5000000) }' /proc/meminfo)
+[ "$room" -ge "$proofs" ] || proofs=$room
+[ "$proofs" -ge 1 ] || proofs=1
+
 status=0
-counting proofs rt ci || status=1
+counting proofs env RT_JOBS="${RT_JOBS:-$proofs}" rt ci || status=1
 limited "tests of scripts" python3 tests/gate/waves.py --read || status=1
 if [ "$status" = 0 ]; then
     farm=crates/farm/out/farm
