@@ -45,18 +45,28 @@ fn is_found<S: Alter>(alloc: Global, conn: &mut Connection<S>) -> Option<bool> {
     }
 }
 
-/// Whether the tables are made, or found.
-fn made_or_found<S: Alter>(alloc: Global, conn: &mut Connection<S>, makes: bool) -> Option<bool> {
-    if makes {
-        Some(make(conn).is_ok())
+/// Whether the tables are made, or found; and the connection.
+fn made_or_found<S: Alter>(
+    alloc: Global,
+    mut conn: Connection<S>,
+    makes: bool,
+) -> (Option<bool>, Connection<S>) {
+    let end = if makes {
+        Some(make(&mut conn).is_ok())
     } else {
-        is_found(alloc, conn)
-    }
+        is_found(alloc, &mut conn)
+    };
+    (end, conn)
 }
 
 /// Whether a call of the file has failed or would fail now.
 fn is_blown<D: Disk>(file: &mut D) -> bool {
     !file.may_be_used() || file.len().is_err()
+}
+
+/// The store of a connection.
+fn store_of<S: Alter + Drop>(conn: Connection<S>) -> S {
+    conn.into_store()
 }
 
 /// What a store's files are after a crash, and whether one was stopped.
@@ -76,9 +86,8 @@ fn used<D: Disk + Crash + Drop>(
     files: Files<D>,
     makes: bool,
 ) -> Option<(Option<bool>, Files<D>, bool)> {
-    let mut conn = opened(alloc, files)?;
-    let end = made_or_found(alloc, &mut conn, makes);
-    let (files, was_stopped) = crashed(conn.into_store());
+    let (end, conn) = made_or_found(alloc, opened(alloc, files)?, makes);
+    let (files, was_stopped) = crashed(store_of(conn));
     Some((end, files, was_stopped))
 }
 

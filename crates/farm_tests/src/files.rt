@@ -165,15 +165,25 @@ const GROUP: &[u8] =
 
 const LAB: &[u8] = b"[types.bbb]\n[boards.b1]\ntype = \"bbb\"\ntags = [\"hdmi\"]\n";
 
+/// The number of the command that a job file spells.
+fn kind_of(alloc: Global, text: &[u8]) -> Result<u64, FileFault> {
+    Ok(job_of(alloc, text)?.kind())
+}
+
+/// How many calls a lab file spells.
+fn calls_of(alloc: Global, text: &[u8]) -> Result<usize, FileFault> {
+    Ok(lab_of(alloc, text, 7)?.len())
+}
+
 /// Where memory is refused, at whatever place, no other fault is reported.
 #[test]
 fn refused_memory(rt: HostRuntime) {
-    match job_of(rt.alloc(), GROUP) {
-        Ok(cmd) => assert_eq!(rt; cmd.kind(), 5),
+    match kind_of(rt.alloc(), GROUP) {
+        Ok(kind) => assert_eq!(rt; kind, 5),
         Err(fault) => assert_eq!(rt; fault, FileFault::NoMemory),
     }
-    match lab_of(rt.alloc(), LAB, 7) {
-        Ok(calls) => assert_eq!(rt; calls.len(), 2),
+    match calls_of(rt.alloc(), LAB) {
+        Ok(calls) => assert_eq!(rt; calls, 2),
         Err(fault) => assert_eq!(rt; fault, FileFault::NoMemory),
     }
 }

@@ -3,7 +3,7 @@ use crate::asked::call;
 use crate::stores::{made, make};
 use farm_core::Farm;
 use farm_keep::{KeepFault, Keeper, RunEnd};
-use farm_types::{Answer, Call, Holder, JobState, Outcome, Reply, ResState, State};
+use farm_types::{Answer, Call, Holder, JobState, Outcome, Reply, ResRow, ResState, State};
 use sqlite::{Alter, Connection};
 use std::alloc::Global;
 use std::process::Abort;
@@ -110,32 +110,52 @@ fn expect_end(rt: &impl Abort, end: &RunEnd) {
     }
 }
 
+/// How many commands were accepted, when the last, and the next number.
+fn numbers(farm: &Farm) -> (u64, u64, u64) {
+    let status = farm.status();
+    (status.count, status.clock, status.next)
+}
+
+/// Whether the job was canceled.
+fn is_canceled(farm: &Farm) -> bool {
+    match farm.job(1) {
+        Some(job) => job.state == JobState::Finished && job.outcome == Some(Outcome::Canceled),
+        None => false,
+    }
+}
+
+/// Whether there is one board, and it is free.
+fn is_free(farm: &Farm) -> bool {
+    match farm.boards() {
+        [board] => board.state == State::Idle && board.holder == Holder::Nobody,
+        _ => false,
+    }
+}
+
+/// Whether a reservation that had the board was given up.
+fn has_ended(lease: &ResRow) -> bool {
+    let had_board = match &lease.board {
+        Some(board) => board.as_str() == "b1",
+        None => false,
+    };
+    had_board && lease.number == 2 && lease.state == ResState::Canceled && lease.deadline == 130
+}
+
+/// Whether there is one reservation, which had the board and was given up.
+fn is_given_up(farm: &Farm) -> bool {
+    match farm.reservations() {
+        [lease] => has_ended(lease),
+        _ => false,
+    }
+}
+
 /// Demands that the job was canceled, that its board is free, and that the reservation was given
 /// up.
-fn expect_rows(rt: &impl Abort, farm: &Farm) -> Result<(), Fail> {
-    let status = farm.status();
-    assert_eq!(rt; (status.count, status.clock, status.next), (15, 80, 3));
-    let job = farm.job(1).ok_or("no job")?;
-    assert_eq!(rt;
-        (job.state, job.outcome),
-        (JobState::Finished, Some(Outcome::Canceled))
-    );
-    let [board] = farm.boards() else {
-        return Err(Fail::new("not one board"));
-    };
-    assert_eq!(rt; (board.state, board.holder), (State::Idle, Holder::Nobody));
-    let [lease] = farm.reservations() else {
-        return Err(Fail::new("not one reservation"));
-    };
-    assert_eq!(rt;
-        (lease.number, lease.state, lease.deadline),
-        (2, ResState::Canceled, 130)
-    );
-    match &lease.board {
-        Some(board) => assert_eq!(rt; board.as_str(), "b1"),
-        None => return Err(Fail::new("no board")),
-    }
-    Ok(())
+fn expect_rows(rt: &impl Abort, farm: &Farm) {
+    assert_eq!(rt; numbers(farm), (15, 80, 3));
+    assert!(rt; is_canceled(farm));
+    assert!(rt; is_free(farm));
+    assert!(rt; is_given_up(farm));
 }
 
 /// Demands the same of a keeper and its farm.
@@ -143,8 +163,14 @@ fn expect_kept<S: Alter>(rt: &impl Abort, keeper: &Keeper<S>, end: &RunEnd) -> R
     expect_end(rt, end);
     match keeper.farm() {
         Some(farm) => expect_rows(rt, farm),
-        None => Err(Fail::new("closed")),
+        None => return Err(Fail::new("closed")),
     }
+    Ok(())
+}
+
+/// How a keeper's run over these calls ends.
+fn run_end<S: Alter>(keeper: &mut Keeper<S>, calls: &[Call]) -> RunEnd {
+    keeper.run(calls)
 }
 
 /// A run over a new store.
@@ -155,7 +181,7 @@ fn run<S: Alter + Drop>(
     calls: &[Call],
 ) -> Result<(), Fail> {
     let mut keeper = made(alloc, conn).ok_or("no farm")?;
-    let end = keeper.run(calls);
+    let end = run_end(&mut keeper, calls);
     expect_kept(rt, &keeper, &end)
 }
 
@@ -171,6 +197,18 @@ fn all_fourteen_commands(rt: HostRuntime) -> Result<(), Fail> {
     )
 }
 
+/// A keeper that a store is opened for, and how its run ends; none where the store fails.
+fn resumed<S: Alter + Drop>(
+    alloc: Global,
+    conn: Connection<S>,
+    calls: &[Call],
+) -> Option<(Keeper<S>, RunEnd)> {
+    if !conn.is_autocommit() {
+        return None;
+    }
+    Keeper::resume(alloc, conn, calls).ok()
+}
+
 /// A run over a store that has the tables of the empty farm.
 fn resume<S: Alter + Drop>(
     rt: &impl Abort,
@@ -179,10 +217,7 @@ fn resume<S: Alter + Drop>(
     calls: &[Call],
 ) -> Result<(), Fail> {
     make(&mut conn)?;
-    if !conn.is_autocommit() {
-        return Err(Fail::new("in a transaction"));
-    }
-    let (keeper, end) = Keeper::resume(alloc, conn, calls)?;
+    let (keeper, end) = resumed(alloc, conn, calls).ok_or("no farm")?;
     expect_kept(rt, &keeper, &end)
 }
 

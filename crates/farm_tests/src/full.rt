@@ -2,40 +2,68 @@
 use crate::asked::call;
 use crate::rows::{board, job, no_rows, type_row};
 use farm_core::{Farm, StepFault};
-use farm_types::{Answer, Call, Check, Health, Holder, JobState, Outcome, Priority, Reply, Rows};
+use farm_types::{
+    Answer, BoardRow, Call, Check, Health, Holder, JobRow, JobState, Outcome, Priority, Reply,
+    Rows, TypeRow, WordFault,
+};
 use std::alloc::Global;
 use std::test::Fail;
 
 /// The boards of that farm.
 const BOARDS: [&str; 3] = ["b1", "b2", "b3"];
 
-/// A type with a check, and boards of it whose health is Unknown.
-fn push_boards(alloc: Global, rows: &mut Rows) -> Result<(), Fail> {
-    rows.types.push(type_row(alloc, "bbb", Check::Hours(24))?)?;
+/// A type with a check.
+fn types(alloc: Global) -> Result<Vec<TypeRow>, Fail> {
+    let row = type_row(alloc, "bbb", Check::Hours(24))?;
+    Ok(vec![in alloc; row]?)
+}
+
+/// A board whose health is Unknown.
+fn unknown(alloc: Global, called: &str) -> Result<BoardRow, WordFault> {
+    let mut row = board(alloc, called, "")?;
+    row.health = Health::Unknown;
+    Ok(row)
+}
+
+fn boards(alloc: Global) -> Result<Vec<BoardRow>, Fail> {
+    let mut rows = Vec::new(alloc);
     for called in BOARDS {
-        let mut row = board(alloc, called, "")?;
-        row.health = Health::Unknown;
-        rows.boards.push(row)?;
+        rows.push(unknown(alloc, called)?)?;
     }
-    Ok(())
+    Ok(rows)
+}
+
+/// A Finished job.
+fn finished(alloc: Global, number: u64, priority: Priority) -> Result<JobRow, WordFault> {
+    let mut row = job(alloc, number, number, priority, JobState::Finished)?;
+    row.outcome = Some(Outcome::Complete);
+    Ok(row)
 }
 
 /// As many Finished jobs as a farm may have.
-fn push_jobs(alloc: Global, rows: &mut Rows) -> Result<(), Fail> {
+fn jobs(alloc: Global) -> Result<Vec<JobRow>, Fail> {
     let medium = Priority::of(50)?;
+    let mut rows = Vec::new(alloc);
     for number in 1..100_001 {
-        let mut done = job(alloc, number, number, medium, JobState::Finished)?;
-        done.outcome = Some(Outcome::Complete);
-        rows.jobs.push(done)?;
+        rows.push(finished(alloc, number, medium)?)?;
     }
-    Ok(())
+    Ok(rows)
+}
+
+/// The farm of these rows.
+fn farm_of(rows: Rows) -> Result<Farm, Fail> {
+    Ok(Farm::from_rows(rows)?)
 }
 
 fn full_farm(alloc: Global) -> Result<Farm, Fail> {
+    let types = types(alloc)?;
+    let boards = boards(alloc)?;
+    let jobs = jobs(alloc)?;
     let mut rows = no_rows(alloc, 100_001);
-    push_boards(alloc, &mut rows)?;
-    push_jobs(alloc, &mut rows)?;
-    Ok(Farm::from_rows(rows)?)
+    rows.types = types;
+    rows.boards = boards;
+    rows.jobs = jobs;
+    farm_of(rows)
 }
 
 /// The reply where the call is done.

@@ -4,6 +4,7 @@ use crate::sent::FIRST_TYPE;
 use farm_http::{CountedReader, Input, Taken, WireFault, read_request, read_request_counted};
 use farm_types::{BAD_REQUEST, LONGEST_BODY, LONGEST_HEAD, Refusal};
 use std::alloc::{AllocError, Global};
+use std::io;
 use std::io::{BufReader, Read};
 use std::process::Abort;
 use std::test::Fail;
@@ -13,16 +14,21 @@ pub(crate) fn read<R: Input>(alloc: Global, reader: &mut R) -> Result<Taken, Wir
     read_request(alloc, reader)
 }
 
-/// What a reader gives, how often it was called, by its own count too, and whether it failed.
+/// What a reader gives, how often it was called, and whether it failed.
+fn taken_from<R: Input>(alloc: Global, reader: &mut R) -> (Result<Taken, WireFault>, usize, bool) {
+    let mut reader = CountedReader::new(reader);
+    let taken = read_request_counted(alloc, &mut reader);
+    (taken, reader.calls() as usize, reader.has_failed())
+}
+
+/// The same, by the reader's own count too.
 fn counted<R: Read>(
     rt: &impl Abort,
     alloc: Global,
     reader: &mut R,
 ) -> (Result<Taken, WireFault>, usize, bool) {
     let mut input = Tally::new(reader);
-    let mut reader = CountedReader::new(&mut input);
-    let taken = read_request_counted(alloc, &mut reader);
-    let (calls, failed) = (reader.calls() as usize, reader.has_failed());
+    let (taken, calls, failed) = taken_from(alloc, &mut input);
     assert_eq!(rt; calls, input.calls);
     (taken, calls, failed)
 }
@@ -41,10 +47,17 @@ fn fault_of<R: Read>(
 const WITH_MORE: &[u8] =
     b"POST /types HTTP/1.1\r\nx-user: admin\r\ncontent-length: 14\r\n\r\n{\"name\":\"bbb\"}GET / ";
 
+/// What the first request is taken as, and what stays in its reader.
+fn first_and_rest(alloc: Global) -> (Result<Taken, WireFault>, &'static [u8]) {
+    let mut rest = WITH_MORE;
+    let taken = read(alloc, &mut rest);
+    (taken, rest)
+}
+
 #[test]
 fn first_type(rt: HostRuntime) {
-    let mut rest = WITH_MORE;
-    match read(rt.alloc(), &mut rest) {
+    let (taken, rest) = first_and_rest(rt.alloc());
+    match taken {
         Ok(taken) => {
             assert!(rt; taken.bytes.as_slice() == FIRST_TYPE);
             assert_eq!(rt; taken.head, 59);
@@ -57,23 +70,38 @@ fn first_type(rt: HostRuntime) {
     }
 }
 
-#[test]
-fn one_byte_a_call(rt: HostRuntime) -> Result<(), Fail> {
-    for (stalls, wanted) in [(0, 73), (1, 74), (73, 146)] {
-        let mut input = Slow::whole(FIRST_TYPE, stalls);
-        let (taken, calls, failed) = counted(&rt, rt.alloc(), &mut input);
-        assert!(rt; taken?.bytes.as_slice() == FIRST_TYPE);
-        assert_eq!(rt; (calls, failed), (wanted, false));
-    }
-    Ok(())
+/// Whether a reader gives these bytes; how often it was called, and whether it failed.
+fn gives<R: Read>(
+    rt: &impl Abort,
+    alloc: Global,
+    reader: &mut R,
+    wanted: &[u8],
+) -> (bool, usize, bool) {
+    let (taken, calls, failed) = counted(rt, alloc, reader);
+    let is_wanted = match taken {
+        Ok(taken) => taken.bytes.as_slice() == wanted,
+        Err(_) => false,
+    };
+    (is_wanted, calls, failed)
 }
 
 #[test]
+fn one_byte_a_call(rt: HostRuntime) {
+    for (stalls, wanted) in [(0, 73), (1, 74), (73, 146)] {
+        let mut input = Slow::whole(FIRST_TYPE, stalls);
+        let end = gives(&rt, rt.alloc(), &mut input, FIRST_TYPE);
+        assert_eq!(rt; end, (true, wanted, false));
+    }
+}
+
+/// Why a request is refused that ends within its head or body.
+const REFUSED: WireFault = WireFault::Refused(Refusal { code: BAD_REQUEST });
+
+#[test]
 fn cut_at_each_byte(rt: HostRuntime) {
-    let refused = WireFault::Refused(Refusal { code: BAD_REQUEST });
     for n in 0..FIRST_TYPE.len() {
         let (fault, _, failed) = fault_of(&rt, rt.alloc(), &mut &FIRST_TYPE[..n]);
-        assert_eq!(rt; (fault, failed), (Some(refused), false), "at {n}");
+        assert_eq!(rt; (fault, failed), (Some(REFUSED), false), "at {n}");
     }
 }
 
@@ -85,28 +113,36 @@ fn fails_at_each_byte(rt: HostRuntime) {
     }
 }
 
+/// A buffered reader of two requests.
+type Lines = BufReader<Tally<&'static [u8]>>;
+
+/// Whether a buffered reader gives the first request, and leaves the beginning of the other.
+fn gives_lines(alloc: Global, input: &mut Lines) -> Result<bool, Fail> {
+    let is_first = read(alloc, input)?.bytes.as_slice() == FIRST_TYPE;
+    let mut rest = Vec::new(alloc);
+    input.read_to_end(&mut rest)?;
+    Ok(is_first && rest.as_slice() == b"GET / ".as_slice())
+}
+
+/// Why a buffered reader that fails behind these bytes gives no request, and whether it is blamed.
+fn fault_behind(alloc: Global, known: &[u8]) -> io::Result<(Option<WireFault>, bool)> {
+    let source = known.chain(Slow::failing(&[], 0, u32::MAX));
+    let mut input = BufReader::new(alloc, source)?;
+    let (taken, _, failed) = taken_from(alloc, &mut input);
+    Ok((taken.err(), failed))
+}
+
 /// A buffered reader gives what it holds of a line at once, whatever it holds: the same bytes are
 /// taken, and where it fails behind some, it is blamed.
 #[test]
 fn lines_at_once(rt: HostRuntime) -> Result<(), Fail> {
     for capacity in [1, 7, 64, 8_192] {
-        let source = Tally::new(WITH_MORE);
-        let mut input = BufReader::with_capacity(rt.alloc(), capacity, source)?;
-        assert!(rt; read(rt.alloc(), &mut input)?.bytes.as_slice() == FIRST_TYPE);
-        let mut rest = Vec::new(rt.alloc());
-        input.read_to_end(&mut rest)?;
-        assert!(rt; rest.as_slice() == b"GET / ".as_slice());
+        let mut input = BufReader::with_capacity(rt.alloc(), capacity, Tally::new(WITH_MORE))?;
+        assert!(rt; gives_lines(rt.alloc(), &mut input)?);
     }
     for left in 0..FIRST_TYPE.len() {
-        let source = (&FIRST_TYPE[..left]).chain(Slow::failing(&[], 0, u32::MAX));
-        let mut input = BufReader::new(rt.alloc(), source)?;
-        let mut reader = CountedReader::new(&mut input);
-        let fault = read_request_counted(rt.alloc(), &mut reader).err();
-        assert_eq!(rt;
-            (fault, reader.has_failed()),
-            (Some(WireFault::Read), true),
-            "at {left}"
-        );
+        let end = fault_behind(rt.alloc(), &FIRST_TYPE[..left])?;
+        assert_eq!(rt; end, (Some(WireFault::Read), true), "at {left}");
     }
     Ok(())
 }
@@ -133,9 +169,8 @@ fn all_turns(rt: HostRuntime) -> Result<(), Fail> {
     let bytes = longest(rt.alloc())?;
     for (stalls, wanted) in [(0, 73_728), (6_272, 80_000)] {
         let mut input = Slow::whole(bytes.as_slice(), stalls);
-        let (taken, calls, failed) = counted(&rt, rt.alloc(), &mut input);
-        assert!(rt; taken?.bytes == bytes);
-        assert_eq!(rt; (calls, failed), (wanted, false));
+        let end = gives(&rt, rt.alloc(), &mut input, bytes.as_slice());
+        assert_eq!(rt; end, (true, wanted, false));
     }
     let end = fault_of(&rt, rt.alloc(), &mut Slow::whole(bytes.as_slice(), 6_273));
     assert_eq!(rt; end, (Some(WireFault::Read), 80_000, false));

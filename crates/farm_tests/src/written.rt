@@ -1,36 +1,52 @@
 //! Answers that are written whole, or as far as the writer takes them.
 use crate::fakes::{Narrow, Tally};
-use farm_http::{CountedWriter, write_whole, write_whole_counted};
+use farm_http::{CountedWriter, Output, WireFault, write_whole, write_whole_counted};
+use std::alloc::Global;
 use std::io::Write;
 use std::process::Abort;
 use std::test::Fail;
 
 const TEXT: &[u8] = b"HTTP/1.1 200 OK\r\n";
 
-/// Whether a text was written whole, how often the writer was called, by its own count too, and
-/// whether it failed.
+/// Whether a text was written whole, how often the writer was called, and whether it failed.
+fn written_to<W: Output>(writer: &mut W, text: &[u8]) -> (bool, usize, bool) {
+    let mut writer = CountedWriter::new(writer);
+    let is_whole = write_whole_counted(&mut writer, text).is_ok();
+    (is_whole, writer.calls(), writer.has_failed())
+}
+
+/// The same, by the writer's own count too.
 fn written<W: Write>(rt: &impl Abort, writer: &mut W, text: &[u8]) -> (bool, usize, bool) {
     let mut output = Tally::new(writer);
-    let mut writer = CountedWriter::new(&mut output);
-    let is_whole = write_whole_counted(&mut writer, text).is_ok();
-    let (calls, failed) = (writer.calls(), writer.has_failed());
-    assert_eq!(rt; calls, output.calls);
-    (is_whole, calls, failed)
+    let end = written_to(&mut output, text);
+    assert_eq!(rt; end.1, output.calls);
+    end
+}
+
+/// How the writing of the text ends where a writer stops so, and what it holds then.
+fn stopped_at(
+    rt: &impl Abort,
+    alloc: Global,
+    room: usize,
+    (stops, fails): (u32, bool),
+) -> ((bool, usize, bool), Vec<u8>) {
+    let mut writer = Narrow::stopping(alloc, room, stops, fails);
+    let end = written(rt, &mut writer, TEXT);
+    (end, writer.held)
 }
 
 /// A writer that stops once or for good ends the writing.
 #[test]
 fn a_prefix_stands(rt: HostRuntime) {
-    for (stops, fails) in [(1, false), (1, true), (u32::MAX, false), (u32::MAX, true)] {
+    for stop in [(1, false), (1, true), (u32::MAX, false), (u32::MAX, true)] {
         for room in 0..TEXT.len() {
-            let mut writer = Narrow::stopping(rt.alloc(), room, stops, fails);
-            let end = written(&rt, &mut writer, TEXT);
+            let (end, held) = stopped_at(&rt, rt.alloc(), room, stop);
             assert_eq!(rt; end, (false, room + 1, true), "at {room}");
-            assert!(rt; writer.held.as_slice() == &TEXT[..room], "at {room}");
+            assert!(rt; held.as_slice() == &TEXT[..room], "at {room}");
         }
-        let mut writer = Narrow::stopping(rt.alloc(), TEXT.len(), stops, fails);
-        assert_eq!(rt; written(&rt, &mut writer, TEXT), (true, TEXT.len(), false));
-        assert!(rt; writer.held.as_slice() == TEXT);
+        let (end, held) = stopped_at(&rt, rt.alloc(), TEXT.len(), stop);
+        assert_eq!(rt; end, (true, TEXT.len(), false));
+        assert!(rt; held.as_slice() == TEXT);
     }
 }
 
@@ -48,10 +64,15 @@ fn a_long_text(rt: HostRuntime) -> Result<(), Fail> {
     Ok(())
 }
 
+/// Writes a text whole.
+fn write<W: Output>(writer: &mut W, text: &[u8]) -> Result<(), WireFault> {
+    write_whole(writer, text)
+}
+
 #[test]
 fn one_write_for_all(rt: HostRuntime) -> Result<(), Fail> {
     let mut held = Vec::new(rt.alloc());
-    write_whole(&mut held, TEXT)?;
+    write(&mut held, TEXT)?;
     assert!(rt; held.as_slice() == TEXT);
     Ok(())
 }
