@@ -16,22 +16,18 @@ use one_pass::Words;
 use std::env;
 use watch::Watch;
 
-fn main(rt: HostRuntime) -> anyhow::Result<()> {
-    let mut words = env::args(&rt)?;
-    let _program = words.next();
-    let first = words.next();
-    let timed = first.is_some();
-    if let (Some(deed), Some(shape), Some(claims)) = (first, words.next(), words.next()) {
-        let passes = words.next();
-        let wanted = Words {
-            deed,
-            shape,
-            claims,
-            passes,
-        };
-        return one_pass::run(&rt, &wanted);
+/// Does what the words say.
+fn run(rt: &HostRuntime, words: &[String]) -> anyhow::Result<()> {
+    if let Some(wanted) = Words::of(words) {
+        return one_pass::run(rt, &wanted);
     }
-    let watch = Watch { rt: &rt, timed };
+    let timed = words.len() > 1;
+    let watch = Watch { rt, timed };
     lists::run(&watch)?;
     passes::run(&watch)
+}
+
+fn main(rt: HostRuntime) -> anyhow::Result<()> {
+    let words: Vec<String> = env::args(&rt)?.collect(rt.alloc())?;
+    run(&rt, words.as_slice())
 }

@@ -32,27 +32,30 @@ struct Done {
 }
 
 /// A farm that takes these rows.
-pub fn farm_of(rows: Rows) -> anyhow::Result<Farm> {
+fn farm_of(rows: Rows) -> anyhow::Result<Farm> {
     match Farm::from_rows(rows) {
         Ok(farm) => Ok(farm),
         Err(_) => bail!("unsound rows"),
     }
 }
 
+/// A farm of a shape.
+pub fn farm_in(alloc: Global, shape: &Shape) -> anyhow::Result<Farm> {
+    farm_of(rows::rows(alloc, shape)?)
+}
+
+/// How many jobs and reservations a farm holds.
+fn counts(farm: &Farm) -> (u64, u64) {
+    let status = farm.status();
+    (status.jobs, status.reservations)
+}
+
 /// What a farm took since a start, and how long that was.
 fn taken(watch: &Watch<'_>, farm: &Farm, start: Instant) -> anyhow::Result<Done> {
     let nanos = watch.stop(start)?;
-    let status = farm.status();
-    let (jobs, reservations) = (status.jobs, status.reservations);
+    let (jobs, reservations) = counts(farm);
     let what = format!(in watch.alloc(); "{jobs} jobs and {reservations} reservations taken")?;
     Ok(Done { what, nanos })
-}
-
-fn take(watch: &Watch<'_>, shape: &Shape) -> anyhow::Result<Done> {
-    let rows = rows::rows(watch.alloc(), shape)?;
-    let start = watch.start()?;
-    let farm = farm_of(rows)?;
-    taken(watch, &farm, start)
 }
 
 /// The command of a pass, with the fact that it is proper.
@@ -95,7 +98,7 @@ fn timed_pass(watch: &Watch<'_>, farm: &mut Farm, call: &Call) -> anyhow::Result
 }
 
 /// Passes so often, and times the last pass.
-fn pass_often(
+fn repeat_pass(
     watch: &Watch<'_>,
     farm: &mut Farm,
     call: &Call,
@@ -107,34 +110,59 @@ fn pass_often(
     timed_pass(watch, farm, call)
 }
 
-fn pass(watch: &Watch<'_>, shape: &Shape, now: u64, passes: u32) -> anyhow::Result<Done> {
+/// Passes at a moment so often, and times the last pass.
+fn pass_often(watch: &Watch<'_>, farm: &mut Farm, now: u64, passes: u32) -> anyhow::Result<Done> {
     let call = pass_at(watch.alloc(), now)?;
-    let mut farm = farm_of(rows::rows(watch.alloc(), shape)?)?;
-    pass_often(watch, &mut farm, &call, passes)
+    repeat_pass(watch, farm, &call, passes)
+}
+
+/// How many claims a farm lists.
+fn length_of_queue(farm: &Farm) -> anyhow::Result<usize> {
+    let claims = farm.queue()?;
+    Ok(claims.len())
 }
 
 /// How many claims a farm lists, and how long it took.
 fn timed_queue(watch: &Watch<'_>, farm: &Farm) -> anyhow::Result<Done> {
     let start = watch.start()?;
-    let claims = farm.queue()?;
+    let count = length_of_queue(farm)?;
     let nanos = watch.stop(start)?;
-    let count = claims.len();
     let what = format!(in watch.alloc(); "{count} claims")?;
     Ok(Done { what, nanos })
 }
 
-fn queue(watch: &Watch<'_>, shape: &Shape) -> anyhow::Result<Done> {
-    let farm = farm_of(rows::rows(watch.alloc(), shape)?)?;
-    timed_queue(watch, &farm)
+/// What is done with a farm that was taken since a start.
+fn with_farm(
+    watch: &Watch<'_>,
+    farm: &mut Farm,
+    deed: Deed,
+    start: Instant,
+) -> anyhow::Result<Done> {
+    match deed {
+        Deed::Take => taken(watch, farm, start),
+        Deed::Pass(now) => pass_often(watch, farm, now, 1),
+        Deed::PassAgain(now) => pass_often(watch, farm, now, 2),
+        Deed::Queue => timed_queue(watch, farm),
+    }
 }
 
 fn perform(watch: &Watch<'_>, shape: &Shape, deed: Deed) -> anyhow::Result<Done> {
-    match deed {
-        Deed::Take => take(watch, shape),
-        Deed::Pass(now) => pass(watch, shape, now, 1),
-        Deed::PassAgain(now) => pass(watch, shape, now, 2),
-        Deed::Queue => queue(watch, shape),
-    }
+    let rows = rows::rows(watch.alloc(), shape)?;
+    let start = watch.start()?;
+    let mut farm = farm_of(rows)?;
+    with_farm(watch, &mut farm, deed, start)
+}
+
+/// Does a deed once, and adds its time; what came of it.
+fn add_time(
+    watch: &Watch<'_>,
+    shape: &Shape,
+    deed: Deed,
+    times: &mut Vec<u64>,
+) -> anyhow::Result<String> {
+    let done = perform(watch, shape, deed)?;
+    times.push(done.nanos)?;
+    Ok(done.what)
 }
 
 /// Does a deed with the rows of a shape as often as the watch says, and shows what came of it.
@@ -143,9 +171,8 @@ pub fn measure(watch: &Watch<'_>, name: &str, shape: &Shape, deed: Deed) -> anyh
     let mut what = String::new(alloc);
     let mut times = Vec::new(alloc);
     for _ in 0..watch.rounds() {
-        let done = perform(watch, shape, deed)?;
-        what = format!(in alloc; "{name}, {}", done.what)?;
-        times.push(done.nanos)?;
+        what = add_time(watch, shape, deed, &mut times)?;
     }
+    let what = format!(in alloc; "{name}, {what}")?;
     watch.show(what.as_str(), times)
 }

@@ -44,34 +44,58 @@ pub struct Shape {
     pub front: Front,
 }
 
-/// The boards alone.
-pub const IDLE: Shape = Shape {
-    away: 0,
-    finished: 0,
-    groups: 0,
-    members: 1,
-    canceled: 0,
-    waiting: 0,
-    rare: false,
-    front: Front::Nobody,
-};
-
 impl Shape {
-    /// The same where no free board fits: each claim wants the tag of the boards in maintenance.
-    pub fn unfit(self) -> Shape {
+    /// So many groups of so many jobs, and so many reservations, which all wait.
+    pub fn waiting(groups: u64, members: u64, waiting: u64) -> Shape {
         Shape {
-            rare: true,
-            away: boards::RARE,
-            ..self
+            away: 0,
+            finished: 0,
+            groups,
+            members,
+            canceled: 0,
+            waiting,
+            rare: false,
+            front: Front::Nobody,
         }
     }
 
+    /// So many finished jobs and as many canceled reservations.
+    pub fn ended(rows: u64) -> Shape {
+        let mut shape = Shape::waiting(0, 1, 0);
+        shape.finished = rows;
+        shape.canceled = rows;
+        shape
+    }
+
+    /// So many single jobs behind others, where one board is in maintenance.
+    pub fn behind(front: Front, jobs: u64) -> Shape {
+        let mut shape = Shape::waiting(jobs, 1, 0);
+        shape.away = 1;
+        shape.front = front;
+        shape
+    }
+
+    /// The same where claims want the rare tag, and so many boards are in maintenance.
+    fn rare(mut self, away: u64) -> Shape {
+        self.rare = true;
+        self.away = away;
+        self
+    }
+
+    /// The same where no free board fits: each claim wants the tag of the boards in maintenance.
+    pub fn unfit(self) -> Shape {
+        self.rare(boards::RARE)
+    }
+
+    /// The same where three boards fit.
+    pub fn scarce(self) -> Shape {
+        self.rare(1)
+    }
+
     /// The same where no board is free.
-    pub fn busy(self) -> Shape {
-        Shape {
-            away: boards::MOST,
-            ..self
-        }
+    pub fn busy(mut self) -> Shape {
+        self.away = boards::MOST;
+        self
     }
 }
 
@@ -87,16 +111,31 @@ fn priority_of(number: u64) -> anyhow::Result<Priority> {
     Ok(Priority::of(number % 3 * 50).map_err(WordFault::Refused)?)
 }
 
+/// What a job of a group wants: a board of a type.
+fn want(alloc: Global, group: u64, rare: bool) -> anyhow::Result<Want> {
+    let tags = boards::asked_tags(alloc, rare)?;
+    let kind = Some(boards::name(alloc, boards::kind_at(group))?);
+    Ok(Want { kind, tags })
+}
+
+/// A text of so many bytes.
+fn body(alloc: Global, length: usize) -> anyhow::Result<Body> {
+    Ok(Body::of(format!(in alloc; "{:x>length$}", "")?))
+}
+
+/// A job that waits, without a text.
+fn bare_job(alloc: Global, number: u64, group: u64, rare: bool) -> anyhow::Result<JobRow> {
+    let priority = priority_of(group)?;
+    let owner = boards::name(alloc, "ann")?;
+    let want = want(alloc, group, rare)?;
+    Ok(JobRow::new(alloc, number, group, owner, priority, want))
+}
+
 /// A job that waits for a board of a type; the first of its group has a text of 300 bytes.
 fn job(alloc: Global, number: u64, group: u64, rare: bool) -> anyhow::Result<JobRow> {
-    let owner = boards::name(alloc, "ann")?;
-    let priority = priority_of(group)?;
-    let kind = Some(boards::name(alloc, boards::kind_at(group))?);
-    let tags = boards::asked_tags(alloc, rare)?;
-    let length = if number == group { 300 } else { 0 };
-    let text = format!(in alloc; "{:x>length$}", "")?;
-    let mut row = JobRow::new(alloc, number, group, owner, priority, Want { kind, tags });
-    row.body = Body::of(text);
+    let body = body(alloc, if number == group { 300 } else { 0 })?;
+    let mut row = bare_job(alloc, number, group, rare)?;
+    row.body = body;
     Ok(row)
 }
 
@@ -138,17 +177,23 @@ fn add_group(alloc: Global, rows: &mut Rows, shape: &Shape) -> anyhow::Result<()
     Ok(())
 }
 
+/// A job of the highest priority, for a board of the type whose turn its number is.
+fn front_job(alloc: Global, number: u64, group: u64) -> anyhow::Result<JobRow> {
+    let priority = Priority::of(100).map_err(WordFault::Refused)?;
+    let kind = boards::name(alloc, boards::kind_at(number))?;
+    let mut row = job(alloc, number, group, true)?;
+    row.priority = priority;
+    row.want.kind = Some(kind);
+    Ok(row)
+}
+
 /// Four jobs of the highest priority, for the boards with the rare tag.
 fn add_front(alloc: Global, rows: &mut Rows, together: bool) -> anyhow::Result<()> {
-    let highest = Priority::of(100).map_err(WordFault::Refused)?;
     let first = rows.meta.next;
     for _ in 0..boards::RARE {
         let number = take_number(rows);
         let group = if together { first } else { number };
-        let kind = boards::name(alloc, boards::kind_at(number))?;
-        let mut row = job(alloc, number, group, true)?;
-        row.priority = highest;
-        row.want.kind = Some(kind);
+        let row = front_job(alloc, number, group)?;
         rows.jobs.push(row)?;
     }
     Ok(())
