@@ -3,7 +3,7 @@ use crate::boards;
 use crate::watch::Watch;
 use farm_pick::{Free, Picked, least};
 use farm_types::{BoardRow, Want, Wants, WordFault, is_sorted};
-use std::alloc::{AllocError, Global};
+use std::alloc::Global;
 
 /// Boards that fit: none, too few for four wants, just enough and behind all others, all.
 const FITTING: [u64; 5] = [0, 1, 3, 4, boards::MOST];
@@ -32,47 +32,22 @@ fn look(boards: &[BoardRow], wants: &Wants) -> Option<Picked> {
     found
 }
 
-/// Looks, and adds the time of one look; what was found.
-fn add_time(
-    watch: &Watch<'_>,
-    boards: &[BoardRow],
-    wants: &Wants,
-    times: &mut Vec<u64>,
-) -> anyhow::Result<Option<Picked>> {
-    let start = watch.start()?;
-    let found = look(boards, wants);
-    times.push(watch.stop(start)? / LOOKS)?;
-    Ok(found)
-}
-
-/// What was found, in words.
-fn in_words(alloc: Global, fitting: u64, found: Option<Picked>) -> Result<String, AllocError> {
-    match found {
-        None => format!(in alloc; "{fitting} fit: none"),
-        Some(picked) => format!(in alloc; "{fitting} fit: {:?}", picked.places()),
-    }
-}
-
-/// Looks as often as the watch says, and shows what was found.
-fn look_often(
-    watch: &Watch<'_>,
-    boards: &[BoardRow],
-    wants: &Wants,
-    fitting: u64,
-) -> anyhow::Result<()> {
-    let mut found = None;
-    let mut times = Vec::new(watch.alloc());
-    for _ in 0..watch.rounds() {
-        found = add_time(watch, boards, wants, &mut times)?;
-    }
-    let what = in_words(watch.alloc(), fitting, found)?;
-    watch.show(what.as_str(), times)
-}
-
 fn measure(watch: &Watch<'_>, fitting: u64) -> anyhow::Result<()> {
-    let boards = boards::boards(watch.alloc(), fitting, 0)?;
-    let wants = wants(watch.alloc())?;
-    look_often(watch, boards.as_slice(), &wants, fitting)
+    let alloc = watch.alloc();
+    let boards = boards::boards(alloc, fitting, 0)?;
+    let wants = wants(alloc)?;
+    let mut found = None;
+    let mut times = Vec::new(alloc);
+    for _ in 0..watch.rounds() {
+        let start = watch.start()?;
+        found = look(boards.as_slice(), &wants);
+        times.push(watch.stop(start)? / LOOKS)?;
+    }
+    let what = match found {
+        None => format!(in alloc; "{fitting} fit: none")?,
+        Some(picked) => format!(in alloc; "{fitting} fit: {:?}", picked.places())?,
+    };
+    watch.show(what.as_str(), times)
 }
 
 pub fn run(watch: &Watch<'_>) -> anyhow::Result<()> {

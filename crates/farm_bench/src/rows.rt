@@ -111,31 +111,16 @@ fn priority_of(number: u64) -> anyhow::Result<Priority> {
     Ok(Priority::of(number % 3 * 50).map_err(WordFault::Refused)?)
 }
 
-/// What a job of a group wants: a board of a type.
-fn want(alloc: Global, group: u64, rare: bool) -> anyhow::Result<Want> {
-    let tags = boards::asked_tags(alloc, rare)?;
-    let kind = Some(boards::name(alloc, boards::kind_at(group))?);
-    Ok(Want { kind, tags })
-}
-
-/// A text of so many bytes.
-fn body(alloc: Global, length: usize) -> anyhow::Result<Body> {
-    Ok(Body::of(format!(in alloc; "{:x>length$}", "")?))
-}
-
-/// A job that waits, without a text.
-fn bare_job(alloc: Global, number: u64, group: u64, rare: bool) -> anyhow::Result<JobRow> {
-    let priority = priority_of(group)?;
-    let owner = boards::name(alloc, "ann")?;
-    let want = want(alloc, group, rare)?;
-    Ok(JobRow::new(alloc, number, group, owner, priority, want))
-}
-
 /// A job that waits for a board of a type; the first of its group has a text of 300 bytes.
 fn job(alloc: Global, number: u64, group: u64, rare: bool) -> anyhow::Result<JobRow> {
-    let body = body(alloc, if number == group { 300 } else { 0 })?;
-    let mut row = bare_job(alloc, number, group, rare)?;
-    row.body = body;
+    let owner = boards::name(alloc, "ann")?;
+    let priority = priority_of(group)?;
+    let kind = Some(boards::name(alloc, boards::kind_at(group))?);
+    let tags = boards::asked_tags(alloc, rare)?;
+    let length = if number == group { 300 } else { 0 };
+    let text = format!(in alloc; "{:x>length$}", "")?;
+    let mut row = JobRow::new(alloc, number, group, owner, priority, Want { kind, tags });
+    row.body = Body::of(text);
     Ok(row)
 }
 
@@ -177,23 +162,17 @@ fn add_group(alloc: Global, rows: &mut Rows, shape: &Shape) -> anyhow::Result<()
     Ok(())
 }
 
-/// A job of the highest priority, for a board of the type whose turn its number is.
-fn front_job(alloc: Global, number: u64, group: u64) -> anyhow::Result<JobRow> {
-    let priority = Priority::of(100).map_err(WordFault::Refused)?;
-    let kind = boards::name(alloc, boards::kind_at(number))?;
-    let mut row = job(alloc, number, group, true)?;
-    row.priority = priority;
-    row.want.kind = Some(kind);
-    Ok(row)
-}
-
 /// Four jobs of the highest priority, for the boards with the rare tag.
 fn add_front(alloc: Global, rows: &mut Rows, together: bool) -> anyhow::Result<()> {
+    let highest = Priority::of(100).map_err(WordFault::Refused)?;
     let first = rows.meta.next;
     for _ in 0..boards::RARE {
         let number = take_number(rows);
         let group = if together { first } else { number };
-        let row = front_job(alloc, number, group)?;
+        let kind = boards::name(alloc, boards::kind_at(number))?;
+        let mut row = job(alloc, number, group, true)?;
+        row.priority = highest;
+        row.want.kind = Some(kind);
         rows.jobs.push(row)?;
     }
     Ok(())

@@ -6,11 +6,6 @@ use std::time::Instant;
 /// How often everything is timed.
 const ROUNDS: u64 = 7;
 
-/// The time at a place.
-fn at(nanos: &[u64], place: usize) -> u64 {
-    nanos.get(place).copied().unwrap_or(0)
-}
-
 /// A watch. Where it isn't asked to take times it shows what was done alone, so that such a run
 /// always prints the same.
 #[derive(Clone, Copy)]
@@ -50,23 +45,18 @@ impl Watch<'_> {
         Ok(())
     }
 
-    /// Prints what was done, and of its times in nanoseconds, in their order, the median, the least
-    /// and the greatest.
-    fn show_times(&self, what: &str, nanos: &[u64]) -> anyhow::Result<()> {
-        let median = at(nanos, nanos.len() / 2);
-        let least = at(nanos, 0);
-        let most = at(nanos, nanos.len().saturating_sub(1));
-        println!(self.rt; "  {what}: {median} ns ({least} to {most})")?;
-        Ok(())
-    }
-
-    /// Prints what was done, and where it takes times what they come to.
+    /// Prints what was done, and of its times in nanoseconds the median, the least and the
+    /// greatest.
     pub fn show(&self, what: &str, mut nanos: Vec<u64>) -> anyhow::Result<()> {
-        if self.timed {
-            nanos.sort_unstable();
-            return self.show_times(what, nanos.as_slice());
+        if !self.timed {
+            println!(self.rt; "  {what}")?;
+            return Ok(());
         }
-        println!(self.rt; "  {what}")?;
+        nanos.sort_unstable();
+        let median = nanos.get(nanos.len() / 2).copied().unwrap_or(0);
+        let least = nanos.first().copied().unwrap_or(0);
+        let most = nanos.last().copied().unwrap_or(0);
+        println!(self.rt; "  {what}: {median} ns ({least} to {most})")?;
         Ok(())
     }
 }
