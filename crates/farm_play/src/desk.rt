@@ -70,15 +70,9 @@ impl<S: Alter + Drop> Desk<S> {
     /// What a step that asks gives.
     pub fn does(&mut self, alloc: Global, step: &Step) -> Result<Vec<u8>, AllocError> {
         match step.deed {
-            Deed::Ask | Deed::Raw => {
-                let bytes = request(alloc, step)?;
-                answered(alloc, &mut self.keeper, step.now, bytes.as_slice())
-            }
-            Deed::Import => Ok(imported(alloc, &mut self.keeper, step)?.into_bytes()),
-            _ => match self.keeper.farm() {
-                Some(farm) => Ok(look(alloc, farm, step)?.into_bytes()),
-                None => Vec::from_slice(alloc, b"closed\n"),
-            },
+            Deed::Ask | Deed::Raw => asked(alloc, &mut self.keeper, step),
+            Deed::Import => imported(alloc, &mut self.keeper, step),
+            _ => looked(alloc, self.keeper.farm(), step),
         }
     }
 }
@@ -105,33 +99,70 @@ fn mark_of(alloc: Global, end: Result<u16, DeskFault>) -> Result<String, AllocEr
     }
 }
 
-/// The answer to a request; where it doesn't show how the conversation ended, that follows it.
-fn answered<S: Alter>(
+/// Adds how a conversation ended, where its answer neither begins nor ends with that.
+fn show_end(output: &mut Vec<u8>, mark: &[u8]) -> Result<(), AllocError> {
+    if output.starts_with(mark) || output.ends_with(mark) {
+        return Ok(());
+    }
+    output.extend_from_slice(b"\nended ")?;
+    output.extend_from_slice(mark)
+}
+
+/// Writes the answer to a request; where it doesn't show how the conversation ended, that follows.
+fn answer<S: Alter>(
     alloc: Global,
     keeper: &mut Keeper<S>,
     now: u64,
     mut request: &[u8],
-) -> Result<Vec<u8>, AllocError> {
-    let mut output = Vec::new(alloc);
-    let end = converse_once(alloc, keeper, &mut request, &mut output, now);
+    output: &mut Vec<u8>,
+) -> Result<(), AllocError> {
+    let end = converse_once(alloc, keeper, &mut request, output, now);
     let mark = mark_of(alloc, end)?;
-    if !output.starts_with(mark.as_bytes()) && !output.ends_with(mark.as_bytes()) {
-        output.extend_from_slice(b"\nended ")?;
-        output.extend_from_slice(mark.as_bytes())?;
+    show_end(output, mark.as_bytes())
+}
+
+/// Adds the length of a body and the empty line.
+fn push_length(alloc: Global, bytes: &mut Vec<u8>, length: usize) -> Result<(), AllocError> {
+    let line = format!(in alloc; "content-length: {length}\r\n\r\n")?;
+    bytes.extend_from_slice(line.as_bytes())
+}
+
+/// Adds the bytes of a step's request.
+fn push_request(alloc: Global, bytes: &mut Vec<u8>, step: &Step) -> Result<(), AllocError> {
+    bytes.extend_from_slice(step.head.as_slice())?;
+    if matches!(step.deed, Deed::Ask) {
+        push_length(alloc, bytes, step.body.len())?;
     }
-    Ok(output)
+    bytes.extend_from_slice(step.body.as_slice())
 }
 
 /// The bytes of a step's request.
 fn request(alloc: Global, step: &Step) -> Result<Vec<u8>, AllocError> {
-    let mut bytes = step.head.clone()?;
-    if matches!(step.deed, Deed::Ask) {
-        let length = step.body.len();
-        let line = format!(in alloc; "content-length: {length}\r\n\r\n")?;
-        bytes.extend_from_slice(line.as_bytes())?;
-    }
-    bytes.extend_from_slice(step.body.as_slice())?;
+    let mut bytes = Vec::new(alloc);
+    push_request(alloc, &mut bytes, step)?;
     Ok(bytes)
+}
+
+/// The answer to these bytes.
+fn answer_to<S: Alter>(
+    alloc: Global,
+    keeper: &mut Keeper<S>,
+    now: u64,
+    request: &[u8],
+) -> Result<Vec<u8>, AllocError> {
+    let mut output = Vec::new(alloc);
+    answer(alloc, keeper, now, request, &mut output)?;
+    Ok(output)
+}
+
+/// The answer to a step's request.
+fn asked<S: Alter>(
+    alloc: Global,
+    keeper: &mut Keeper<S>,
+    step: &Step,
+) -> Result<Vec<u8>, AllocError> {
+    let bytes = request(alloc, step)?;
+    answer_to(alloc, keeper, step.now, bytes.as_slice())
 }
 
 /// How an import went, in words.
@@ -148,14 +179,15 @@ fn import_words(alloc: Global, end: &ImportEnd) -> Result<String, AllocError> {
     format!(in alloc; "accepted {accepted}, kept {kept}\n")
 }
 
-/// Imports a lab file.
+/// Imports a lab file; how that went.
 fn imported<S: Alter>(
     alloc: Global,
     keeper: &mut Keeper<S>,
     step: &Step,
-) -> Result<String, AllocError> {
+) -> Result<Vec<u8>, AllocError> {
     let end = import(alloc, keeper, step.body.as_slice(), step.now);
-    import_words(alloc, &end)
+    let words = import_words(alloc, &end)?;
+    Ok(words.into_bytes())
 }
 
 /// The report of that name, with moments so many minutes east of UTC.
@@ -179,6 +211,14 @@ fn look(alloc: Global, farm: &Farm, step: &Step) -> Result<String, AllocError> {
     match report_of(alloc, farm, shown(step.head.as_slice())) {
         Some(text) => Ok(text),
         None => String::from_str(alloc, "no report\n"),
+    }
+}
+
+/// The same where the farm is open.
+fn looked(alloc: Global, farm: Option<&Farm>, step: &Step) -> Result<Vec<u8>, AllocError> {
+    match farm {
+        Some(farm) => Ok(look(alloc, farm, step)?.into_bytes()),
+        None => Vec::from_slice(alloc, b"closed\n"),
     }
 }
 

@@ -124,10 +124,9 @@ fn play_in_memory(rt: &HostRuntime, all: &[Transcript], shows: bool) -> io::Resu
     play::<DiskStore>(rt, all, shows)
 }
 
-/// Reads a file's transcripts.
-fn read(rt: &HostRuntime, reading: &mut Reading, file: &str) -> io::Result<()> {
-    let text = fs::read_to_string(rt, file)?;
-    for (number, line) in (1..).zip(text.as_str().lines()) {
+/// Reads the transcripts of a file's text.
+fn read_lines(rt: &HostRuntime, reading: &mut Reading, file: &str, text: &str) -> io::Result<()> {
+    for (number, line) in (1..).zip(text.lines()) {
         if let Err(error) = reading.line(number, line) {
             println!(rt; "{file}, line {number}: {error}")?;
             return Err(error);
@@ -136,21 +135,34 @@ fn read(rt: &HostRuntime, reading: &mut Reading, file: &str) -> io::Result<()> {
     Ok(())
 }
 
-fn run(rt: &HostRuntime) -> io::Result<bool> {
-    let words: Vec<String> = env::args(rt)?.collect(rt.alloc())?;
-    let mut reading = Reading::new(rt.alloc());
+/// Reads a file's transcripts.
+fn read(rt: &HostRuntime, reading: &mut Reading, file: &str) -> io::Result<()> {
+    let text = fs::read_to_string(rt, file)?;
+    read_lines(rt, reading, file, text.as_str())
+}
+
+/// Reads the files that the words name; whether each step is shown.
+fn read_all(rt: &HostRuntime, reading: &mut Reading, words: &[String]) -> io::Result<bool> {
     let mut shows = false;
     for word in words.iter().skip(1) {
         match word.as_str() {
             "show" => shows = true,
-            file => read(rt, &mut reading, file)?,
+            file => read(rt, reading, file)?,
         }
     }
+    Ok(shows)
+}
+
+/// Plays the transcripts of the files that the words name.
+fn run(rt: &HostRuntime, words: &[String]) -> io::Result<bool> {
+    let mut reading = Reading::new(rt.alloc());
+    let shows = read_all(rt, &mut reading, words)?;
     play_in_memory(rt, reading.done.as_slice(), shows)
 }
 
 fn main(rt: HostRuntime) -> io::Result<ExitCode> {
-    if run(&rt)? {
+    let words: Vec<String> = env::args(&rt)?.collect(rt.alloc())?;
+    if run(&rt, words.as_slice())? {
         Ok(ExitCode::SUCCESS)
     } else {
         Ok(ExitCode::FAILURE)

@@ -129,18 +129,24 @@ impl Kinds {
         Err(unread())
     }
 
-    /// A text with its short rows written out: what follows each `(` up to `)`.
-    pub fn written_out(&self, text: &str) -> io::Result<String> {
-        let mut whole = String::new(self.alloc);
+    /// Adds a text with its short rows written out: what follows each `(` up to `)`.
+    fn push_text(&self, whole: &mut String, text: &str) -> io::Result<()> {
         for (place, part) in text.split("(").enumerate() {
             if place == 0 {
                 whole.push_str(part)?;
                 continue;
             }
             let (row, rest) = part.split_once(")").ok_or(unread())?;
-            self.kind_of(row)?.push_row(&mut whole, row)?;
+            self.kind_of(row)?.push_row(whole, row)?;
             whole.push_str(rest)?;
         }
+        Ok(())
+    }
+
+    /// A text with its short rows written out.
+    pub fn written_out(&self, text: &str) -> io::Result<String> {
+        let mut whole = String::new(self.alloc);
+        self.push_text(&mut whole, text)?;
         Ok(whole)
     }
 }

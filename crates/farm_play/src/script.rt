@@ -97,6 +97,20 @@ pub struct Step {
     pub wanted: Vec<Vec<u8>>,
 }
 
+impl Step {
+    /// A step of a line that has no words yet.
+    fn new(alloc: Global, line: u64, deed: Deed, now: u64) -> Step {
+        Step {
+            line,
+            deed,
+            now,
+            head: Vec::new(alloc),
+            body: Vec::new(alloc),
+            wanted: Vec::new(alloc),
+        }
+    }
+}
+
 /// A transcript, and the places of those whose steps go before its own.
 #[derive(Drop)]
 pub struct Transcript {
@@ -145,39 +159,48 @@ impl Reading {
         Ok(())
     }
 
-    /// The steps of the transcript of that name go first, behind those that go before them.
-    fn go_after(&mut self, name: &str) -> io::Result<()> {
+    /// The place of the transcript of that name.
+    fn place_of(&self, name: &str) -> io::Result<usize> {
         for (place, one) in self.done.iter().enumerate() {
             if one.name.as_str() == name {
-                let mut after = one.after.clone()?;
-                after.push(place)?;
-                self.transcript()?.after = after;
-                return Ok(());
+                return Ok(place);
             }
         }
         Err(unread())
     }
 
-    fn add(&mut self, deed: Deed, head: &str) -> io::Result<()> {
-        let step = Step {
-            line: self.line,
-            deed,
-            now: self.now,
-            head: Vec::from_slice(self.alloc, head.as_bytes())?,
-            body: Vec::new(self.alloc),
-            wanted: Vec::new(self.alloc),
-        };
-        self.transcript()?.steps.push(step)?;
+    /// The places of those that go before the transcript at a place, and this place.
+    fn with_before(&self, place: usize) -> io::Result<Vec<usize>> {
+        let one = self.done.get(place).ok_or(unread())?;
+        let mut after = one.after.clone()?;
+        after.push(place)?;
+        Ok(after)
+    }
+
+    /// The steps of the transcript of that name go first, behind those that go before them.
+    fn go_after(&mut self, name: &str) -> io::Result<()> {
+        let after = self.with_before(self.place_of(name)?)?;
+        self.transcript()?.after = after;
         Ok(())
     }
 
-    /// A request: WHO METHOD PATH BODY, where WHO is `-`, a name, or a name, a slash and a key.
-    fn ask(&mut self, text: &str) -> io::Result<()> {
-        let (who, rest) = first_word(text);
-        let (method, rest) = first_word(rest);
-        let (path, body) = first_word(rest);
-        let line = format!(in self.alloc; "{method} {path} HTTP/1.1\r\n")?;
-        self.add(Deed::Ask, line.as_str())?;
+    /// The next step of the transcript.
+    fn push(&mut self, step: Step) -> io::Result<()> {
+        match self.done.last_mut() {
+            Some(transcript) => Ok(transcript.steps.push(step)?),
+            None => Err(unread()),
+        }
+    }
+
+    fn add(&mut self, deed: Deed, head: &str) -> io::Result<()> {
+        let step = Step::new(self.alloc, self.line, deed, self.now);
+        self.push(step)?;
+        self.step()?.head.extend_from_slice(head.as_bytes())?;
+        Ok(())
+    }
+
+    /// The fields of who asks: `-`, a name, or a name, a slash and a key.
+    fn ask_as(&mut self, who: &str) -> io::Result<()> {
         let (user, key) = who.split_once("/").unwrap_or((who, ""));
         if user != "-" {
             self.field("x-user", user)?;
@@ -185,8 +208,24 @@ impl Reading {
         if !key.is_empty() {
             self.field("x-key", key)?;
         }
+        Ok(())
+    }
+
+    /// A request with that first line.
+    fn ask_by(&mut self, line: &str, who: &str, body: &str) -> io::Result<()> {
+        self.add(Deed::Ask, line)?;
+        self.ask_as(who)?;
         self.step()?.body.extend_from_slice(body.as_bytes())?;
         Ok(())
+    }
+
+    /// A request: WHO METHOD PATH BODY.
+    fn ask(&mut self, text: &str) -> io::Result<()> {
+        let (who, rest) = first_word(text);
+        let (method, rest) = first_word(rest);
+        let (path, body) = first_word(rest);
+        let line = format!(in self.alloc; "{method} {path} HTTP/1.1\r\n")?;
+        self.ask_by(line.as_str(), who, body)
     }
 
     fn field(&mut self, name: &str, value: &str) -> io::Result<()> {
@@ -244,24 +283,50 @@ impl Reading {
         Ok(())
     }
 
+    /// A request of these very bytes.
+    fn ask_raw(&mut self, text: &str) -> io::Result<()> {
+        self.add(Deed::Raw, "")?;
+        self.add_to_head(text)
+    }
+
+    fn add_to_head(&mut self, text: &str) -> io::Result<()> {
+        push_escaped(&mut self.step()?.head, text)
+    }
+
+    fn add_to_body(&mut self, line: &str) -> io::Result<()> {
+        let step = self.step()?;
+        Ok(push_line(&mut step.body, line)?)
+    }
+
+    fn want_bytes(&mut self, text: &str) -> io::Result<()> {
+        push_escaped(self.wanted()?, text)
+    }
+
+    fn want_line(&mut self, line: &str) -> io::Result<()> {
+        let wanted = self.wanted()?;
+        Ok(push_line(wanted, line)?)
+    }
+
     /// A line that says what is given or wanted.
     fn mark(&mut self, mark: &str, text: &str) -> io::Result<()> {
         match mark {
-            ">" => self.ask(text)?,
-            ">>" => {
-                self.add(Deed::Raw, "")?;
-                push_escaped(&mut self.step()?.head, text)?;
-            }
-            ">+" => push_escaped(&mut self.step()?.head, text)?,
-            ">*" => self.times(text)?,
-            "|" => push_line(&mut self.step()?.body, text)?,
-            "<" => self.want_answer(text)?,
-            "<=" => self.want_rows(text)?,
-            "<+" => self.want_field(text)?,
-            "<<" => push_escaped(self.wanted()?, text)?,
-            "=" => push_line(self.wanted()?, text)?,
-            _ => return Err(unread()),
+            ">" => self.ask(text),
+            ">>" => self.ask_raw(text),
+            ">+" => self.add_to_head(text),
+            ">*" => self.times(text),
+            "|" => self.add_to_body(text),
+            "<" => self.want_answer(text),
+            "<=" => self.want_rows(text),
+            "<+" => self.want_field(text),
+            "<<" => self.want_bytes(text),
+            "=" => self.want_line(text),
+            _ => Err(unread()),
         }
+    }
+
+    /// The moment of the steps that follow.
+    fn be_at(&mut self, text: &str) -> io::Result<()> {
+        self.now = number_of(text)?;
         Ok(())
     }
 
@@ -271,15 +336,14 @@ impl Reading {
             return self.add(deed, text);
         }
         match word {
-            "==" => self.begin(text)?,
-            "after" => self.go_after(text)?,
-            "at" => self.now = number_of(text)?,
-            "or" => self.want_other()?,
-            "row" => self.rows.begin(text)?,
-            "member" => self.rows.member(text)?,
-            _ => self.mark(word, text)?,
+            "==" => self.begin(text),
+            "after" => self.go_after(text),
+            "at" => self.be_at(text),
+            "or" => self.want_other(),
+            "row" => self.rows.begin(text),
+            "member" => self.rows.member(text),
+            _ => self.mark(word, text),
         }
-        Ok(())
     }
 
     /// Reads that line of a file.

@@ -179,26 +179,50 @@ impl<'a> Run<'a> {
     }
 }
 
-/// The farms in words before the first step and after each, as they are in memory, in a run that
-/// isn't stopped; None where a step gives what isn't wanted.
-fn farms_of<S: Alter + Drop>(
+/// Adds the farms in words before the first step and after each, as they are in memory, in a run that
+/// isn't stopped. Whether each step gives what is wanted.
+fn add_farms<S: Alter + Drop>(
+    reporter: &Reporter<'_>,
+    player: &mut Player<S>,
+    steps: &[Step],
+    farms: &mut Vec<String>,
+) -> io::Result<bool>
+where
+    Connection<S>: InFiles<S>,
+{
+    farms.push(player.in_words()?)?;
+    for step in steps {
+        if !player.plays(reporter, step)? {
+            return Ok(false);
+        }
+        farms.push(player.in_words()?)?;
+    }
+    Ok(true)
+}
+
+/// Plays steps stopped at each call of the log and then of the tables' file, from a copy of the
+/// files that they begin with.
+fn plays_from<S: Alter + Drop>(
     alloc: Global,
     reporter: &Reporter<'_>,
     player: &mut Player<S>,
     steps: &[Step],
-) -> io::Result<Option<Vec<String>>>
+    files: &Disks,
+) -> io::Result<bool>
 where
     Connection<S>: InFiles<S>,
 {
     let mut farms = Vec::new(alloc);
-    farms.push(player.in_words()?)?;
-    for step in steps {
-        if !player.plays(reporter, step)? {
-            return Ok(None);
-        }
-        farms.push(player.in_words()?)?;
+    if !add_farms(reporter, player, steps, &mut farms)? {
+        return Ok(false);
     }
-    Ok(Some(farms))
+    let run = Run {
+        alloc,
+        reporter: &reporter.quiet(),
+        steps,
+        farms: farms.as_slice(),
+    };
+    Ok(run.stops_each::<S>(files, Failing::Log)? && run.stops_each::<S>(files, Failing::Tables)?)
 }
 
 /// Plays steps that ask, stopped at each call of the log and then of the tables' file; leaves the
@@ -212,17 +236,8 @@ pub fn plays_stops<S: Alter + Drop>(
 where
     Connection<S>: InFiles<S>,
 {
-    let Some(files) = player.copy() else {
-        return reporter.fails("no farm to stop");
-    };
-    let Some(farms) = farms_of(alloc, reporter, player, steps)? else {
-        return Ok(false);
-    };
-    let run = Run {
-        alloc,
-        reporter: &reporter.quiet(),
-        steps,
-        farms: farms.as_slice(),
-    };
-    Ok(run.stops_each::<S>(&files, Failing::Log)? && run.stops_each::<S>(&files, Failing::Tables)?)
+    match player.copy() {
+        Some(files) => plays_from(alloc, reporter, player, steps, &files),
+        None => reporter.fails("no farm to stop"),
+    }
 }

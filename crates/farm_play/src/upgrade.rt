@@ -101,16 +101,25 @@ where
     None
 }
 
-/// The same with either file; the files of an upgrade that isn't stopped, and how it went.
+/// The same with either file, and with the farm that was found in the files of an upgrade that
+/// wasn't stopped.
+fn stops_in_both<S: Alter + Drop>(alloc: Global, files: &Disks, upgraded: &Disks) -> Option<()>
+where
+    Connection<S>: InFiles<S>,
+{
+    let copy = with_fuse(alloc, upgraded, Failing::Log, u64::MAX).ok()?;
+    let farm = farm_in::<S>(alloc, copy)?;
+    stops_each::<S>(alloc, files, Failing::Log, farm.as_str())?;
+    stops_each::<S>(alloc, files, Failing::Tables, farm.as_str())
+}
+
+/// Upgrades that are stopped at each call; the files of one that isn't stopped, and how it went.
 pub fn upgrade_stopped<S: Alter + Drop>(alloc: Global, files: Disks) -> Option<(Disks, String)>
 where
     Connection<S>: InFiles<S>,
 {
     let copy = with_fuse(alloc, &files, Failing::Log, u64::MAX).ok()?;
-    let (copy, text) = upgrade::<S>(alloc, copy)?;
-    let again = with_fuse(alloc, &copy, Failing::Log, u64::MAX).ok()?;
-    let farm = farm_in::<S>(alloc, again)?;
-    stops_each::<S>(alloc, &files, Failing::Log, farm.as_str())?;
-    stops_each::<S>(alloc, &files, Failing::Tables, farm.as_str())?;
-    Some((copy, text))
+    let (upgraded, text) = upgrade::<S>(alloc, copy)?;
+    stops_in_both::<S>(alloc, &files, &upgraded)?;
+    Some((upgraded, text))
 }
