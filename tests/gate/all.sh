@@ -22,10 +22,10 @@ counting() {
     return "$(cat "$folder/status")"
 }
 
-# One process to a proof, and as many proofs side by side as there are processors, each with room for 5 GB: several
+# One process to a proof, and as many proofs side by side as there are processors, each with room for 7 GB: several
 # processes to one proof take more of the processor in all.
 proofs=$(nproc)
-room=$(awk '/^MemAvailable:/ { print int($2 / 5000000) }' /proc/meminfo)
+room=$(awk '/^MemAvailable:/ { print int($2 / 7000000) }' /proc/meminfo)
 [ "$room" -ge "$proofs" ] || proofs=$room
 [ "$proofs" -ge 1 ] || proofs=1
 
