@@ -30,21 +30,7 @@ fn code_of(end: Result<u16, DeskFault>) -> u16 {
     }
 }
 
-/// How one conversation ends, at moment 10, and how often the writer was called.
-fn converse<R: Input, W: Output, S: Alter>(
-    alloc: Global,
-    keeper: &mut Keeper<S>,
-    reader: &mut R,
-    writer: &mut W,
-) -> (End, usize) {
-    let mut reader = CountedReader::new(reader);
-    let mut writer = CountedWriter::new(writer);
-    let end = converse_counted(alloc, keeper, &mut reader, &mut writer, 10);
-    let end = (code_of(end), reader.calls(), reader.has_failed());
-    (end, writer.calls())
-}
-
-/// One conversation, whose reader and writer count their calls too.
+/// One conversation, at moment 10. The reader and the writer count their calls too.
 fn talk<R: Input, W: Output, S: Alter>(
     rt: &impl Abort,
     alloc: Global,
@@ -53,9 +39,12 @@ fn talk<R: Input, W: Output, S: Alter>(
     writer: &mut W,
 ) -> End {
     let (mut input, mut output) = (Tally::new(reader), Tally::new(writer));
-    let (end, writes) = converse(alloc, keeper, &mut input, &mut output);
-    assert_eq!(rt; (end.1 as usize, writes), (input.calls, output.calls));
-    end
+    let mut reader = CountedReader::new(&mut input);
+    let mut writer = CountedWriter::new(&mut output);
+    let end = converse_counted(alloc, keeper, &mut reader, &mut writer, 10);
+    let (reads, writes, failed) = (reader.calls(), writer.calls(), reader.has_failed());
+    assert_eq!(rt; (reads as usize, writes), (input.calls, output.calls));
+    (code_of(end), reads, failed)
 }
 
 /// The farm's accepted commands and its jobs; none where the keeper is closed.
@@ -168,7 +157,7 @@ const PASSED: &[u8] =
 /// A pass with the largest body.
 fn largest_request(alloc: Global) -> Result<Vec<u8>, AllocError> {
     let mut request = LARGEST.to_vec(alloc)?;
-    request.resize(LARGEST.len() + 65_536, b'z')?;
+    request.extend_from_slice(vec![in alloc; b'z'; 65_536]?.as_slice())?;
     Ok(request)
 }
 

@@ -135,25 +135,10 @@ fn serve_on_new<S: Alter + Drop>(
     count_served(alloc, &mut keeper, listener, max, clock)
 }
 
-/// The same over a new store in memory.
-fn served_in_memory(
-    alloc: Global,
-    listener: &TcpListener,
-    max: u64,
-    clock: &Hands,
-) -> Result<Option<u64>, Fail> {
-    let conn = Connection::open_in_memory(alloc)?;
-    serve_on_new(alloc, conn, listener, max, clock)
-}
-
-/// Two clients that wait, and what they have sent.
-fn two_waiting(
-    rt: &HostRuntime,
-    listener: &TcpListener,
-    (first, second): (&[u8], &[u8]),
-) -> io::Result<(TcpStream, TcpStream)> {
-    let first = client(rt, listener, first)?;
-    let second = client(rt, listener, second)?;
+/// Two clients that wait: one adds a type, the other looks at the farm.
+fn two_waiting(rt: &HostRuntime, listener: &TcpListener) -> io::Result<(TcpStream, TcpStream)> {
+    let first = client(rt, listener, FIRST_TYPE)?;
+    let second = client(rt, listener, LOOK)?;
     Ok((first, second))
 }
 
@@ -162,26 +147,16 @@ fn is_answered(alloc: Global, stream: TcpStream, wanted: &[u8]) -> io::Result<bo
     Ok(answered(alloc, stream)?.as_slice() == wanted)
 }
 
-/// Whether two clients are answered these bytes.
-fn are_answered(
-    alloc: Global,
-    (first, second): (TcpStream, TcpStream),
-    wanted: (&[u8], &[u8]),
-) -> io::Result<bool> {
-    let is_first = is_answered(alloc, first, wanted.0)?;
-    let is_second = is_answered(alloc, second, wanted.1)?;
-    Ok(is_first && is_second)
-}
-
-/// One client adds a type, the other looks at the farm.
 #[test]
 fn two_clients(rt: HostRuntime) -> Result<(), Fail> {
     let alloc = rt.alloc();
     let listener = TcpListener::bind(&rt, "127.0.0.1:0")?;
-    let both = two_waiting(&rt, &listener, (FIRST_TYPE, LOOK))?;
+    let (first, second) = two_waiting(&rt, &listener)?;
     let clock = Hands::standing(1_700_000_000);
-    assert_eq!(rt; served_in_memory(alloc, &listener, 2, &clock)?, Some(1));
-    assert!(rt; are_answered(alloc, both, (DONE, STATUS))?);
+    let conn = Connection::open_in_memory(alloc)?;
+    assert_eq!(rt; serve_on_new(alloc, conn, &listener, 2, &clock)?, Some(1));
+    assert!(rt; is_answered(alloc, first, DONE)?);
+    assert!(rt; is_answered(alloc, second, STATUS)?);
     Ok(())
 }
 
@@ -216,17 +191,6 @@ fn serve_in_turns<S: Alter + Drop>(
     serve_each(rt, alloc, &mut keeper, listener, turns)
 }
 
-/// The same over a new store in memory.
-fn turns_in_memory(
-    rt: &impl Abort,
-    alloc: Global,
-    listener: &TcpListener,
-    turns: &[(u64, Hands, u64)],
-) -> Result<(), Fail> {
-    let conn = Connection::open_in_memory(alloc)?;
-    serve_in_turns(rt, alloc, conn, listener, turns)
-}
-
 /// None, then one, then one more.
 fn turns() -> [(u64, Hands, u64); 3] {
     [
@@ -242,9 +206,12 @@ fn turns() -> [(u64, Hands, u64); 3] {
 fn as_many_as_asked(rt: HostRuntime) -> Result<(), Fail> {
     let alloc = rt.alloc();
     let listener = TcpListener::bind(&rt, "127.0.0.1:0")?;
-    let both = two_waiting(&rt, &listener, (FIRST_TYPE, FIRST_TYPE))?;
-    turns_in_memory(&rt, alloc, &listener, &turns())?;
-    assert!(rt; are_answered(alloc, both, (DONE, EXISTS))?);
+    let first = client(&rt, &listener, FIRST_TYPE)?;
+    let second = client(&rt, &listener, FIRST_TYPE)?;
+    let conn = Connection::open_in_memory(alloc)?;
+    serve_in_turns(&rt, alloc, conn, &listener, &turns())?;
+    assert!(rt; is_answered(alloc, first, DONE)?);
+    assert!(rt; is_answered(alloc, second, EXISTS)?);
     Ok(())
 }
 
@@ -270,31 +237,19 @@ fn clocks() -> [(Hands, &'static [u8], u64); 3] {
     ]
 }
 
-/// How many commands are accepted of a client that sends this by that clock, and whether it is
-/// answered nothing.
-fn served_by_clock(
-    rt: &HostRuntime,
-    listener: &TcpListener,
-    clock: &Hands,
-    sent: &[u8],
-) -> Result<(Option<u64>, bool), Fail> {
-    let alloc = rt.alloc();
-    let first = client(rt, listener, sent)?;
-    let found = served_in_memory(alloc, listener, 1, clock)?;
-    // Where the request stays unread, its connection may be reset.
-    let is_silent = match answered(alloc, first) {
-        Ok(bytes) => bytes.is_empty(),
-        Err(_) => true,
-    };
-    Ok((found, is_silent))
-}
-
 #[test]
 fn clocks_that_fail(rt: HostRuntime) -> Result<(), Fail> {
+    let alloc = rt.alloc();
     for (clock, sent, wanted) in &clocks() {
         let listener = TcpListener::bind(&rt, "127.0.0.1:0")?;
-        let end = served_by_clock(&rt, &listener, clock, sent)?;
-        assert_eq!(rt; end, (Some(*wanted), true));
+        let first = client(&rt, &listener, sent)?;
+        let conn = Connection::open_in_memory(alloc)?;
+        let found = serve_on_new(alloc, conn, &listener, 1, clock)?;
+        assert_eq!(rt; found, Some(*wanted));
+        // Where the request stays unread, its connection may be reset.
+        if let Ok(bytes) = answered(alloc, first) {
+            assert!(rt; bytes.is_empty());
+        }
     }
     Ok(())
 }
@@ -304,30 +259,18 @@ fn clocks_that_fail(rt: HostRuntime) -> Result<(), Fail> {
 fn served_after_a_slow_one(rt: HostRuntime) -> Result<(), Fail> {
     let alloc = rt.alloc();
     let listener = TcpListener::bind(&rt, "127.0.0.1:0")?;
-    let both = two_waiting(&rt, &listener, (&FIRST_TYPE[..40], FIRST_TYPE))?;
+    let slow = client(&rt, &listener, &FIRST_TYPE[..40])?;
+    let next = client(&rt, &listener, FIRST_TYPE)?;
+    let conn = Connection::open_in_memory(alloc)?;
     let turns = [(1, running(), 0), (1, Hands::standing(10), 1)];
-    turns_in_memory(&rt, alloc, &listener, &turns)?;
-    assert!(rt; are_answered(alloc, both, (b"", DONE))?);
+    serve_in_turns(&rt, alloc, conn, &listener, &turns)?;
+    assert!(rt; is_answered(alloc, slow, b"")?);
+    assert!(rt; is_answered(alloc, next, DONE)?);
     Ok(())
 }
 
 /// Serves a client by a store that fails at its command, and whose answer is lost: the serving ends
-/// with the fault, and from then on nobody is taken.
-fn end_twice<S: Alter>(
-    rt: &impl Abort,
-    alloc: Global,
-    keeper: &mut Keeper<S>,
-    listener: &TcpListener,
-) -> Result<(), DeskFault> {
-    let mut clock = Hands::standing(10);
-    clock.looks = Cell::new(2);
-    let end = serve(alloc, keeper, listener, 9, &clock);
-    let again = serve(alloc, keeper, listener, 9, &clock);
-    assert_eq!(rt; again, Err(DeskFault::Keep(KeepFault::Closed)));
-    end
-}
-
-/// The same by a keeper of an empty farm; none where it isn't made.
+/// with the fault, and from then on nobody is taken. None where the farm isn't made.
 fn serve_failing<S: Alter + Drop>(
     rt: &impl Abort,
     alloc: Global,
@@ -335,7 +278,12 @@ fn serve_failing<S: Alter + Drop>(
     listener: &TcpListener,
 ) -> Option<Result<(), DeskFault>> {
     let mut keeper = made(alloc, conn)?;
-    Some(end_twice(rt, alloc, &mut keeper, listener))
+    let mut clock = Hands::standing(10);
+    clock.looks = Cell::new(2);
+    let end = serve(alloc, &mut keeper, listener, 9, &clock);
+    let again = serve(alloc, &mut keeper, listener, 9, &clock);
+    assert_eq!(rt; again, Err(DeskFault::Keep(KeepFault::Closed)));
+    Some(end)
 }
 
 /// The same over two files; none where the store isn't opened.
@@ -348,39 +296,19 @@ fn serve_files<D: Disk + Drop>(
     serve_failing(rt, alloc, opened(alloc, files)?, listener)
 }
 
-/// The same over files of which the log is stopped after so many calls.
-fn serve_stopping(
-    rt: &impl Abort,
-    alloc: Global,
-    listener: &TcpListener,
-    calls: u64,
-) -> Option<Result<(), DeskFault>> {
-    let (log, db) = (stopping(alloc, calls), stopping(alloc, u64::MAX));
-    serve_files(rt, alloc, Files { log, db }, listener)
-}
-
-/// The same after so few calls that a desk is opened, and no fewer.
-fn serve_once(
-    rt: &impl Abort,
-    alloc: Global,
-    listener: &TcpListener,
-) -> Option<Result<(), DeskFault>> {
-    for calls in 0..1000 {
-        let end = serve_stopping(rt, alloc, listener, calls);
-        if end.is_some() {
-            return end;
-        }
-    }
-    None
-}
-
 #[test]
 fn fault_of_a_lost_answer(rt: HostRuntime) -> Result<(), Fail> {
     let alloc = rt.alloc();
     let listener = TcpListener::bind(&rt, "127.0.0.1:0")?;
     let first = client(&rt, &listener, FIRST_TYPE)?;
-    let end = serve_once(&rt, alloc, &listener).ok_or("no desk was opened")?;
-    assert_eq!(rt; end, Err(DeskFault::Keep(KeepFault::Store)));
-    assert!(rt; answered(alloc, first)?.is_empty());
-    Ok(())
+    for calls in 0..1000 {
+        let (log, db) = (stopping(alloc, calls), stopping(alloc, u64::MAX));
+        let Some(end) = serve_files(&rt, alloc, Files { log, db }, &listener) else {
+            continue;
+        };
+        assert_eq!(rt; end, Err(DeskFault::Keep(KeepFault::Store)));
+        assert!(rt; answered(alloc, first)?.is_empty());
+        return Ok(());
+    }
+    Err(Fail::new("no desk was opened"))
 }

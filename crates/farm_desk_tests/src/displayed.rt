@@ -57,8 +57,10 @@ fn word_shown(alloc: Global, fault: WordFault) -> Result<String, AllocError> {
 /// Whether a refusal has this text, by itself and as a word's fault, and this status.
 fn is_reported(alloc: Global, code: u16, status: u16, text: &str) -> Result<bool, AllocError> {
     let refusal = Refusal { code };
-    let own = shown(alloc, refusal)?;
-    let word = word_shown(alloc, WordFault::Refused(refusal))?;
+    let (own, word) = (
+        shown(alloc, refusal)?,
+        word_shown(alloc, WordFault::Refused(refusal))?,
+    );
     Ok(own.as_str() == text && word.as_str() == text && refusal.status().unwrap_or(0) == status)
 }
 

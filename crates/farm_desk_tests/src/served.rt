@@ -16,21 +16,18 @@ const TYPE_AND_MORE: &[u8] =
 /// What an answer here fits.
 const ROOM: usize = 512;
 
-/// Five clients: when they come, what they send, and the room for the answer; the last finds none
-/// that was made for its answer.
-const CLIENTS: [(u64, &[u8], usize); 5] = [
-    (1_700_000_000, FIRST_TYPE, ROOM),
-    (1_700_000_007, TYPE_AND_MORE, ROOM),
-    (1_700_000_008, b"GET /status\r\n\r\n", ROOM),
-    (1_700_000_009, b"GET /status HTTP/1.1\r\n\r\n", ROOM),
-    (1_700_000_010, FIRST_TYPE, 0),
-];
-
+/// Five clients, and when they come; the last finds no room that was made for its answer.
 fn five(alloc: Global) -> Result<Vec<ScriptedClient<'static>>, AllocError> {
     let mut all = Vec::with_capacity(alloc, 5)?;
-    for (now, bytes, room) in CLIENTS {
-        all.push(scripted(alloc, now, bytes, room)?)?;
-    }
+    all.push(scripted(alloc, 1_700_000_000, FIRST_TYPE)?)?;
+    all.push(scripted(alloc, 1_700_000_007, TYPE_AND_MORE)?)?;
+    all.push(scripted(alloc, 1_700_000_008, b"GET /status\r\n\r\n")?)?;
+    all.push(scripted(alloc, 1_700_000_009, b"GET /status HTTP/1.1\r\n\r\n")?)?;
+    all.push(ScriptedClient {
+        now: 1_700_000_010,
+        bytes: FIRST_TYPE,
+        answer: Vec::new(alloc),
+    })?;
     Ok(all)
 }
 
@@ -38,9 +35,8 @@ fn scripted(
     alloc: Global,
     now: u64,
     bytes: &'static [u8],
-    room: usize,
 ) -> Result<ScriptedClient<'static>, AllocError> {
-    let answer = Vec::with_capacity(alloc, room)?;
+    let answer = Vec::with_capacity(alloc, ROOM)?;
     Ok(ScriptedClient { now, bytes, answer })
 }
 
@@ -125,8 +121,8 @@ fn serve_all<S: Alter + Drop>(
     conn: Connection<S>,
 ) -> Result<(), Fail> {
     let all = five(alloc)?;
-    let mut clients = ScriptedClients::new(alloc, all)?;
     let mut keeper = made(alloc, conn).ok_or("no farm")?;
+    let mut clients = ScriptedClients::new(alloc, all)?;
     serve_scripted(rt, alloc, &mut keeper, &mut clients)
 }
 
