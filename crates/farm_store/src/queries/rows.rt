@@ -75,6 +75,8 @@ pub(crate) trait Stored: Drop + Sized {
         ensures { AsksFor place result.now };
 
     /// What a row of the table stands for in the reader's edition. It shares the tags that were seen.
+    /// Numbers are read before texts, whatever the columns' order: a fault of theirs leaves nothing to
+    /// drop.
     fn of(row: &Row, reader: &mut Reader) -> Result<Self, WordFault>
         ensures reads { ReadsRow result (IsGood reader.old.edition) (columns reader.old.edition)
             row.now }
