@@ -18,7 +18,7 @@ CLAUSE = re.compile(r"^\s*(requires|ensures|invariant|invariants|decreases|measu
 TACTIC = re.compile(r"^\s*#!?\[tactic")
 FUNCTION = re.compile(r"^\s*(pub(\([^)]*\))?\s+)?(const\s+)?(unsafe\s+)?fn\s+([A-Za-z_0-9]+)")
 IMPORT = re.compile(r"^\s*(pub(\([^)]*\))? )?(use|mod)\b")
-BESIDE = {"farm_bench", "farm_desk_tests", "farm_play", "farm_tests", "farm_worked"}
+BESIDE = {"farm_bench", "farm_desk_tests", "farm_fakes", "farm_play", "farm_tests", "farm_worked"}
 KINDS = ("code", "contract", "ghost", "comment", "blank")
 
 

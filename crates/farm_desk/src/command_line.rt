@@ -106,8 +106,7 @@ pub fn perform<R: Input, W: Output, E: Output>(
         ⟦<FileFrom<NewFile> as Disk>⟧ (image_at ⟦<NewFile as Start>⟧) order)
         (E.contents errors.old) (E.contents errors.new) result }
 {
-    let ended = carry_out(rt, alloc, order, input, output);
-    status_of(errors, ended)
+    status_of(errors, carry_out(rt, alloc, order, input, output))
 }
 
 /// The exit status of an order that ended so; what no answer shows is printed to `errors`.

@@ -1,17 +1,17 @@
 //! Carrying out an order: its files are opened or made, its task done, and what it did printed.
-ghost use Rattle.std.specs.Prelude.{◌≡◌, None};
+ghost use Rattle.std.specs.Prelude.{◌≡◌, None, Ok, List, Option, ℕ};
+ghost use Rattle.sqlite.specs.Files.{over_files};
 ghost use Rattle.sqlite_wal.specs.Files.{image_at};
 ghost use Rattle.farm_serve.specs.Conversations.{desk};
 ghost use Rattle.farm_desk.specs.Lines.{counts_line, port_line, ready_line, PrintsLine, PrintsImport};
 ghost use Rattle.farm_desk.specs.Orders.{streams, DoesInFiles, DoesInMemory, DoesOrder};
-ghost use Rattle.farm_desk.specs.Orders.{DoesWhileThere, Inits, MigratesFile, OpensMemory};
+ghost use Rattle.farm_desk.specs.Orders.{DoesTaskIf, DoesWhileThere, Inits, MigratesFile, OpensMemory};
 ghost use Rattle.farm_desk.specs.Orders.{PrintsIfDone};
 ghost use Rattle.farm_desk.specs.Tasks.{AnswersOne, DoesTask, ImportsFile, PrintsReportOf};
 ghost use Rattle.farm_desk.specs.Tasks.{ServesIfListening};
 ghost use Rattle.farm_desk.specs.Waiting.{IsLocal};
-ghost use Rattle.farm_keep.specs.KeeperState.{KeeperState};
 
-use crate::files::{make_farm, make_new_farm, migrate_farm, open_farm};
+use crate::files::{FileKeeper, make_farm, make_new_farm, migrate_farm, open_farm};
 use crate::lab_files::{LabFiles, lab_fault, read_lab};
 use crate::new_file::NewFile;
 use crate::open_files::OpenFiles;
@@ -91,7 +91,7 @@ pub fn carry_out_from<S: Start, L: LabFiles, R: Input, W: Output>(
 {
     match order {
         Order::Once { database, at } => match database {
-            Database::Memory => answer_in_memory(rt, alloc, at, labs, input, output),
+            Database::Memory => answer_in_memory(alloc, at, input, output),
             Database::File(file) => {
                 let task = Task::Answer { at };
                 do_in_files(rt, file.as_str(), start, task, labs, input, output)
@@ -120,23 +120,21 @@ pub fn carry_out_from<S: Start, L: LabFiles, R: Input, W: Output>(
 }
 
 /// Answers one request of an empty farm in memory.
-fn answer_in_memory<L: LabFiles, R: Input, W: Output>(
-    rt: &HostRuntime,
+fn answer_in_memory<R: Input, W: Output>(
     alloc: Global,
     at: u64,
-    labs: &L,
     input: &mut R,
     output: &mut W,
 ) -> Ended
-    ensures { DoesInMemory (L.contents labs.now) R.never_fails (W.has_room output.old)
-        (streams (R.remaining input.old) (W.contents output.old))
+    ensures { (labs : List ℕ → Option (List ℕ)) → DoesInMemory labs R.never_fails
+        (W.has_room output.old) (streams (R.remaining input.old) (W.contents output.old))
         (streams (R.remaining input.new) (W.contents output.new)) (Task.Answer at) result }
 {
-    let keeper = memory_keeper(alloc)?;
-    do_task(rt, keeper, Task::Answer { at }, labs, None, input, output)
+    let mut keeper = memory_keeper(alloc)?;
+    answer_one(alloc, &mut keeper, input, output, at)
 }
 
-/// Does a task with the farm in a file.
+/// Opens the farm in a file, and does a task with it.
 fn do_in_files<S: Start, L: LabFiles, R: Input, W: Output>(
     rt: &HostRuntime,
     file: &str,
@@ -152,7 +150,7 @@ fn do_in_files<S: Start, L: LabFiles, R: Input, W: Output>(
         ⟦<FileFrom<S> as Disk>⟧ (image_at S.Start) task result }
 {
     let keeper = open_farm(rt, rt.alloc(), file, start)?;
-    do_task(rt, keeper, task, labs, None, input, output)
+    do_with_files(rt, keeper, task, labs, None, input, output)
 }
 
 /// Does a task with the farm in a file as long as that is there. Where somebody takes away the file
@@ -174,9 +172,10 @@ fn do_while_there<S: Start, L: LabFiles, R: Input, W: Output>(
     print_size_note(rt, file, "opening");
     let keeper = open_farm(rt, rt.alloc(), file, start)?;
     let Some(files) = OpenFiles::new(rt, file) else {
+        let_go(keeper);
         return Err(DeskFault::Keep(KeepFault::Store));
     };
-    let ended = do_task(rt, keeper, task, labs, Some(&files), input, output);
+    let ended = do_with_files(rt, keeper, task, labs, Some(&files), input, output);
     if ended.is_ok() && files.are_lost() {
         return Err(DeskFault::Keep(KeepFault::Store));
     }
@@ -196,30 +195,52 @@ enum Task {
     Serve { port: u16, max: u64 },
 }
 
-/// Does a task with a keeper's farm. It serves as long as these files are there, where
-/// they are passed.
-fn do_task<L: LabFiles, R: Input, W: Output, S: Alter + Drop>(
+/// Does a task with the farm in a file. That its one call is of any store keeps its proof short.
+fn do_with_files<S: Start, L: LabFiles, R: Input, W: Output>(
     rt: &HostRuntime,
-    mut keeper: Keeper<S>,
+    mut keeper: FileKeeper<S>,
     task: Task,
     labs: &L,
     files: Option<&OpenFiles<'_>>,
     input: &mut R,
     output: &mut W,
 ) -> Ended
-    ensures { (left : KeeperState S) × DoesTask S.Store (L.contents labs.now) task
-        (desk keeper (R.remaining input.old) (W.contents output.old))
-        (desk left (R.remaining input.new) (W.contents output.new))
+    ensures { DoesTaskIf (L.contents labs.now) R.never_fails (W.has_room output.old)
+        (streams (R.remaining input.old) (W.contents output.old))
+        (streams (R.remaining input.new) (W.contents output.new)) over_files (Ok keeper) task result }
+{
+    let ended = do_task(rt, &mut keeper, &task, labs, files, input, output);
+    let_go(keeper);
+    ended
+}
+
+/// Lets the farm in a file go. That nothing else drops one keeps the proofs of the others short.
+fn let_go<S: Start>(_keeper: FileKeeper<S>) {}
+
+/// Does a task with a keeper's farm. It serves as long as these files are there, where
+/// they are passed.
+fn do_task<L: LabFiles, R: Input, W: Output, S: Alter>(
+    rt: &HostRuntime,
+    keeper: &mut Keeper<S>,
+    task: &Task,
+    labs: &L,
+    files: Option<&OpenFiles<'_>>,
+    input: &mut R,
+    output: &mut W,
+) -> Ended
+    ensures { DoesTask S.Store (L.contents labs.now) task.now
+        (desk keeper.old (R.remaining input.old) (W.contents output.old))
+        (desk keeper.new (R.remaining input.new) (W.contents output.new))
         R.never_fails (W.has_room output.old) result }
 {
-    let keeper = &mut keeper;
+    let alloc = rt.alloc();
     match task {
-        Task::Answer { at } => answer_one(rt.alloc(), keeper, input, output, at),
-        Task::Import { at, lab } => import_file(rt.alloc(), keeper, labs, lab.as_str(), at, output),
+        Task::Answer { at } => answer_one(alloc, keeper, input, output, *at),
+        Task::Import { at, lab } => import_file(alloc, keeper, labs, lab.as_str(), *at, output),
         Task::Report { east, west, which } => {
-            print_report(rt.alloc(), keeper, (east, west), which, output)
+            print_report(alloc, keeper, (*east, *west), *which, output)
         }
-        Task::Serve { port, max } => serve(rt, keeper, port, max, files, output),
+        Task::Serve { port, max } => serve(rt, keeper, *port, *max, files, output),
     }
 }
 
@@ -262,11 +283,11 @@ fn init<S: Start, W: Output>(rt: &HostRuntime, file: &str, start: S, output: &mu
 }
 
 /// Prints that a farm was made.
-fn print_made<K: Drop, W: Output>(made: Result<K, DeskFault>, output: &mut W) -> Ended
+fn print_made<S: Start, W: Output>(made: Result<FileKeeper<S>, DeskFault>, output: &mut W) -> Ended
     ensures { PrintsIfDone (W.has_room output.old) (W.contents output.old) (W.contents output.new)
         made ready_line result }
 {
-    let _made = made?;
+    let_go(made?);
     print_line(output, b"ready\n")
 }
 
@@ -283,12 +304,9 @@ fn print_line<W: Output>(output: &mut W, line: &[u8]) -> Ended
 /// few seconds.
 fn print_size_note(rt: &HostRuntime, file: &str, what: &str) {
     let mut errors = rt.stderr();
-    let megabytes = fs::metadata(rt, file).map_or(0, |found| found.len() / 1_000_000);
-    if megabytes >= LARGE_FILE && errors.is_terminal() {
-        let _ = writeln!(
-            errors,
-            "farm: {what} {megabytes} MB, which takes a few seconds"
-        );
+    let size = fs::metadata(rt, file).map_or(0, |found| found.len() / 1_000_000);
+    if size >= LARGE_FILE && errors.is_terminal() {
+        let _ = writeln!(errors, "farm: {what} {size} MB, which takes a few seconds");
     }
 }
 
@@ -363,9 +381,7 @@ fn serve<W: Output, S: Alter>(
     ensures { ServesIfListening S.Store (W.has_room output.old) keeper.old keeper.new
         (W.contents output.old) (W.contents output.new) port max result }
 {
-    let Ok(listener) = listen(rt, port) else {
-        return Err(DeskFault::Read);
-    };
+    let listener = listen(rt, port).map_err(|_| DeskFault::Read)?;
     print_line(output, port_line(port).as_bytes())?;
     let mut clients = SocketClients::new(rt.alloc(), &listener, max, rt, files);
     farm_serve::serve(rt.alloc(), keeper, &mut clients, max)?;

@@ -260,8 +260,7 @@ fn new_file_options() -> OpenOptions
 /// Makes a file with its first page where there is nothing. That is on the disk before a store is
 /// opened there, since an open takes the log beside a file without a byte for no log.
 fn make_new_file(rt: &HostRuntime, path: &str) -> io::Result<()> {
-    let mut file = make_file(rt, path)?;
-    let written = write_first_page(&mut file);
+    let written = write_first_page(&mut make_file(rt, path)?);
     if written.is_err() {
         let _ = fs::remove_file(rt, path);
     }

@@ -13,10 +13,7 @@ pub(crate) fn zone_between(east: u64, west: u64) -> Offset
     ensures { result.seconds ≡ seconds_ahead east west }
 {
     let minutes = east.min(MOST_MINUTES) as i64 - west.min(MOST_MINUTES) as i64;
-    match zone_of(minutes) {
-        Some(zone) => zone,
-        None => unreachable!(),
-    }
+    zone_of(minutes).unwrap()
 }
 
 /// The text of a report of a farm that works, with moments at an offset. Costs one pass over the

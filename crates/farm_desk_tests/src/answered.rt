@@ -1,9 +1,7 @@
 //! Conversations over readers and writers that give and take little, or fail.
 use farm_desk::{DeskFault, Input, Output, converse_counted};
+use farm_fakes::{FIRST_TYPE, Interrupted, Narrow, Slow, Tally, made, request};
 use farm_keep::Keeper;
-use farm_tests::fakes::{Interrupted, Narrow, Slow, Tally};
-use farm_tests::sent::{FIRST_TYPE, request};
-use farm_tests::stores::made;
 use farm_wire::{CountedReader, CountedWriter};
 use sqlite::{Alter, Connection};
 use std::alloc::{AllocError, Global};

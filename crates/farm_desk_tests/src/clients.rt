@@ -2,9 +2,8 @@
 //! the desk takes them.
 use crate::answered::DONE;
 use farm_desk::{DeskFault, serve_on};
+use farm_fakes::{FIRST_TYPE, made, opened, stopping};
 use farm_keep::{KeepFault, Keeper};
-use farm_tests::sent::FIRST_TYPE;
-use farm_tests::stores::{made, opened, stopping};
 use sqlite::{Alter, Connection, Files};
 use sqlite_disk::Disk;
 use std::alloc::Global;

@@ -1,9 +1,8 @@
 //! Serving scripted clients: what each is answered, byte by byte, and the farm afterwards.
 use crate::answered::DONE;
 use farm_desk::{DeskFault, ScriptedClient, ScriptedClients, serve};
+use farm_fakes::{FIRST_TYPE, made};
 use farm_keep::Keeper;
-use farm_tests::sent::FIRST_TYPE;
-use farm_tests::stores::made;
 use sqlite::{Alter, Connection};
 use std::alloc::{AllocError, Global};
 use std::process::Abort;

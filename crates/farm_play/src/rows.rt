@@ -4,20 +4,12 @@ use crate::text::{first_word, unread};
 use std::alloc::Global;
 use std::io;
 
-/// A member of a row: its name, what stands before and behind its value, and the usual value.
-#[derive(Drop)]
-struct Member {
-    name: String,
-    before: String,
-    behind: String,
-    usual: String,
-}
-
-/// A kind of rows.
+/// A kind of rows: its name, and a line a member, TEXT USUAL: the text with `*` where the value
+/// stands, and the usual value.
 #[derive(Drop)]
 struct Kind {
     name: String,
-    members: Vec<Member>,
+    members: String,
 }
 
 /// The kinds of rows that were read.
@@ -27,73 +19,43 @@ pub struct Kinds {
     kinds: Vec<Kind>,
 }
 
-/// A part of a short row: a member's name and its value.
-fn part_of(text: &str) -> io::Result<(&str, &str)> {
-    text.split_once("=").ok_or(unread())
-}
-
-/// The name in a member's first quotes.
-fn quoted(text: &str) -> io::Result<&str> {
-    let (_, rest) = text.split_once("\"").ok_or(unread())?;
-    let (name, _) = rest.split_once("\"").ok_or(unread())?;
-    Ok(name)
-}
-
-impl Member {
-    /// A member: TEXT USUAL, where `*` in the text stands for the value.
-    fn read(alloc: Global, line: &str) -> io::Result<Member> {
-        let (text, usual) = first_word(line);
-        let (before, behind) = text.split_once("*").ok_or(unread())?;
-        Ok(Member {
-            name: String::from_str(alloc, quoted(before)?)?,
-            before: String::from_str(alloc, before)?,
-            behind: String::from_str(alloc, behind)?,
-            usual: String::from_str(alloc, usual)?,
-        })
-    }
-
-    /// Its value in a short row, the usual one where the row doesn't name it.
-    fn value_in<'a>(&'a self, row: &'a str) -> io::Result<&'a str> {
-        for part in row.split("; ").skip(1) {
-            let (name, value) = part_of(part)?;
-            if self.name.as_str() == name {
-                return Ok(value);
-            }
+/// The value that a short row gives the member of a name.
+fn value_in<'a>(row: &'a str, name: &str) -> Option<&'a str> {
+    for part in row.split("; ").skip(1) {
+        match part.split_once("=") {
+            Some((word, value)) if word == name => return Some(value),
+            _ => {}
         }
-        Ok(self.usual.as_str())
     }
+    None
+}
 
-    fn push(&self, whole: &mut String, row: &str) -> io::Result<()> {
-        whole.push_str(self.before.as_str())?;
-        whole.push_str(self.value_in(row)?)?;
-        whole.push_str(self.behind.as_str())?;
-        Ok(())
-    }
+/// Adds a member, whose name is in its first quotes, with its value in a short row, or the usual
+/// one; whether the row names it.
+fn push_member(whole: &mut String, line: &str, row: &str) -> io::Result<bool> {
+    let (text, usual) = first_word(line);
+    let (before, behind) = text.split_once("*").ok_or(unread())?;
+    let name = before.split("\"").nth(1).ok_or(unread())?;
+    let value = value_in(row, name);
+    whole.push_str(before)?;
+    whole.push_str(value.unwrap_or(usual))?;
+    whole.push_str(behind)?;
+    Ok(value.is_some())
 }
 
 impl Kind {
-    fn has(&self, name: &str) -> bool {
-        self.members
-            .iter()
-            .any(|member| member.name.as_str() == name)
-    }
-
     /// Adds a row whose parts follow the kind's name; each names a member.
     fn push_row(&self, whole: &mut String, row: &str) -> io::Result<()> {
-        for part in row.split("; ").skip(1) {
-            let (name, _) = part_of(part)?;
-            if !self.has(name) {
-                return Err(unread());
+        let mut unnamed = row.split("; ").count();
+        whole.push_str("{")?;
+        for (place, line) in self.members.lines().enumerate() {
+            if place > 0 {
+                whole.push_str(",")?;
             }
-        }
-        let mut mark = "{";
-        for member in &self.members {
-            whole.push_str(mark)?;
-            member.push(whole, row)?;
-            mark = ",";
+            unnamed = unnamed.saturating_sub(usize::from(push_member(whole, line, row)?));
         }
         whole.push_str("}")?;
-        Ok(())
+        if unnamed == 1 { Ok(()) } else { Err(unread()) }
     }
 }
 
@@ -106,15 +68,16 @@ impl Kinds {
     /// A new kind, whose members follow.
     pub fn begin(&mut self, name: &str) -> io::Result<()> {
         let name = String::from_str(self.alloc, name)?;
-        let members = Vec::new(self.alloc);
+        let members = String::new(self.alloc);
         self.kinds.push(Kind { name, members })?;
         Ok(())
     }
 
     /// The next member of the kind that was begun last.
     pub fn member(&mut self, line: &str) -> io::Result<()> {
-        let member = Member::read(self.alloc, line)?;
-        self.kinds.last_mut().ok_or(unread())?.members.push(member)?;
+        let kind = self.kinds.last_mut().ok_or(unread())?;
+        kind.members.push_str(line)?;
+        kind.members.push_str("\n")?;
         Ok(())
     }
 

@@ -1,6 +1,6 @@
 //! Calls as requests spell them.
 use crate::requests::read;
-use crate::sent::request;
+use farm_fakes::request;
 use farm_types::Call;
 use farm_wire::Ask;
 use std::alloc::Global;

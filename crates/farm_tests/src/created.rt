@@ -1,6 +1,6 @@
 //! The making of the tables, stopped at each call of each of the two files of a store.
-use crate::stores::{make, opened, stopping};
 use farm_core::Farm;
+use farm_fakes::{make, opened, stopping};
 use farm_keep::{KeepFault, found};
 use farm_store::StoreFault;
 use sqlite::{Alter, Connection, FileStore, Files};
@@ -10,14 +10,6 @@ use std::test::Fail;
 
 /// More calls than the making of the tables needs.
 const MANY: u64 = 10_000;
-
-/// The farm whose tables are there.
-fn find<S: Alter>(alloc: Global, conn: &mut Connection<S>) -> Result<Farm, KeepFault> {
-    if !conn.is_autocommit() {
-        return Err(KeepFault::Closed);
-    }
-    found(alloc, conn)
-}
 
 /// A farm in words, all that it holds among them.
 fn in_words(alloc: Global, farm: &Farm) -> Result<String, AllocError> {
@@ -32,41 +24,41 @@ fn is_empty(alloc: Global, farm: &Farm) -> bool {
     }
 }
 
+/// Whether the farm whose tables are there is empty.
+fn finds_empty<S: Alter>(alloc: Global, conn: &mut Connection<S>) -> Result<bool, KeepFault> {
+    if !conn.is_autocommit() {
+        return Err(KeepFault::Closed);
+    }
+    Ok(is_empty(alloc, &found(alloc, conn)?))
+}
+
 /// Whether the tables of the empty farm are found, and can't be made again. Where there are none,
 /// they can be made. None where it is otherwise.
 fn is_found<S: Alter>(alloc: Global, conn: &mut Connection<S>) -> Option<bool> {
-    match find(alloc, conn) {
-        Ok(farm) => {
-            let stands = is_empty(alloc, &farm) && make(conn) == Err(StoreFault::Store);
-            stands.then_some(true)
-        }
+    match finds_empty(alloc, conn) {
+        Ok(empty) => (empty && make(conn) == Err(StoreFault::Store)).then_some(true),
         Err(KeepFault::Store) => make(conn).is_ok().then_some(false),
         Err(_) => None,
     }
 }
 
-/// Whether the tables are made, or found; and the connection.
-fn made_or_found<S: Alter>(
+/// Whether the tables are made, or found; and the store of the connection.
+fn made_or_found<S: Alter + Drop>(
     alloc: Global,
     mut conn: Connection<S>,
     makes: bool,
-) -> (Option<bool>, Connection<S>) {
+) -> (Option<bool>, S) {
     let end = if makes {
         Some(make(&mut conn).is_ok())
     } else {
         is_found(alloc, &mut conn)
     };
-    (end, conn)
+    (end, conn.into_store())
 }
 
 /// Whether a call of the file has failed or would fail now.
 fn is_blown<D: Disk>(file: &mut D) -> bool {
     !file.may_be_used() || file.len().is_err()
-}
-
-/// The store of a connection.
-fn store_of<S: Alter + Drop>(conn: Connection<S>) -> S {
-    conn.into_store()
 }
 
 /// What a store's files are after a crash, and whether one was stopped.
@@ -86,8 +78,8 @@ fn used<D: Disk + Crash + Drop>(
     files: Files<D>,
     makes: bool,
 ) -> Option<(Option<bool>, Files<D>, bool)> {
-    let (end, conn) = made_or_found(alloc, opened(alloc, files)?, makes);
-    let (files, was_stopped) = crashed(store_of(conn));
+    let (end, store) = made_or_found(alloc, opened(alloc, files)?, makes);
+    let (files, was_stopped) = crashed(store);
     Some((end, files, was_stopped))
 }
 

@@ -1,7 +1,7 @@
 //! All fourteen commands in one run of the keeper, and in a run that a store is opened for.
 use crate::asked::call;
-use crate::stores::{made, make};
 use farm_core::Farm;
+use farm_fakes::{made, make};
 use farm_keep::{KeepFault, Keeper, RunEnd};
 use farm_types::{Answer, Call, Holder, JobState, Outcome, Reply, ResRow, ResState, State};
 use sqlite::{Alter, Connection};

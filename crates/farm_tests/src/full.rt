@@ -7,6 +7,7 @@ use farm_types::{
     Rows, TypeRow, WordFault,
 };
 use std::alloc::Global;
+use std::process::Abort;
 use std::test::Fail;
 
 /// The boards of that farm.
@@ -87,15 +88,19 @@ fn counts(farm: &Farm) -> (u64, u64, u64) {
     (status.boards, status.jobs, status.count)
 }
 
+/// A pass is accepted, and makes no check.
+fn expect_no_check(rt: &impl Abort, farm: &mut Farm, pass: &Call) {
+    assert_eq!(rt; reply_to(farm, pass), Some(Reply(0, 0, 0)));
+    assert_eq!(rt; counts(farm), (3, 100_000, 1));
+    assert!(rt; are_free(farm));
+}
+
 /// Where there is no room for a check a pass is accepted all the same.
 #[test]
 fn farm_full_of_jobs(rt: HostRuntime) -> Result<(), Fail> {
     let pass = call(rt.alloc(), 1000, "dispatcher", "POST /pass", "")?;
     let mut farm = full_farm(rt.alloc())?;
-    let reply = reply_to(&mut farm, &pass);
-    assert_eq!(rt; reply, Some(Reply(0, 0, 0)));
-    assert_eq!(rt; counts(&farm), (3, 100_000, 1));
-    assert!(rt; are_free(&farm));
+    expect_no_check(&rt, &mut farm, &pass);
     Ok(())
 }
 
@@ -117,17 +122,21 @@ fn end_of(farm: &mut Farm, call: &Call) -> End {
     }
 }
 
+/// The call is done, or the farm has failed, and says so from then on.
+fn expect_done_or_failed(rt: &impl Abort, farm: &mut Farm, call: &Call) {
+    let end = end_of(farm, call);
+    assert_eq!(rt; farm.is_failed(), end == End::Refused);
+    if farm.is_failed() {
+        assert!(rt; end_of(farm, call) == End::Failed);
+    } else {
+        assert!(rt; end == End::Done);
+    }
+}
+
 /// Where memory is refused for a change, the farm has failed, and says so from then on.
 #[test]
 fn refused_memory(rt: HostRuntime) -> Result<(), Fail> {
     let call = call(rt.alloc(), 1, "admin", "POST /types", "{\"name\":\"bbb\"}")?;
-    let mut farm = Farm::empty(rt.alloc());
-    let end = end_of(&mut farm, &call);
-    assert_eq!(rt; farm.is_failed(), end == End::Refused);
-    if farm.is_failed() {
-        assert!(rt; end_of(&mut farm, &call) == End::Failed);
-    } else {
-        assert!(rt; end == End::Done);
-    }
+    expect_done_or_failed(&rt, &mut Farm::empty(rt.alloc()), &call);
     Ok(())
 }

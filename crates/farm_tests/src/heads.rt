@@ -1,6 +1,6 @@
 //! The lengths that a head declares, and how much is taken behind it.
-use crate::fakes::Endless;
 use crate::requests::read;
+use farm_fakes::Endless;
 use farm_http::WireFault;
 use std::alloc::{AllocError, Global};
 use std::test::Fail;

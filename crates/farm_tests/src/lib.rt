@@ -1,5 +1,4 @@
-//! Tests of the public calls that cross crates below the desk, and of what no contract says; and
-//! what the desk's tests share with them.
+//! Tests of the public calls that cross crates below the desk, and of what no contract says.
 #![tactic(auto)]
 
 #[cfg(test)]
@@ -8,7 +7,6 @@ mod asked;
 mod copies;
 #[cfg(test)]
 mod created;
-pub mod fakes;
 #[cfg(test)]
 mod files;
 #[cfg(test)]
@@ -31,8 +29,6 @@ mod requests;
 mod rows;
 #[cfg(test)]
 mod search;
-pub mod sent;
-pub mod stores;
 #[cfg(test)]
 mod tables;
 #[cfg(test)]

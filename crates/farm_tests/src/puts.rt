@@ -1,7 +1,7 @@
 //! Changes that are put into the tables straight, and found there.
 ghost use Rattle.farm_types.specs.Small.{AreSmall};
 
-use crate::stores::{make, read};
+use farm_fakes::{make, read};
 use farm_store::{StoreFault, put};
 use farm_types::{Changes, MetaRow};
 use sqlite::{Alter, Connection, Error};

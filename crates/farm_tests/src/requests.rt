@@ -1,6 +1,5 @@
 //! Requests that are read whole or cut, from readers that are slow, fail or never end.
-use crate::fakes::{Interrupted, Slow, Tally};
-use crate::sent::FIRST_TYPE;
+use farm_fakes::{FIRST_TYPE, Interrupted, Slow, Tally};
 use farm_http::{CountedReader, Input, Taken, WireFault, read_request, read_request_counted};
 use farm_types::{BAD_REQUEST, LONGEST_BODY, LONGEST_HEAD, Refusal};
 use std::alloc::{AllocError, Global};

@@ -6,7 +6,7 @@ ghost use Rattle.farm_types.specs.Small.{IsSmallKept, AreSmall};
 
 use crate::puts::write;
 use crate::rows::{board, job, name, tags, type_row};
-use crate::stores::{make, read};
+use farm_fakes::{make, read};
 use farm_types::{
     BoardRow, Body, Changes, Check, Health, Holder, JobRow, JobState, KeptRow, Key, MetaRow,
     Outcome, Priority, Reply, ResRow, ResState, Rows, State, TypeRow, Want,

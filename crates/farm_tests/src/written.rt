@@ -1,5 +1,5 @@
 //! Answers that are written whole, or as far as the writer takes them.
-use crate::fakes::{Narrow, Tally};
+use farm_fakes::{Narrow, Tally};
 use farm_http::{CountedWriter, Output, WireFault, write_whole, write_whole_counted};
 use std::alloc::Global;
 use std::io::Write;

@@ -2,7 +2,7 @@ use Rattle.std.proofs.Common.{refl}
 use Rattle.farm_desk.proofs.orders.carry_out_from.Goals as goal
 
 pub returns-in-Memory : goal.returns-in-Memory
-returns-in-Memory g c = rw c.in-Once.is (rw c.in-Memory.is c.answer_in_memory.ensures)
+returns-in-Memory g c = rw c.in-Once.is (rw c.in-Memory.is (c.answer_in_memory.ensures _))
 
 pub returns-in-File : goal.returns-in-File
 returns-in-File g c = rw c.in-Once.is (rw c.in-File.is c.do_in_files.ensures)

@@ -15,5 +15,5 @@ pub returns : goal.returns
 returns g c = record {
   opened = c.open_farm.result;
   opens = record { found = c.open_farm.ensures.found; denied = c.open_farm.ensures.denied; version = c.open_farm.ensures.version; fault = c.open_farm.ensures.fault };
-  does = rw c.in_ok-keeper.was c.do_task.ensures;
+  does = rw c.in_ok-keeper.was c.do_with_files.ensures;
 }

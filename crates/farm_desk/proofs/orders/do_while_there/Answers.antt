@@ -30,24 +30,24 @@ returns-in_default g c = record {
 
 pub returns-then-are_lost : goal.returns-then-are_lost
 returns-then-are_lost g c =
-    let ok : IsOk c.do_task-ended.result = search rules in
+    let ok : IsOk c.do_with_files-ended.result = search rules in
     record {
-      ended = c.do_task-ended.result;
+      ended = c.do_with_files-ended.result;
       does = record {
         opened = c.open_farm.result;
         opens = record { found = c.open_farm.ensures.found; denied = c.open_farm.ensures.denied; version = c.open_farm.ensures.version; fault = c.open_farm.ensures.fault };
-        does = rw c.in_ok-keeper.was c.do_task-ended.ensures;
+        does = rw c.in_ok-keeper.was c.do_with_files-ended.ensures;
       };
       ends = inr (refl, ok);
     }
 
 pub returns : goal.returns
 returns g c = record {
-  ended = c.do_task-ended.result;
+  ended = c.do_with_files-ended.result;
   does = record {
     opened = c.open_farm.result;
     opens = record { found = c.open_farm.ensures.found; denied = c.open_farm.ensures.denied; version = c.open_farm.ensures.version; fault = c.open_farm.ensures.fault };
-    does = rw c.in_ok-keeper.was c.do_task-ended.ensures;
+    does = rw c.in_ok-keeper.was c.do_with_files-ended.ensures;
   };
   ends = inl refl;
 }
