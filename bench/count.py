@@ -153,7 +153,9 @@ def of_crate(folder: Path) -> Counts:
 
 def main() -> None:
     top = Path(sys.argv[1] if len(sys.argv) > 1 else "crates")
-    print("| Crate | Files | Code | Contract | Ghost | Comment | Blank | `use`, `mod` | Specs | Proofs | Proofs a line of code | Functions | Median | Ninth of ten | Longest |")
+    heads = "Crate, Files, Code, Contract, Ghost, Comment, Blank, `use` `mod`, Specs, Proofs, Proofs a line of code"
+    heads += ", Functions, Median, Ninth of ten, Longest"
+    print(f"| {heads.replace(', ', ' | ')} |")
     print("|---|" + "---|" * 14)
     product, total = Counts(), Counts()
     for folder in sorted(top.iterdir()):

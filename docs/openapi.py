@@ -4,7 +4,7 @@
 The tables below have what only they say: which schema each route takes and answers, and how far a
 field's values go. The fields of answers are those of the Python package's views
 (python/src/fizgruk/models.py); the routes' texts, their refusals, the codes and the examples those of
-docs/API.md, read from there. tests/program/openapi.py demands that the file is what this prints, and
+docs/API.md, read from there. tests/program/test_openapi.py demands that the file is what this prints, and
 what a built program answers.
 """
 import dataclasses

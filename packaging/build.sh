@@ -1,12 +1,17 @@
 #!/bin/sh
 # Builds the Debian packages of a built program, and prints where they are, a line each.
 #     sh packaging/build.sh bin/farm bin
-# Ends with status 77 where one of the programs isn't there that build packages.
+# Says which programs that build packages aren't there, and ends with status 1 then.
 set -eu
+missing=
 for tool in dpkg-buildpackage dh dh_python3 po2debconf pybuild strip; do
-    command -v "$tool" > /dev/null || { echo "package: not built, since there is no $tool"; exit 77; }
+    command -v "$tool" > /dev/null || missing="$missing, no $tool"
 done
-/usr/bin/python3 -c 'import setuptools' 2> /dev/null || { echo "package: not built, since there is no python3-setuptools"; exit 77; }
+/usr/bin/python3 -c 'import setuptools' 2> /dev/null || missing="$missing, no python3-setuptools"
+if [ -n "$missing" ]; then
+    echo "package: not built, since there is ${missing#, }"
+    exit 1
+fi
 program=$(realpath "$1")
 to=$(realpath "$2")
 cd "$(dirname "$0")/.."

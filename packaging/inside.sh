@@ -1,3 +1,4 @@
+#!/bin/sh
 # What packaging/try.sh runs in the clean Debian.
 set -eu
 export DEBIAN_FRONTEND=noninteractive LC_ALL=C
@@ -187,7 +188,7 @@ install ./fizgruk*.deb
 says 'farm-dispatch is disabled, as it was'
 unit farm enabled active 'an upgrade from 2.0'
 unit farm-dispatch disabled inactive 'an upgrade from 2.0'
-[ -e $home/before-2*/lab.db ] || fail "the copy of an upgrade from 2.0"
+ls "$home"/before-2*/lab.db > /dev/null 2>&1 || fail "the copy of an upgrade from 2.0"
 does apt-get purge -y fizgruk
 tail -n 1 /etc/farm/run-job | grep -q ours || fail "the admin's command"
 dpkg -S /etc/farm/run-job | grep -q '^fizgruk-farm:' || fail "whose the admin's command is"

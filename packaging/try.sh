@@ -17,7 +17,7 @@ root=$room/debian
 if [ -n "${3:-}" ]; then
     cp -a "$3" "$root"
 else
-    command -v debootstrap > /dev/null || { echo "package: not tried, since there is no debootstrap"; exit 77; }
+    command -v debootstrap > /dev/null || { echo "package: it wants debootstrap"; exit 1; }
     mkdir "$root"
     debootstrap --variant=minbase bookworm "$root" > "$room/log"
 fi

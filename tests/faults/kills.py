@@ -7,31 +7,27 @@ command that had no answer is sent again with its key. At each start SQLite find
 of commands is that of the answered ones, or one more, and a command that had been answered is answered
 alike. At the end each command was done once: as many jobs as were submitted, with numbers in their order.
 
-KILLS kills, 2,000 where no number is given: some four minutes. `make test` asks for 100.
+KILLS kills, 2,000 where no number is given: some four minutes. test_by_chance.py asks for 100.
 """
+from __future__ import annotations
+
 import contextlib
 import json
 import os
 import random
 import shutil
-import signal
 import socket
 import sqlite3
 import subprocess
 import sys
 import tempfile
 import threading
-import time
+from typing import List, Optional, Set, Tuple
 
-AT_ONCE = 25
-
-
-def fail(what):
-    print(f"kills: {what}", file=sys.stderr)
-    sys.exit(1)
+Answer = Optional[Tuple[int, bytes]]
 
 
-def conversation(port, sent):
+def conversation(port: int, sent: bytes) -> Answer:
     """The answer's status and body; nothing where the program was gone before its end."""
     try:
         with socket.create_connection(("127.0.0.1", port), timeout=20) as stream:
@@ -48,7 +44,7 @@ def conversation(port, sent):
     return int(head.split()[1]), body
 
 
-def request(caller, path, body, key):
+def request(caller: str, path: str, body: str, key: str) -> bytes:
     return (
         f"POST {path} HTTP/1.1\r\nx-user: {caller}\r\nx-key: {key}\r\n"
         f"content-length: {len(body)}\r\n\r\n{body}"
@@ -58,106 +54,112 @@ def request(caller, path, body, key):
 class Server:
     """A program that serves the farm of a file."""
 
-    def __init__(self, db, log):
+    def __init__(self, farm: str, db: str):
         with socket.socket() as taken:
             taken.bind(("127.0.0.1", 0))
             self.port = taken.getsockname()[1]
-        words = [FARM, "serve", "--db", db, "--port", str(self.port), "--max", "1000000"]
-        self.log = log
+        words = [farm, "serve", "--db", db, "--port", str(self.port), "--max", "1000000"]
+        self.log = f"{db}-wal"
         self.process = subprocess.Popen(words, stdout=subprocess.PIPE, stderr=subprocess.PIPE)
-        said = self.process.stdout.readline()
-        if said != f"listening {self.port}\n".encode():
-            fail(f"serve said {said + self.process.stderr.read()}")
+        assert self.process.stdout is not None
+        assert self.process.stdout.readline() == f"listening {self.port}\n".encode()
 
-    def kill_after(self, seconds):
+    def kill_after(self, seconds: float) -> threading.Thread:
         """Kills it then, beside what goes on."""
         killer = threading.Timer(seconds, self.process.kill)
         killer.start()
         return killer
 
-    def kill_when_log_grows(self, number):
+    def kill_when_log_grows(self, number: int) -> threading.Thread:
         """Kills it once its log has grown so many times."""
-        def watch():
+
+        def watch() -> None:
             for _ in range(number):
                 length = self.length()
                 while self.length() == length:
                     if self.process.poll() is not None:
                         return
             self.process.kill()
+
         killer = threading.Thread(target=watch)
         killer.start()
         return killer
 
-    def length(self):
+    def length(self) -> Tuple[int, int]:
         try:
             found = os.stat(self.log)
             return found.st_size, found.st_mtime_ns
         except OSError:
             return 0, 0
 
-    def end(self):
+    def end(self) -> None:
         self.process.kill()
         self.process.communicate()
 
 
-def command(number):
+def command(number: int) -> bytes:
     """The command of this number, which is done whatever was done before; every second one is a job."""
     if number % 2 == 0:
-        return request("ann", "/jobs", 'job_name = "boot"\ndevice_type = "bbb"\n# ' + "x" * (number % 7 * 700), f"k{number}")
+        text = 'job_name = "boot"\ndevice_type = "bbb"\n# ' + "x" * (number % 7 * 700)
+        return request("ann", "/jobs", text, f"k{number}")
     tags = json.dumps({"tags": [f"turn={number}"]})
     return request("admin", "/boards/b1/tags", tags, f"k{number}")
 
 
-def check_start(db, folder, server, done, unsure):
+def check_start(db: str, folder: str, server: Server, done: List[Answer], unsure: int) -> bool:
     """What stands once it has started again. Whether the command without an answer had been done."""
     copy = f"{folder}/copy.db"
     for end in ("", "-wal"):
         if os.path.exists(db + end):
             shutil.copy(db + end, copy + end)
     with contextlib.closing(sqlite3.connect(copy)) as conn:
-        if conn.execute("pragma integrity_check").fetchall() != [("ok",)]:
-            fail("SQLite finds the file damaged")
+        assert conn.execute("pragma integrity_check").fetchall() == [("ok",)], "SQLite finds the file damaged"
     for end in ("", "-wal", "-shm"):
         if os.path.exists(copy + end):
             os.remove(copy + end)
-    status, body = conversation(server.port, b"GET /status HTTP/1.1\r\n\r\n")
-    count = json.loads(body)["count"] - FIRST
-    if status != 200 or count not in range(len(done), len(done) + unsure + 1):
-        fail(f"{len(done)} commands were answered, {unsure} sent beside, and the farm counts {count}")
-    for number in {len(done) - 1, random.randrange(len(done))} if done else ():
-        if conversation(server.port, command(number)) != done[number]:
-            fail(f"command {number} isn't answered as before")
+    count = count_of(server) - FIRST
+    told = f"{len(done)} commands were answered, {unsure} sent beside, and the farm counts {count}"
+    assert len(done) <= count <= len(done) + unsure, told
+    numbers: Set[int] = {len(done) - 1, random.randrange(len(done))} if done else set()
+    for number in numbers:
+        assert conversation(server.port, command(number)) == done[number], f"command {number} isn't answered as before"
     return count > len(done)
+
+
+def count_of(server: Server) -> int:
+    answer = conversation(server.port, b"GET /status HTTP/1.1\r\n\r\n")
+    assert answer and answer[0] == 200
+    return int(json.loads(answer[1])["count"])
 
 
 FIRST = 3
 
 
-def send_until_killed(server, done):
+def send_until_killed(server: Server, done: List[Answer]) -> None:
     """Sends one command after another, until one isn't answered."""
     while True:
         answer = conversation(server.port, command(len(done)))
         if answer is None:
             return
-        if answer[0] != 200:
-            fail(f"command {len(done)} was answered {answer}")
+        assert answer[0] == 200, f"command {len(done)} was answered {answer}"
         done.append(answer)
 
 
-def main(kills):
+def main(farm: str, kills: int, folder: str) -> str:
+    """Kills a program so often, with its farm in a folder. Says what came of it."""
     random.seed(20261124)
-    folder = tempfile.mkdtemp()
     db = f"{folder}/farm.db"
-    subprocess.run([FARM, "init", "--db", db], check=True, stdout=subprocess.DEVNULL)
-    server = Server(db, f"{db}-wal")
+    subprocess.run([farm, "init", "--db", db], check=True, stdout=subprocess.DEVNULL)
+    server = Server(farm, db)
     for path, body in [("/types", '{"name":"bbb"}'), ("/boards", '{"name":"b1","type":"bbb","tags":[]}'),
                        ("/boards/b1/health", '{"health":"Good"}')]:
-        if conversation(server.port, request("admin", path, body, path.replace("/", ".")))[0] != 200:
-            fail(f"{path} isn't done")
+        answer = conversation(server.port, request("admin", path, body, path.replace("/", ".")))
+        assert answer and answer[0] == 200, path
     server.end()
-    done, lost, unsure = [], 0, 0
+    done: List[Answer] = []
+    lost = unsure = 0
     for turn in range(kills):
-        server = Server(db, f"{db}-wal")
+        server = Server(farm, db)
         lost += check_start(db, folder, server, done, unsure)
         if turn % 2:
             killer = server.kill_after(random.random() * 0.03)
@@ -167,19 +169,17 @@ def main(kills):
         unsure = 1
         killer.join()
         server.end()
-    server = Server(db, f"{db}-wal")
+    server = Server(farm, db)
     check_start(db, folder, server, done, unsure)
-    jobs = [json.loads(body)["number"] for number, (_, body) in enumerate(done) if number % 2 == 0]
-    if jobs != list(range(1, len(jobs) + 1)):
-        fail("a job was submitted twice, or lost")
+    jobs = [json.loads(it[1])["number"] for number, it in enumerate(done) if it and number % 2 == 0]
+    assert jobs == list(range(1, len(jobs) + 1)), "a job was submitted twice, or lost"
     server.end()
-    shutil.rmtree(folder)
-    print(
-        f"kills: {kills} of them, {len(done)} commands answered, {kills} not, of which {lost} had been done; "
+    return (
+        f"{kills} kills, {len(done)} commands answered, {kills} not, of which {lost} had been done; "
         "none that was answered is lost, and none is done twice"
     )
 
 
 if __name__ == "__main__":
-    FARM = os.path.realpath(sys.argv[1])
-    main(int(sys.argv[2]) if len(sys.argv) > 2 else 2000)
+    with tempfile.TemporaryDirectory() as room:
+        print(main(os.path.realpath(sys.argv[1]), int(sys.argv[2]) if len(sys.argv) > 2 else 2000, room))

@@ -17,9 +17,10 @@ What isn't tried: a disk that tears a sector, or forgets what it said is synced,
 a file's name once it is synced.
 
 CUTS different pairs are tried, 10,000 where no number is given: some 20 minutes on four processors. SEED is where
-chance begins. `make test` tries 200. Wants what tests/shared/library.sh wants, and python3's sqlite3; ends with status
-77 where they aren't there.
+chance begins. test_by_chance.py tries 200. Wants what tests/shared/libraries.py wants.
 """
+from __future__ import annotations
+
 import bisect
 import concurrent.futures
 import contextlib
@@ -35,6 +36,7 @@ import struct
 import subprocess
 import sys
 import tempfile
+from typing import Any, Dict, Generator, Iterator, List, Optional, Tuple
 
 SECTOR = 512
 TABLES = ["types", "boards", "jobs", "reservations", "kept", "meta"]
@@ -44,12 +46,14 @@ OLD_FARM = "farm: 63 old schema\n"
 STATUS = b"GET /status HTTP/1.1\r\n\r\n"
 
 
-def fail(what):
-    print(f"power cuts: {what}", file=sys.stderr)
-    sys.exit(1)
+FARM = RECORDER = ""  # the program, and the library of record.c
+TESTS = os.path.dirname(os.path.dirname(os.path.realpath(__file__)))
+Part = Tuple[str, int, bytes]  # a write ("w"), change of length or removal of a file, its offset and its bytes
+Cut = Tuple[str, Dict[str, Optional[bytes]], int, int]
+Requests = Generator[bytes, Any, None]
 
 
-def request(caller, path, body="", key=None):
+def request(caller: str, path: str, body: str = "", key: Optional[str] = None) -> bytes:
     """The bytes of a command."""
     kept = f"x-key: {key}\r\n" if key else ""
     return f"POST {path} HTTP/1.1\r\nx-user: {caller}\r\n{kept}content-length: {len(body)}\r\n\r\n{body}".encode()
@@ -58,14 +62,14 @@ def request(caller, path, body="", key=None):
 # ---- what a farm is, seen from outside
 
 
-def ask(db, bytes_in, at=1700000000):
+def ask(db: str, bytes_in: bytes, at: int = 1700000000) -> Tuple[int, bytes]:
     """The answer of one conversation over the farm of a file."""
     words = [FARM, "once", "--db", db, "--at", str(at)]
     done = subprocess.run(words, input=bytes_in, capture_output=True, check=False)
     return done.returncode, done.stdout + done.stderr
 
 
-def rows(db):
+def rows(db: str) -> Optional[List[List[Any]]]:
     """All rows of the six tables, as SQLite reads them; it may move the log into the file."""
     with contextlib.closing(sqlite3.connect(db)) as conn:
         if conn.execute("pragma integrity_check").fetchall() != [("ok",)]:
@@ -73,7 +77,7 @@ def rows(db):
         return [sorted(conn.execute(f"select * from {table}").fetchall()) for table in TABLES]
 
 
-def seen(db):
+def seen(db: str) -> str:
     """A digest of all that a farm shows; the fault where the program finds none."""
     shown = [ask(db, STATUS)]
     if shown[0][0] and shown[0][1].decode() != OLD_FARM:
@@ -89,7 +93,7 @@ def seen(db):
     return hashlib.sha256(repr((shown, found)).encode()).hexdigest()
 
 
-def copied(db, folder):
+def copied(db: str, folder: str) -> str:
     """A copy of a farm's two files in a folder of its own."""
     place = tempfile.mkdtemp(dir=folder)
     for end in ("", "-wal"):
@@ -98,13 +102,25 @@ def copied(db, folder):
     return f"{place}/farm.db"
 
 
-def seen_in_copy(db, folder):
+def seen_in_copy(db: str, folder: str) -> str:
     """What a farm shows that goes on being used."""
     copy = copied(db, folder)
     try:
         return seen(copy)
     finally:
         shutil.rmtree(os.path.dirname(copy))
+
+
+def bytes_in(file: str) -> bytes:
+    with open(file, "rb") as opened:
+        return opened.read()
+
+
+def write(file: str, held: Optional[bytes]) -> None:
+    """Makes a file of these bytes, or none."""
+    if held is not None:
+        with open(file, "wb") as opened:
+            opened.write(held)
 
 
 # ---- lives: what was recorded, and which farms stood when
@@ -117,31 +133,31 @@ class Life:
     was before command n (from 1) and after its answer. `farms[0]` stands before the first.
     """
 
-    def __init__(self, name, folder, before=None):
+    def __init__(self, name: str, folder: str, before: str = ""):
         self.name = name
         self.place = tempfile.mkdtemp(dir=folder)
         self.db = f"{self.place}/farm.db"
         self.record = f"{self.place}/record"
-        self.start = {}
+        self.start: Dict[str, bytes] = {}
         for end in ("", "-wal"):
             if before and os.path.exists(before + end):
                 shutil.copy(before + end, self.db + end)
-                self.start[end] = open(before + end, "rb").read()
-        open(self.record, "wb").close()
+                self.start[end] = bytes_in(before + end)
+        write(self.record, b"")
         self.environment = {**os.environ, "LD_PRELOAD": RECORDER, "RECORD": self.record, "RECORDED": self.db}
-        self.farms = []
+        self.farms: List[str] = []
         self.begun = [0]
         self.answered = [0]
 
-    def run(self, words, **more):
-        return subprocess.run([FARM, *words], env=self.environment, capture_output=True, check=False, **more)
+    def run(self, words: List[str]) -> "subprocess.CompletedProcess[bytes]":
+        return subprocess.run([FARM, *words], env=self.environment, capture_output=True, check=False)
 
-    def length(self):
+    def length(self) -> int:
         return os.path.getsize(self.record)
 
-    def entries(self):
+    def entries(self) -> Iterator[Tuple[int, str, Optional[str], int, bytes]]:
         """The record's entries, each with the place in the record where it begins."""
-        text = open(self.record, "rb").read()
+        text = bytes_in(self.record)
         at = 0
         while at < len(text):
             begin, what = at, chr(text[at])
@@ -155,25 +171,23 @@ class Life:
                 at += count
             yield begin, what, path[len(self.db) :], offset, data
 
-
-    def carried(self):
+    def carried(self) -> int:
         """How many times the log was carried into the file: the file was synced behind writes to it."""
         kinds = [what for _, what, end, _, _ in self.entries() if end == "" and what in "ws"]
         return sum(1 for at in range(1, len(kinds)) if kinds[at - 1 : at + 1] == ["w", "s"])
 
 
-def life_of_init(folder):
+def life_of_init(folder: str) -> Life:
     life = Life("init", folder)
     life.farms.append(NO_FARM)
     life.begun.append(life.length())
-    if life.run(["init", "--db", life.db]).stdout != b"ready\n":
-        fail("init isn't done")
+    assert life.run(["init", "--db", life.db]).stdout == b"ready\n"
     life.answered.append(life.length())
     life.farms.append(seen_in_copy(life.db, folder))
     return life
 
 
-def life_of_import(folder, before):
+def life_of_import(folder: str, before: str) -> Life:
     """An import: its commands are answered as one, and each may be the last that is done."""
     life = Life("an import", folder, before)
     life.farms.append(seen_in_copy(life.db, folder))
@@ -182,37 +196,36 @@ def life_of_import(folder, before):
     for n in range(1, len(items) + 1):
         copy = copied(before, folder)
         lab = f"{copy}.toml"
-        open(lab, "w").write("\n".join(items[:n]))
-        done = subprocess.run([FARM, "import", "--db", copy, "--at", "1700000000", lab], capture_output=True, check=False)
-        if done.stdout != f"accepted {n}, kept 0\n".encode():
-            fail(f"an import of {n} items: {done.stdout + done.stderr}")
+        write(lab, "\n".join(items[:n]).encode())
+        words = [FARM, "import", "--db", copy, "--at", "1700000000", lab]
+        done = subprocess.run(words, capture_output=True, check=False)
+        assert done.stdout == f"accepted {n}, kept 0\n".encode(), done.stderr
         life.farms.append(seen(copy))
         life.begun.append(0)
         shutil.rmtree(os.path.dirname(copy))
     lab = f"{life.db}.toml"
-    open(lab, "w").write("\n".join(items))
-    if life.run(["import", "--db", life.db, "--at", "1700000000", lab]).returncode:
-        fail("the import isn't done")
+    write(lab, "\n".join(items).encode())
+    assert life.run(["import", "--db", life.db, "--at", "1700000000", lab]).returncode == 0
     life.answered += [life.length()] * len(items)
     return life
 
 
-def conversation(port, bytes_in):
+def conversation(port: int, sent: bytes) -> bytes:
     with socket.create_connection(("127.0.0.1", port)) as stream:
-        stream.sendall(bytes_in)
+        stream.sendall(sent)
         answer = b""
         while more := stream.recv(65536):
             answer += more
     return answer
 
 
-def free_port():
+def free_port() -> int:
     with socket.socket() as taken:
         taken.bind(("127.0.0.1", 0))
-        return taken.getsockname()[1]
+        return int(taken.getsockname()[1])
 
 
-def life_of_serving(name, folder, before, requests):
+def life_of_serving(name: str, folder: str, before: str, requests: Requests) -> Life:
     """A served farm: each request is answered 200 before the next is sent, which may go by that answer."""
     life = Life(name, folder, before)
     life.farms.append(seen_in_copy(life.db, folder))
@@ -220,33 +233,35 @@ def life_of_serving(name, folder, before, requests):
     words = [FARM, "serve", "--db", life.db, "--port", str(port), "--max", "1000000"]
     server = subprocess.Popen(words, env=life.environment, stdout=subprocess.PIPE)
     try:
+        assert server.stdout is not None
         server.stdout.readline()
-        bytes_in = next(requests)
-        while bytes_in:
+        sent: Optional[bytes] = next(requests)
+        while sent:
             life.begun.append(life.length())
-            answer = conversation(port, bytes_in)
+            answer = conversation(port, sent)
             life.answered.append(life.length())
-            if not answer.startswith(b"HTTP/1.1 200 "):
-                fail(f"{name}: {bytes_in[:80]} was answered {answer}")
+            assert answer.startswith(b"HTTP/1.1 200 "), f"{name}: {sent[:80]!r} was answered {answer!r}"
             life.farms.append(seen_in_copy(life.db, folder))
             body = json.loads(answer.partition(b"\r\n\r\n")[2])
             try:
-                bytes_in = requests.send(body)
+                sent = requests.send(body)
             except StopIteration:
-                bytes_in = None
+                sent = None
     finally:
         server.kill()
         server.communicate()
     return life
 
 
-def day():
+def day() -> Requests:
     """Commands of a day, over the boards of the import."""
     requests = [request("admin", f"/boards/b{n:02}/health", '{"health":"Good"}') for n in range(6)]
-    requests += [request("ann", "/jobs", f'job_name = "boot"\ndevice_type = "t{n % 3 + 1}"\n', key=f"j{n}") for n in range(6)]
+    texts = [f'job_name = "boot"\ndevice_type = "t{n % 3 + 1}"\n' for n in range(6)]
+    requests += [request("ann", "/jobs", text, key=f"j{n}") for n, text in enumerate(texts)]
     requests += [request("bea", "/reservations", '{"tags":["serial"]}') for _ in range(3)]
     requests += [request("dispatcher", "/pass")]
-    requests += [request("dispatcher", "/jobs/1/start"), request("dispatcher", "/jobs/1/finish", '{"outcome":"Complete"}')]
+    requests += [request("dispatcher", "/jobs/1/start")]
+    requests += [request("dispatcher", "/jobs/1/finish", '{"outcome":"Complete"}')]
     requests += [request("ann", "/jobs/2/cancel", key="c2"), request("ann", "/jobs/2/cancel", key="c2")]
     requests += [request("bea", "/reservations/7/acquire"), request("bea", "/reservations/7/release")]
     requests += [request("dispatcher", "/pass"), request("bea", "/reservations/8/cancel")]
@@ -254,7 +269,7 @@ def day():
         yield it
 
 
-def large_jobs(number):
+def large_jobs(number: int) -> Requests:
     """Jobs of sixty thousand bytes each, one after another: each is given a board, started and finished, and
     each time its row is written anew."""
     yield request("admin", "/types", '{"name":"plain"}')
@@ -268,7 +283,7 @@ def large_jobs(number):
         yield request("dispatcher", f"/jobs/{job}/finish", '{"outcome":"Complete"}')
 
 
-def more_jobs(number):
+def more_jobs(number: int) -> Requests:
     """Some more of them, canceled."""
     text = 'job_name = "large"\ndevice_type = "plain"\n# ' + "x" * 60000 + "\n"
     for at in range(number):
@@ -282,16 +297,16 @@ def more_jobs(number):
 class File:
     """What a file surely holds, and what was done to it since it was synced."""
 
-    def __init__(self, held):
+    def __init__(self, held: Optional[bytes]):
         self.held = held
-        self.since = []
+        self.since: List[Part] = []
 
-    def sync(self):
+    def sync(self) -> None:
         """A file that is synced is there, if only without a byte."""
         self.held = self.left(self.since) or b""
         self.since = []
 
-    def left(self, done):
+    def left(self, done: List[Part]) -> Optional[bytes]:
         """What the file holds where these of the parts that wait were done; None where there is no file."""
         if not done:
             return self.held
@@ -307,7 +322,7 @@ class File:
         return bytes(held)
 
 
-def sectors(offset, data):
+def sectors(offset: int, data: bytes) -> Iterator[Part]:
     """A write in parts, each within one sector."""
     while data:
         count = min(len(data), SECTOR - offset % SECTOR)
@@ -315,7 +330,7 @@ def sectors(offset, data):
         offset, data = offset + count, data[count:]
 
 
-def chosen(chance, since, way):
+def chosen(chance: random.Random, since: List[Part], way: str) -> List[Part]:
     """Some of the parts that wait."""
     if way == "none":
         return []
@@ -333,7 +348,7 @@ def chosen(chance, since, way):
 WAYS = ["none", "all", "all but one", "the last alone", "by chance", "by chance", "by chance"]
 
 
-def cuts(life, chance, share):
+def cuts(life: Life, chance: random.Random, share: float) -> Iterator[Cut]:
     """Of each place of a life's record and each way a share by chance: the files that such a cut could leave."""
     files = {end: File(life.start.get(end)) for end in ("", "-wal")}
     for begin, what, end, offset, data in [*life.entries(), (life.length(), "", None, 0, b"")]:
@@ -344,7 +359,7 @@ def cuts(life, chance, share):
             if chance.random() < share:
                 left = {end: it.left(chosen(chance, it.since, way)) for end, it in files.items()}
                 yield f"{life.name}, before byte {begin} of the record, {way}", left, answered, begun
-        if end not in files:
+        if end is None or end not in files:
             continue
         if what == "s":
             files[end].sync()
@@ -354,7 +369,7 @@ def cuts(life, chance, share):
             files[end].since.append((what, offset, b""))
 
 
-def different(life, number, chance):
+def different(life: Life, number: int, chance: random.Random) -> Iterator[Cut]:
     """So many different pairs of files of a life, by chance; fewer where there are no more."""
     known = set()
     places = sum(1 for _ in life.entries()) + 1
@@ -371,26 +386,24 @@ def different(life, number, chance):
                 return
 
 
-def life_of_upgrading(name, folder, before):
+def life_of_upgrading(name: str, folder: str, before: str) -> Life:
     """A farm of the first edition that is migrated."""
     life = Life(name, folder, before)
-    if ask(life.db, STATUS)[1].decode() != OLD_FARM:
-        fail(f"{name}: there is no farm of the first edition")
+    assert ask(life.db, STATUS)[1].decode() == OLD_FARM, f"{name}: there is no farm of the first edition"
     life.farms.append(seen_in_copy(life.db, folder))
     life.begun.append(0)
-    if life.run(["migrate", "--db", life.db]).stdout != b"migrated\n":
-        fail(f"{name}: it isn't done")
+    assert life.run(["migrate", "--db", life.db]).stdout == b"migrated\n", name
     life.answered.append(life.length())
     life.farms.append(seen_in_copy(life.db, folder))
     return life
 
 
-def first_edition(folder):
+def first_edition(folder: str) -> Tuple[str, str]:
     """The farm that the first edition's program made, and one of it with large jobs more."""
     small = f"{tempfile.mkdtemp(dir=folder)}/farm.db"
     for end in ("", "-wal"):
-        with gzip.open(f"{TESTS}/shared/first_edition/lab.db{end}.gz") as packed, open(small + end, "wb") as file:
-            shutil.copyfileobj(packed, file)
+        with gzip.open(f"{TESTS}/shared/first_edition/lab.db{end}.gz") as packed:
+            write(small + end, packed.read())
     large = copied(small, folder)
     with contextlib.closing(sqlite3.connect(large)) as conn:
         last = conn.execute("select value from meta where name = 'next'").fetchone()[0]
@@ -403,7 +416,7 @@ def first_edition(folder):
     return small, large
 
 
-def begins_again(db):
+def begins_again(db: str) -> bool:
     """Whether an `init` that was cut off is done again, at the latest once what it left is removed."""
     for _ in range(2):
         if subprocess.run([FARM, "init", "--db", db], capture_output=True, check=False).stdout == b"ready\n":
@@ -414,22 +427,20 @@ def begins_again(db):
     return False
 
 
-def opens(life, cut, folder):
-    """Opens what a cut left, and says what is wrong with it."""
+def opens(life: Life, cut: Cut, folder: str) -> None:
+    """Opens what a cut left, which has to be a farm as it should be."""
     where, left, answered, begun = cut
     place = tempfile.mkdtemp(dir=folder)
     db = f"{place}/farm.db"
     for end, held in left.items():
-        if held is not None:
-            with open(db + end, "wb") as file:
-                file.write(held)
+        write(db + end, held)
     found = seen(db)
-    wrong = None
+    wrong = ""
     if found == life.farms[0] and ask(db, STATUS)[1].decode() == OLD_FARM:
         subprocess.run([FARM, "migrate", "--db", db], capture_output=True, check=False)
         found = found if answered == 0 and seen(db) == life.farms[1] else "another one, once it is upgraded"
     if found not in life.farms[answered : begun + 1]:
-        at = life.farms.index(found) if found in life.farms else found
+        at = str(life.farms.index(found)) if found in life.farms else found
         wrong = f"{where}: {answered} commands were answered and {begun} begun, and the farm is {at}"
     elif found != NO_FARM and ask(db, request("admin", "/types", '{"name":"after"}'))[0]:
         wrong = f"{where}: the next command is refused"
@@ -439,72 +450,61 @@ def opens(life, cut, folder):
     if wrong:
         place = tempfile.mkdtemp(prefix="power-cut-")
         for end, held in left.items():
-            if held is not None:
-                with open(f"{place}/farm.db{end}", "wb") as file:
-                    file.write(held)
-        return f"{wrong}; the files are left in {place}"
-    return None
+            write(f"{place}/farm.db{end}", held)
+        raise AssertionError(f"{wrong}; the files are left in {place}")
 
 
-def tried(life, number, chance, folder):
+def tried(life: Life, number: int, chance: random.Random, folder: str) -> int:
     """Tries so many pairs of files of a life; ends at the first that is wrong. Returns how many there were."""
     count = 0
     with concurrent.futures.ThreadPoolExecutor(os.cpu_count()) as pool:
-        waiting = []
+        waiting: "List[concurrent.futures.Future[None]]" = []
         for cut in different(life, number, chance):
             waiting.append(pool.submit(opens, life, cut, folder))
             if len(waiting) > 64:
-                check(waiting.pop(0).result())
+                waiting.pop(0).result()
             count += 1
         for it in waiting:
-            check(it.result())
+            it.result()
     syncs = sum(1 for it in life.entries() if it[1] == "s")
     print(
-        f"power cuts: {life.name}: {count} pairs of files, {len(life.farms) - 1} commands, {syncs} syncs, "
+        f"{life.name}: {count} pairs of files, {len(life.farms) - 1} commands, {syncs} syncs, "
         f"the log carried into the file {life.carried()} times", flush=True,
     )
     return count
 
 
-def check(wrong):
-    if wrong:
-        fail(wrong)
-
-
-def main(number, seed):
+def main(farm: str, recorder: str, number: int, seed: int) -> int:
+    """Tries so many pairs of files. Returns how many there were."""
+    global FARM, RECORDER
+    FARM, RECORDER = farm, recorder
     chance = random.Random(seed)
     with tempfile.TemporaryDirectory() as folder:
         empty = life_of_init(folder)
         lab = life_of_import(folder, empty.db)
         busy = life_of_serving("a day", folder, lab.db, day())
         full = life_of_serving("large jobs", folder, busy.db, large_jobs(24))
-        if full.carried() < 2:
-            fail(f"the log was carried into the file {full.carried()} times")
-        sums = [tried(life, number * part // 20, chance, folder) for life, part in ((empty, 1), (lab, 4), (busy, 7), (full, 4))]
+        assert full.carried() >= 2, f"the log was carried into the file {full.carried()} times"
+        parts = ((empty, 1), (lab, 4), (busy, 7), (full, 4))
+        sums = [tried(life, number * part // 20, chance, folder) for life, part in parts]
         left = next(cut for cut in cuts(full, chance, 0.05) if cut[2] > 60)[1]
         again = f"{tempfile.mkdtemp(dir=folder)}/farm.db"
         for end, held in left.items():
-            with open(again + end, "wb") as file:
-                file.write(held)
+            write(again + end, held)
         after = life_of_serving("a start after a cut", folder, again, more_jobs(4))
-        small, large = first_edition(folder)
-        small = life_of_upgrading("an upgrade", folder, small)
-        large = life_of_upgrading("an upgrade of large jobs", folder, large)
-        sums += [tried(life, number // 20, chance, folder) for life in (small, large)]
+        names = ("an upgrade", "an upgrade of large jobs")
+        for name, old in zip(names, first_edition(folder)):
+            sums.append(tried(life_of_upgrading(name, folder, old), number // 20, chance, folder))
         sums.append(tried(after, max(number - sum(sums), 0), chance, folder))
-        print(f"power cuts: {sum(sums)} pairs of files, each the farm after some command")
+        return sum(sums)
 
 
 if __name__ == "__main__":
-    FARM = os.path.realpath(sys.argv[1])
-    TESTS = os.path.dirname(os.path.dirname(os.path.realpath(__file__)))
+    sys.path.append(os.path.join(TESTS, "shared"))
+    from libraries import made
+
+    NUMBERS = [int(word) for word in sys.argv[2:]]
+    NUMBERS += [10000, 20261124][len(NUMBERS) :]
     with tempfile.TemporaryDirectory() as built:
-        RECORDER = f"{built}/record.so"
-        made = subprocess.run(["sh", f"{TESTS}/shared/library.sh", f"{TESTS}/faults/record.c", RECORDER], check=False)
-        if made.returncode == 77 or sqlite3.sqlite_version_info < (3, 37):
-            print("power cuts: not tried, since there is no C compiler, or SQLite is too old")
-            sys.exit(77)
-        if made.returncode:
-            fail("tests/faults/record.c isn't compiled")
-        numbers = [int(word) for word in sys.argv[2:]]
-        main(*numbers, *[10000, 20261124][len(numbers) :])
+        COUNT = main(os.path.realpath(sys.argv[1]), made(f"{TESTS}/faults/record.c", built), NUMBERS[0], NUMBERS[1])
+        print(f"{COUNT} pairs of files, each the farm after some command")

@@ -1,26 +1,18 @@
 #!/bin/sh
-# What `make test` runs: every proof, every wrong body that has a name, every test and program from nothing
-# (rt ci), and then the scripts of tests/ over the program that it built, where the machine has what they want
-# (lanes.sh). It tells what that cost by kind, and the last line counts all: 'N passed, 0 failed'. The further
-# wrong bodies are only read: `make wrong` tries them.
+# What `make test` runs: what it wants is installed (install.sh); then every proof, every wrong body that has a name,
+# every test and program from nothing (rt ci), and the tests of tests/ over the program that it built (scripts.sh).
+# It tells what that cost by kind, and ends with what wasn't tried and 'N passed, M failed, K skipped'. With
+# FARM_STRICT=1 what isn't tried counts as failed. The further wrong bodies are only read: `make wrong` tries them.
 set -u
-cd "$(dirname "$0")/../.."
+cd "$(dirname "$0")/../.." || exit 1
+sh tests/gate/install.sh test
+command -v rt > /dev/null || {
+    echo "make test: there is no rt on PATH: it wants the Rattle toolchain (README.md says which)"
+    exit 1
+}
 folder=$(mktemp -d)
 trap 'rm -r "$folder"' EXIT
-. tests/gate/lanes.sh
-
-# Runs a command and keeps what it cost under a kind; its last line 'N passed, M failed' is added to the sums.
-counting() {
-    {
-        costing "$@"
-        echo $? > "$folder/status"
-    } 2>&1 | tee "$folder/said"
-    counts=$(sed -n 's/^\([0-9]*\) passed, \([0-9]*\) failed$/\1 \2/p' "$folder/said" | tail -n 1)
-    : "${counts:=0 1}"
-    passed=$((passed + ${counts% *}))
-    failed=$((failed + ${counts#* }))
-    return "$(cat "$folder/status")"
-}
+. tests/gate/counting.sh
 
 # One process to a proof, and as many proofs side by side as there are processors, each with room for 7 GB: several
 # processes to one proof take more of the processor in all.
@@ -31,12 +23,13 @@ room=$(awk '/^MemAvailable:/ { print int($2 / 7000000) }' /proc/meminfo)
 
 status=0
 counting proofs env RT_JOBS="${RT_JOBS:-$proofs}" rt ci || status=1
-limited "tests of scripts" python3 tests/gate/waves.py --read || status=1
+costing "tests of scripts" timeout -k 10 1200 python3 tests/gate/waves.py --read || status=1
 if [ "$status" = 0 ]; then
-    farm=crates/farm/out/farm
-    player=crates/farm_play/out/farm_play
-    run_lanes || status=1
+    counting "tests over the program" sh tests/gate/scripts.sh crates/farm/out/farm crates/farm_play/out/farm_play || status=1
+else
+    left_out "the tests of tests/" "no program was proved"
 fi
 python3 tests/gate/costs.py "$folder/costs"
-echo "$passed passed, $failed failed"
+[ "$failed" = 0 ] || status=1
+told
 exit "$status"

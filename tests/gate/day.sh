@@ -3,6 +3,12 @@
 # a build without proofs (rt try), so that a newcomer sees the desk at work within minutes.
 set -eu
 cd "$(dirname "$0")/../../crates/farm_play"
+for program in rt python3; do
+    command -v "$program" > /dev/null || {
+        echo "make run: there is no $program on PATH: it wants the Rattle toolchain (README.md says which), whose rt is in Python"
+        exit 1
+    }
+done
 said=$(mktemp)
 trap 'rm "$said"' EXIT
 echo "The desk is built without its proofs, so nothing is proved by this; its day is shown in a few minutes."

@@ -2,6 +2,7 @@
 """waves.py [CRATE | CRATE/EDIT ..]: tries the wrong bodies crates/NAME/wrong/*.edit, many in one check.
 waves.py --read: only reads them, within a second: each has to be the text of one function, or of a constant under
 a law, and to apply once.
+waves.py --tests [NAME ..]: tries the bodies of tests/edge, which no clause can refuse, by tests (edge.py).
 
 An edit has the form of a must-fail edit of rt ci: a line 'file: src/..', then pairs of lines 'old: TEXT' and
 'new: TEXT', each old text once in the file. All of an edit lies in one function. rt ci checks a crate once for
@@ -28,6 +29,7 @@ import tempfile
 from typing import NamedTuple
 
 sys.dont_write_bytecode = True
+import edge
 from functions import Function, functions_of, modules_of_types, sources_of
 from toolchain import load_rt
 
@@ -286,6 +288,8 @@ def chosen_edits(words):
 
 def main(words):
     os.environ.pop(rt.rtlib.ALLOW_C, None)
+    if words[:1] == ["--tests"]:
+        return edge.main(words[1:])
     reads = words == ["--read"]
     chosen = chosen_edits([] if reads else words)
     crates = [it for it in rt.rtlib.crates_below(os.getcwd())

@@ -10,13 +10,17 @@ transcripts are played by the player that `crates/farm_play` built; each list ha
 byte by byte. Rows are spelled in short, with all that is computed here; what else a row has is in the file
 of the kinds of rows (crates/farm_play/data/rows).
 """
+from __future__ import annotations
+
 import itertools
 import json
 import os
 import random
+import shutil
 import subprocess
 import sys
 import tempfile
+from typing import Any, Callable, Dict, List, Optional, Sequence, Tuple
 
 LISTS, COMMANDS = 200, 60
 ROWS = os.path.join(os.path.dirname(os.path.realpath(__file__)), "../../crates/farm_play/data/rows")
@@ -24,29 +28,37 @@ GOOD, UNKNOWN, BAD, MAINTENANCE = "Good", "Unknown", "Bad", "Maintenance"
 WAITS = ("Submitted", "Scheduling")
 
 
+Want = Tuple[Any, List[str]]  # a type, or None, and tags
+Row = Dict[str, Any]
+Claim = Tuple[int, int, str, str, List[Want]]
+
+
 class Lab:
     """The machine, as plain tables and plain loops."""
 
-    def __init__(self):
-        self.types, self.boards, self.jobs, self.leases = {}, {}, {}, {}
+    def __init__(self) -> None:
+        self.types: Dict[str, Tuple[str, int]] = {}
+        self.boards: Dict[str, Row] = {}
+        self.jobs: Dict[int, Row] = {}
+        self.leases: Dict[int, Row] = {}
         self.clock, self.collector, self.count, self.next = 0, 0, 0, 1
 
     # ---- what a claim may be given
 
-    def serves(self, board):
+    def serves(self, board: Row) -> bool:
         check = self.types[board["type"]]
-        return board["health"] == GOOD or (board["health"] == UNKNOWN and check[0] == "none")
+        return bool(board["health"] == GOOD) or (board["health"] == UNKNOWN and check[0] == "none")
 
-    def is_free(self, board):
+    def is_free(self, board: Row) -> bool:
         return board["holder"] == "none" and self.serves(board)
 
     @staticmethod
-    def fits(board, want):
+    def fits(board: Row, want: Want) -> bool:
         kind, tags = want
         own = board["tags"] + ["name=" + board["name"]]
         return (kind is None or board["type"] == kind) and all(tag in own for tag in tags)
 
-    def least(self, wants, test):
+    def least(self, wants: List[Want], test: Callable[[Row], bool]) -> Optional[Tuple[str, ...]]:
         names = sorted(name for name, board in self.boards.items() if test(board))
         for some in itertools.permutations(names, len(wants)):
             if all(self.fits(self.boards[name], want) for name, want in zip(some, wants)):
@@ -55,11 +67,11 @@ class Lab:
 
     # ---- who waits
 
-    def members(self, group):
+    def members(self, group: int) -> List[Row]:
         return [self.jobs[n] for n in sorted(self.jobs) if self.jobs[n]["group"] == group]
 
-    def claims(self):
-        found = []
+    def claims(self) -> List[Claim]:
+        found: List[Claim] = []
         for number, lease in self.leases.items():
             if lease["state"] == "waiting":
                 found.append((-lease["priority"], number, "reservation", lease["owner"], [(None, lease["tags"])]))
@@ -71,22 +83,22 @@ class Lab:
 
     # ---- boards in hands
 
-    def hold(self, name, holder, state):
+    def hold(self, name: str, holder: str, state: str) -> None:
         self.boards[name]["holder"], self.boards[name]["state"] = holder, state
 
-    def free(self, holder):
+    def free(self, holder: str) -> None:
         for board in self.boards.values():
             if board["holder"] == holder:
                 board["holder"], board["state"] = "none", "Idle"
 
-    def turn(self, holder, state):
+    def turn(self, holder: str, state: str) -> None:
         for board in self.boards.values():
             if board["holder"] == holder:
                 board["state"] = state
 
     # ---- the pass
 
-    def is_due(self, board):
+    def is_due(self, board: Row) -> bool:
         kind, every = self.types[board["type"]]
         if board["holder"] != "none" or kind == "none":
             return False
@@ -95,17 +107,17 @@ class Lab:
         if board["health"] != GOOD:
             return False
         if kind == "hours":
-            return 3600 * every <= self.clock - board["last_check"]
-        return every <= board["jobs_since"]
+            return bool(3600 * every <= self.clock - board["last_check"])
+        return bool(every <= board["jobs_since"])
 
-    def give_back(self):
+    def give_back(self) -> None:
         for job in self.members(self.collector):
             if job["state"] == "Scheduling":
                 job["state"], job["board"] = "Submitted", ""
                 self.free("job %d" % job["number"])
         self.collector = 0
 
-    def collect(self, group):
+    def collect(self, group: int) -> None:
         for job in self.members(group):
             for name in sorted(self.boards):
                 if self.is_free(self.boards[name]) and self.fits(self.boards[name], job["want"]):
@@ -114,11 +126,11 @@ class Lab:
                     break
         self.collector = group
 
-    def taken(self, first):
+    def taken(self, first: int) -> List[Claim]:
         """The claims: that of a group first, if it is one, and then the others in their order."""
         return sorted(self.claims(), key=lambda claim: claim[1] != first or claim[2] != "group")
 
-    def run_pass(self):
+    def run_pass(self) -> Dict[str, int]:
         first, ended = self.collector, 0
         self.give_back()
         for number, lease in self.leases.items():
@@ -158,7 +170,7 @@ class Lab:
 
     # ---- the other commands
 
-    def submit(self, owner, priority, wants, text):
+    def submit(self, owner: str, priority: int, wants: List[Want], text: str) -> int:
         group = self.next
         for at, want in enumerate(wants):
             self.jobs[group + at] = {
@@ -169,7 +181,7 @@ class Lab:
         self.next += len(wants)
         return group
 
-    def reserve(self, owner, priority, tags):
+    def reserve(self, owner: str, priority: int, tags: List[str]) -> int:
         number = self.next
         self.leases[number] = {
             "owner": owner, "priority": priority, "tags": tags, "state": "waiting",
@@ -178,7 +190,7 @@ class Lab:
         self.next += 1
         return number
 
-    def cancel(self, number):
+    def cancel(self, number: int) -> int:
         for job in self.members(self.jobs[number]["group"]):
             if job["state"] in WAITS or job["state"] == "Scheduled":
                 job["state"] = "Finished"
@@ -187,15 +199,15 @@ class Lab:
                 job["state"] = "Canceling"
         if self.collector == self.jobs[number]["group"]:
             self.collector = 0
-        return self.jobs[number]["group"]
+        return int(self.jobs[number]["group"])
 
-    def start(self, number):
+    def start(self, number: int) -> int:
         for job in self.members(self.jobs[number]["group"]):
             job["state"] = "Running"
             self.turn("job %d" % job["number"], "Running")
-        return self.jobs[number]["group"]
+        return int(self.jobs[number]["group"])
 
-    def finish(self, number, outcome):
+    def finish(self, number: int, outcome: str) -> int:
         job = self.jobs[number]
         if job["state"] == "Canceling":
             outcome = "Canceled"
@@ -211,7 +223,7 @@ class Lab:
         self.free("job %d" % number)
         return number
 
-    def grade_check(self, board, outcome):
+    def grade_check(self, board: Row, outcome: str) -> None:
         if outcome == "Complete":
             board["jobs_since"], board["last_check"] = 0, self.clock
         if outcome != "Canceled" and board["health"] in (GOOD, UNKNOWN):
@@ -219,7 +231,7 @@ class Lab:
 
     # ---- what is shown
 
-    def shown(self):
+    def shown(self) -> List[Tuple[str, str]]:
         boards = ",".join(in_short("board", self.boards[name]) for name in sorted(self.boards))
         queue = [
             {"boards": len(wants), "kind": kind, "number": number, "owner": owner, "priority": -priority}
@@ -236,44 +248,44 @@ class Lab:
                 ("/reservations", '{"reservations":[%s]}' % leases), ("/status", spelled(status))] + jobs
 
     @staticmethod
-    def job_shown(job):
+    def job_shown(job: Row) -> str:
         kind, tags = job["want"]
         shown = {key: job[key] for key in ("board", "group", "number", "owner", "priority", "role", "state", "text")}
         shown.update(kind="check" if job["checking"] else "ordinary", result="", tags=tags, type=kind)
         return in_short("job", shown)
 
 
-class List:
+class Commands:
     """A list of commands by chance, as lines of a transcript."""
 
-    def __init__(self, chance, name):
+    def __init__(self, chance: random.Random, name: str):
         self.chance, self.lab = chance, Lab()
         self.lines = ["# A list by chance.", "== " + name]
         self.now = 10
 
-    def ask(self, who, path, body, answer, text=None):
+    def ask(self, who: str, path: str, body: Optional[Row], answer: Row, text: Sequence[str] = ()) -> None:
         self.lab.count += 1
         self.lines.append("> %s POST %s%s" % (who, path, " " + spelled(body) if body else ""))
         if text:
             self.lines += ["| " + line for line in text]
         self.lines.append("< 200 " + spelled(answer))
 
-    def look(self):
+    def look(self) -> None:
         for path, view in self.lab.shown():
             self.lines += ["> - GET " + path, "<= 200 " + view]
 
-    def at(self, seconds):
+    def at(self, seconds: int) -> None:
         self.now += seconds
         self.lab.clock = self.now
         self.lines.append("at %d" % self.now)
 
-    def build(self):
+    def build(self) -> None:
         chance, lab = self.chance, self.lab
         self.at(0)
         for name in ["aaa", "bbb", "ccc", "ddd"][: chance.randint(2, 4)]:
             check = chance.choice([("none", 0), ("none", 0), ("hours", 1), ("jobs", 2)])
             lab.types[name] = check
-            body = {"name": name}
+            body: Row = {"name": name}
             if check[0] != "none":
                 body.update(check=check[0], every=check[1])
             self.ask("admin", "/types", body, {"number": 0})
@@ -289,19 +301,19 @@ class List:
             if chance.random() < 0.8:
                 self.health(name, GOOD)
 
-    def health(self, name, health):
+    def health(self, name: str, health: str) -> None:
         self.lab.boards[name]["health"] = health
         self.ask("admin", "/boards/%s/health" % name, {"health": health}, {"number": 0})
 
     # ---- commands that are accepted as the lab stands
 
-    def submit(self):
+    def submit(self) -> bool:
         lab, chance = self.lab, self.chance
-        wants, text = [], []
+        wants: List[Want] = []
         priority = chance.choice([10, 50, 50, 60, 90])
         count = chance.choice([1, 1, 1, 2, 2, 3])
         for at in range(count):
-            tags = chance.choice([[], [], [], ["hdmi"], ["usb"]])
+            tags: List[str] = chance.choice([[], [], [], ["hdmi"], ["usb"]])
             wants.append((chance.choice(sorted(lab.types)), tags))
         if lab.least(wants, lambda board: True) is None:
             return False
@@ -318,9 +330,9 @@ class List:
         self.ask("ann", "/jobs", None, answer, text)
         return True
 
-    def reserve(self):
+    def reserve(self) -> bool:
         lab, chance = self.lab, self.chance
-        tags = chance.choice([[], [], ["hdmi"], ["name=" + chance.choice(sorted(lab.boards))]])
+        tags: List[str] = chance.choice([[], [], ["hdmi"], ["name=" + chance.choice(sorted(lab.boards))]])
         if lab.least([(None, tags)], lambda board: True) is None:
             return False
         priority = chance.choice([10, 40, 50, 95])
@@ -328,15 +340,15 @@ class List:
         self.ask("bob", "/reservations", {"priority": priority, "tags": tags}, answer)
         return True
 
-    def pass_now(self):
+    def pass_now(self) -> bool:
         self.ask("dispatcher", "/pass", None, self.lab.run_pass())
         self.look()
         return True
 
-    def of_jobs(self, states):
+    def of_jobs(self, states: Sequence[str]) -> List[int]:
         return [n for n, job in self.lab.jobs.items() if job["state"] in states]
 
-    def start(self):
+    def start(self) -> bool:
         numbers = self.of_jobs(["Scheduled"])
         if not numbers:
             return False
@@ -344,7 +356,7 @@ class List:
         self.ask("dispatcher", "/jobs/%d/start" % number, None, {"number": self.lab.start(number)})
         return True
 
-    def finish(self):
+    def finish(self) -> bool:
         numbers = self.of_jobs(["Running", "Canceling"])
         if not numbers:
             return False
@@ -354,7 +366,7 @@ class List:
         self.ask("dispatcher", "/jobs/%d/finish" % number, {"outcome": outcome}, answer)
         return True
 
-    def cancel(self):
+    def cancel(self) -> bool:
         numbers = self.of_jobs([*WAITS, "Scheduled", "Running"])
         if not numbers:
             return False
@@ -362,12 +374,12 @@ class List:
         self.ask("admin", "/jobs/%d/cancel" % number, None, {"number": self.lab.cancel(number)})
         return True
 
-    def of_leases(self, states):
+    def of_leases(self, states: Sequence[str]) -> List[int]:
         lab = self.lab
         return [n for n, lease in lab.leases.items()
                 if lease["state"] in states and (lease["state"] == "acquired" or lab.clock < lease["deadline"])]
 
-    def lease(self):
+    def lease(self) -> bool:
         lab, chance = self.lab, self.chance
         verb = chance.choice(["acquire", "release", "refresh", "cancel"])
         states = {"acquire": ["allocated"], "release": ["acquired"]}.get(verb, ["waiting", "allocated", "acquired"])
@@ -390,12 +402,12 @@ class List:
         self.ask("bob", "/reservations/%d/%s" % (number, verb), None, {"number": number})
         return True
 
-    def change_health(self):
+    def change_health(self) -> bool:
         name = self.chance.choice(sorted(self.lab.boards))
         self.health(name, self.chance.choice([GOOD, GOOD, GOOD, UNKNOWN, BAD, MAINTENANCE]))
         return True
 
-    def made(self):
+    def made(self) -> List[str]:
         self.build()
         commands = [self.submit] * 5 + [self.reserve] * 3 + [self.pass_now] * 4 + [self.start] * 3 \
             + [self.finish] * 4 + [self.cancel] * 2 + [self.lease] * 4 + [self.change_health] * 3
@@ -408,38 +420,39 @@ class List:
         return self.lines
 
 
-def spelled(value):
+def spelled(value: Any) -> str:
     return json.dumps(value, sort_keys=True, separators=(",", ":"))
 
 
-def in_short(kind, row):
+def in_short(kind: str, row: Row) -> str:
     """A row as transcripts spell it in short, each value without its quotes or brackets."""
     values = [(key, value if isinstance(value, int) else spelled(value)[1:-1]) for key, value in row.items()]
     return "(%s; %s)" % (kind, "; ".join("%s=%s" % it for it in values))
 
 
-def main():
-    player = os.path.abspath(sys.argv[1])
-    chance = random.Random(int(sys.argv[2]) if len(sys.argv) > 2 else 22)
+def main(player: str, seed: int) -> str:
+    """Plays all lists. Says what is wrong, or nothing."""
+    chance = random.Random(seed)
     names = ["list_%03d" % at for at in range(LISTS)]
     with tempfile.TemporaryDirectory() as folder:
         for at in range(0, LISTS, 10):
-            lines = []
+            lines: List[str] = []
             for name in names[at:at + 10]:
-                lines += List(chance, name).made() + [""]
-            with open(os.path.join(folder, "lists_%02d" % (at // 10)), "w") as file:
+                lines += Commands(chance, name).made() + [""]
+            with open(os.path.join(folder, "lists_%02d" % (at // 10)), "w", encoding="utf-8") as file:
                 file.write("\n".join(lines) + "\n")
-        said = subprocess.run([player, ROWS] + sorted(os.listdir(folder)), cwd=folder, capture_output=True, text=True)
+        words = [player, ROWS] + sorted(os.listdir(folder))
+        said = subprocess.run(words, cwd=folder, capture_output=True, text=True, check=False)
         told = said.stdout.split("\n")
         wrong = [line for line in told if line and not line.endswith(": ok")]
-        if wrong or [line[:-4] for line in told if line] != names:
-            keep = tempfile.mkdtemp(prefix="generated-")
-            subprocess.run(["cp", "-r", folder, keep])
-            print("generated: not as computed; the transcripts are kept in", keep)
-            print("\n".join(wrong[:10]) or said.stderr[-500:])
-            sys.exit(1)
-    print("generated: %d lists of %d commands, each answer and each farm after a pass as computed plainly"
-          % (LISTS, COMMANDS))
+        if not wrong and [line[:-4] for line in told if line] == names:
+            return ""
+        keep = tempfile.mkdtemp(prefix="generated-")
+        shutil.copytree(folder, os.path.join(keep, "lists"))
+        return f"not as computed; the transcripts are kept in {keep}\n" + ("\n".join(wrong[:10]) or said.stderr[-500:])
 
 
-main()
+if __name__ == "__main__":
+    fault = main(os.path.abspath(sys.argv[1]), int(sys.argv[2]) if len(sys.argv) > 2 else 22)
+    print(fault or f"{LISTS} lists of {COMMANDS} commands, each answer and each farm after a pass as computed plainly")
+    sys.exit(1 if fault else 0)

@@ -1,5 +1,7 @@
 #!/usr/bin/env python3
-"""Sends a serving program requests by chance, most of them malformed: python3 tests/oracle/malformed.py bin/farm [REQUESTS [SEED]]
+"""Sends a serving program requests by chance, most of them malformed.
+
+python3 tests/oracle/malformed.py bin/farm [REQUESTS [SEED]]
 
 Random bytes, requests with some bytes changed, cut, doubled or moved, fields and bodies that are wrong in one
 place or in several, bodies nested deeply, heads that are long or have many fields, two requests in one. What
@@ -9,20 +11,22 @@ may do the command or refuse it for reasons of its own. At the end the farm is w
 answered 200 make of another farm, so what was refused changed nothing; the program has no more open files than
 at the beginning, and its memory is told beside the rows that it holds.
 
-REQUESTS requests, 500,000 where no number is given: about three minutes. `make test` sends 5,000.
+REQUESTS requests, 500,000 where no number is given: about three minutes. test_oracle.py sends 5,000.
 """
+from __future__ import annotations
+
 import errno
 import json
 import os
 import random
 import re
-import shutil
 import socket
 import subprocess
 import sys
 import tempfile
 import time
 import tomllib
+from typing import Any, Callable, Dict, Iterable, Iterator, List, NoReturn, Optional, Tuple, Union
 
 LONGEST_HEAD, LONGEST_BODY, MOST_FIELDS, DEEPEST = 8192, 65536, 64, 127
 TOKEN = re.compile(rb"[!#$%&'*+\-.^_`|~0-9A-Za-z]+")
@@ -52,9 +56,9 @@ REASONS = {
 HEALTHS = {"Good", "Bad", "Unknown", "Maintenance", "Retired"}
 
 
-def fail(what):
-    print(f"malformed: {what}", file=sys.stderr)
-    sys.exit(1)
+Fields = List[Tuple[bytes, bytes]]
+Table = Dict[str, Any]
+Parameter = Optional[Tuple[str, str]]
 
 
 # ---- the rules, read anew
@@ -63,7 +67,7 @@ def fail(what):
 class Refused(Exception):
     """The request is refused with this code; with several, any of them."""
 
-    def __init__(self, *codes):
+    def __init__(self, *codes: int):
         super().__init__()
         self.codes = codes
 
@@ -76,9 +80,11 @@ class Unsure(Exception):
     """A body that python3's reader of TOML 1.0 refuses, and that may be well-formed by TOML 1.1."""
 
 
-def head_of(sent):
+def head_of(sent: bytes) -> Tuple[int, bytes, bytes, Fields]:
     """Where the head ends, its method, target and fields; a head is looked at after each line feed."""
     at, lines = 0, 0
+    method = target = b""
+    fields: Fields = []
     while True:
         end = sent.find(b"\n", at) + 1
         if not end or end > LONGEST_HEAD:
@@ -92,7 +98,7 @@ def head_of(sent):
             found = REQUEST_LINE.fullmatch(line)
             if not found:
                 raise Refused(50)
-            method, target, fields = found[1], found[2], []
+            method, target = found[1], found[2]
         elif line in (b"\n", b"\r\n"):
             return end, method, target, fields
         else:
@@ -104,11 +110,11 @@ def head_of(sent):
         at = end
 
 
-def values(fields, name):
+def values(fields: Fields, name: bytes) -> List[bytes]:
     return [value for key, value in fields if key == name]
 
 
-def body_of(sent, end, fields):
+def body_of(sent: bytes, end: int, fields: Fields) -> bytes:
     """The bytes that the length declares."""
     if values(fields, b"transfer-encoding"):
         raise Refused(54)
@@ -123,7 +129,7 @@ def body_of(sent, end, fields):
     return sent[end : end + length]
 
 
-def depth_of(value):
+def depth_of(value: Any) -> int:
     depth, layer = 0, [value]
     while layer := [it for it in layer if isinstance(it, (dict, list))]:
         depth += 1
@@ -131,10 +137,10 @@ def depth_of(value):
     return depth
 
 
-def texts_of(value):
+def texts_of(value: Any) -> Iterator[str]:
     layer = [value]
     while layer:
-        inner = []
+        inner: List[Any] = []
         for it in layer:
             if isinstance(it, str):
                 yield it
@@ -146,18 +152,19 @@ def texts_of(value):
         layer = inner
 
 
-def object_of(body):
+def object_of(body: bytes) -> Table:
     """The fields of a JSON object."""
-    def no_constant(_):
+
+    def no_constant(_: str) -> NoReturn:
         raise ValueError
 
-    def finite(text):
+    def finite(text: str) -> float:
         value = float(text)
         if value in (float("inf"), float("-inf")):
             raise ValueError
         return value
 
-    def whole(text):
+    def whole(text: str) -> Union[int, float]:
         return int(text) if not text.startswith("-") and int(text) < 2**64 else float(text[:300])
 
     try:
@@ -171,14 +178,14 @@ def object_of(body):
     return found
 
 
-def name_in(value, wrong_kind):
+def name_in(value: Any, wrong_kind: int) -> None:
     if not isinstance(value, str):
         raise Refused(wrong_kind)
     if not NAME.match(value):
         raise Refused(5)
 
 
-def tags_in(value, wrong_kind, is_boards=False):
+def tags_in(value: Any, wrong_kind: int, is_boards: bool = False) -> None:
     if not isinstance(value, list) or not all(isinstance(it, str) for it in value):
         raise Refused(wrong_kind)
     if len(value) > 16:
@@ -188,46 +195,47 @@ def tags_in(value, wrong_kind, is_boards=False):
             raise Refused(6)
 
 
-def is_whole(value):
+def is_whole(value: Any) -> bool:
     return isinstance(value, int) and not isinstance(value, bool)
 
 
-def type_in(fields):
+def type_in(fields: Table) -> None:
     name_in(fields.get("name"), 50)
     check = fields.get("check", "none")
     if check not in ("none", "hours", "jobs") or not isinstance(check, str):
         raise Refused(50)
-    every = fields.get("every")
+    every: Any = fields.get("every")
     if check != "none" and not (is_whole(every) and 1 <= every <= 10000):
         raise Refused(50)
 
 
-def board_in(fields):
+def board_in(fields: Table) -> None:
     name_in(fields.get("name"), 50)
     name_in(fields.get("type"), 50)
     tags_in(fields.get("tags", []), 50, True)
 
 
-def word_in(key, words):
-    def read(fields):
+def word_in(key: str, words: Iterable[str]) -> Callable[[Table], None]:
+    def read(fields: Table) -> None:
         if not isinstance(fields.get(key), str) or fields[key] not in words:
             raise Refused(50)
+
     return read
 
 
-def priority_in(value, wrong_kind):
+def priority_in(value: Any, wrong_kind: int) -> None:
     if isinstance(value, bool) or not isinstance(value, (int, float, str)):
         raise Refused(wrong_kind)
-    if not (is_whole(value) and 0 <= value <= 100) and value not in ("low", "medium", "high"):
+    if not (is_whole(value) and 0 <= int(value) <= 100) and value not in ("low", "medium", "high"):
         raise Refused(23)
 
 
-def reservation_in(fields):
+def reservation_in(fields: Table) -> None:
     tags_in(fields.get("tags"), 50)
     priority_in(fields.get("priority", 50), 50)
 
 
-def job_in(body):
+def job_in(body: bytes) -> None:
     """A job file."""
     try:
         found = tomllib.loads(body.decode())
@@ -235,7 +243,7 @@ def job_in(body):
         raise Refused(70) from None
     except (ValueError, RecursionError):
         # (escapes and line breaks that 1.1 has, and 1.0 hasn't)
-        raise Unsure if re.search(rb"\\[ex]|[{]", body) else Refused(70) from None
+        raise Unsure() if re.search(rb"\\[ex]|[{]", body) else Refused(70) from None
     if not isinstance(found.get("job_name"), str) or not found["job_name"]:
         raise Refused(70)
     priority_in(found.get("priority", 50), 70)
@@ -266,12 +274,12 @@ def job_in(body):
         raise Refused(7)
 
 
-def in_object(read):
+def in_object(read: Callable[[Table], None]) -> Callable[[bytes], None]:
     return lambda body: read(object_of(body))
 
 
 # Each path, `{name}` and `{n}` being parameters: its methods, and how the body of its command is read.
-ROUTES = {
+ROUTES: Dict[str, Tuple[str, Optional[Callable[[bytes], None]]]] = {
     "/types": ("GET, POST", in_object(type_in)),
     "/boards": ("GET, POST", in_object(board_in)),
     "/boards/{name}/tags": ("POST", in_object(lambda fields: tags_in(fields.get("tags"), 50, True))),
@@ -292,7 +300,7 @@ ROUTES = {
 }
 
 
-def route_of(path):
+def route_of(path: str) -> Tuple[str, Parameter]:
     """A path's route and its parameter."""
     parts = path.split("/")
     for route in ROUTES:
@@ -302,25 +310,26 @@ def route_of(path):
     raise Refused(52)
 
 
-def parameter_in(parameter):
+def parameter_in(parameter: Parameter) -> None:
     if parameter and parameter[0] == "{name}" and not NAME.match(parameter[1]):
         raise Refused(5)
     if parameter and parameter[0] == "{n}" and not NUMBER.match(parameter[1]):
         raise Refused(50)
 
 
-def text_of(value):
+def text_of(value: bytes) -> str:
     """A field's text; with a letter that no word has, where it is none."""
     return value.decode("latin-1")
 
 
-def asked(sent):
-    """What bytes ask: ("view", path), or ("call", caller and key)."""
-    end, method, target, fields = head_of(sent)
+def asked(sent: bytes) -> Tuple[str, str]:
+    """What bytes ask: ("view", path), or ("call", caller)."""
+    end, word, target, fields = head_of(sent)
+    path: Optional[str] = None
     try:
         path = target.decode().split("?")[0]
     except UnicodeDecodeError:
-        path = None
+        pass
     try:
         body = body_of(sent, end, fields)
     except Refused as error:
@@ -330,7 +339,7 @@ def asked(sent):
         raise Refused(50)
     route, parameter = route_of(path)
     methods, read = ROUTES[route]
-    method = method.decode()
+    method = word.decode()
     if method not in methods.split(", "):
         raise WrongMethod(methods)
     if method == "GET":
@@ -348,17 +357,17 @@ def asked(sent):
     parameter_in(parameter)
     if read:
         read(body)
-    return "call", (callers[0], keys[0] if keys else None)
+    return "call", text_of(callers[0])
 
 
-def answer(status, body, more=""):
+def answer(status: int, body: str, more: str = "") -> bytes:
     return (
         f"HTTP/1.1 {status} {REASONS[status]}\r\ncontent-type: application/json\r\n"
         f"content-length: {len(body)}\r\nconnection: close\r\n{more}\r\n{body}"
     ).encode()
 
 
-def refusal(code, more=""):
+def refusal(code: int, more: str = "") -> bytes:
     status, text = REFUSALS[code]
     return answer(status, json.dumps({"code": code, "text": text}, separators=(",", ":")), more)
 
@@ -371,19 +380,19 @@ DONE = re.compile(rb'\{"number":[0-9]+\}|\{"checks":[0-9]+,"expired":[0-9]+,"ser
 class Judge:
     """Judges answers, and keeps what was done."""
 
-    def __init__(self):
-        self.sums = {}
-        self.done = []
+    def __init__(self) -> None:
+        self.sums: Dict[Union[int, str], int] = {}
+        self.done: List[bytes] = []
 
-    def sees(self, kind):
+    def sees(self, kind: Union[int, str]) -> None:
         self.sums[kind] = self.sums.get(kind, 0) + 1
 
-    def is_right(self, sent, got):
+    def is_right(self, sent: bytes, got: bytes) -> bool:
         try:
             what, more = asked(sent)
         except WrongMethod as error:
             self.sees(53)
-            return got == refusal(53, f"allow: {error}\r\n")
+            return bool(got == refusal(53, f"allow: {error}\r\n"))
         except Refused as error:
             self.sees(error.codes[0])
             return got in [refusal(code) for code in error.codes]
@@ -409,9 +418,19 @@ class Judge:
 # ---- requests by chance
 
 JOB = 'job_name = "boot"\ndevice_type = "bbb"\npriority = "high"\ntags = ["hdmi"]\n'
-ROLES = 'job_name = "net"\n[roles.a]\ndevice_type = "bbb"\ncount = 1\n[roles.b]\ndevice_type = "bbb"\ncount = 1\ntags = ["hdmi"]\n'
+ROLES = """\
+job_name = "net"
+[roles.a]
+device_type = "bbb"
+count = 1
+[roles.b]
+device_type = "bbb"
+count = 1
+tags = ["hdmi"]
+"""
 # Well-formed requests. Nobody who may calls a pass, so that nothing hangs on the moment at which it is called.
-GOOD = [
+Good = Tuple[str, str, Optional[str], Any]
+GOOD: List[Good] = [
     ("POST", "/types", "admin", {"name": "bbb"}),
     ("POST", "/types", "admin", {"check": "hours", "every": 24, "name": "ccc"}),
     ("POST", "/boards", "admin", {"name": "b1", "tags": ["hdmi", "rack=1"], "type": "bbb"}),
@@ -432,25 +451,35 @@ GOOD = [
     ("GET", "/reservations", None, ""), ("GET", "/status", None, ""), ("GET", "/jobs/1", None, ""),
 ]
 TOKENS = [
-    b"\r\n", b"\n", b"\r", b" ", b"\t", b":", b"/", b"?", b"%2f", b"\0", b"\xff", b"\xc3\xa9", b"GET ", b"POST ", b"HTTP/1.1",
-    b"HTTP/1.0", b"HTTP/2", b"content-length: 5\r\n", b"content-length:\r\n", b"Content-Length: +5\r\n",
-    b"transfer-encoding: chunked\r\n", b"x-user: ann\r\n", b"X-KEY: k\r\n", b"x-key: a b\r\n", b"x-user:\r\n", b"a: b\r\n",
-    b" folded\r\n", b"{", b"}", b"[", b"]", b'"', b"\\", b"\\u0000", b"\\ud800", b"null", b"true", b"1e400", b"-0", b"0",
-    b"00", b"1.5", b"18446744073709551616", b'"name"', b"tags", b"name=x", b"=", b",", b"#", b"'''", b'"""', b"[roles.a]\n",
+    b"\r\n", b"\n", b"\r", b" ", b"\t", b":", b"/", b"?", b"%2f", b"\0", b"\xff", b"\xc3\xa9", b"GET ", b"POST ",
+    b"HTTP/1.1", b"HTTP/1.0", b"HTTP/2", b"content-length: 5\r\n", b"content-length:\r\n", b"Content-Length: +5\r\n",
+    b"transfer-encoding: chunked\r\n", b"x-user: ann\r\n", b"X-KEY: k\r\n", b"x-key: a b\r\n", b"x-user:\r\n",
+    b"a: b\r\n", b" folded\r\n", b"{", b"}", b"[", b"]", b'"', b"\\", b"\\u0000", b"\\ud800", b"null", b"true",
+    b"1e400", b"-0", b"0", b"00", b"1.5", b"18446744073709551616", b'"name"', b"tags", b"name=x", b"=", b",", b"#",
+    b"'''", b'"""', b"[roles.a]\n",
 ]
-VALUES = [None, True, False, 0, -1, 1, 1.5, 100, 101, 10001, 1e30, "", "a b", "x" * 48, "x" * 49, "é", "low", [], ["a"],
-          ["a", "a"], ["name=b1"], ["a="], ["="], [1], ["t%d" % n for n in range(16)], ["t%d" % n for n in range(17)], {}, {"a": 1}]
+VALUES: List[Any] = [
+    None, True, False, 0, -1, 1, 1.5, 100, 101, 10001, 1e30, "", "a b", "x" * 48, "x" * 49, "é", "low", [], ["a"],
+    ["a", "a"], ["name=b1"], ["a="], ["="], [1], ["t%d" % n for n in range(16)], ["t%d" % n for n in range(17)], {},
+    {"a": 1},
+]
 METHODS = ["GET", "POST", "PUT", "DELETE", "HEAD", "get", "PATCH", "OPTIONS", "G\x01T", "", "A" * 40]
-TARGETS = ["/", "//", "/types/", "/nowhere", "*", "http://127.0.0.1/types", "/jobs/01", "/jobs/0", "/jobs/999999999",
-           "/jobs/1000000000", "/jobs/x/start", "/boards/a%20b/tags", "/boards//tags", "/types?x=1", "/Types", "/jobs/1/finish/"]
-FIELDS = ["content-length: 5", "content-length: 65537", "content-length: 99999999999999999999999", "content-length: -1",
-          "content-length: 1 1", "content-length: 0x5", "content-length:", "content-length: 00", "transfer-encoding:",
-          "transfer-encoding: identity", "x-user: bob", "x-user: a b", "x-user:", "x-user: " + "u" * 48, "x-user: " + "u" * 49,
-          "x-key: k1", "x-key: k2", "x-key:", "x-key: k/1", "x-key: " + "k" * 64, "x-key: " + "k" * 65, "expect: 100-continue",
-          "host: a", "host : a", ": a", "a", "a:\x01", "a:\x7f", "é: a", "a: é", "a\tb: c", "connection: keep-alive"]
+TARGETS = [
+    "/", "//", "/types/", "/nowhere", "*", "http://127.0.0.1/types", "/jobs/01", "/jobs/0", "/jobs/999999999",
+    "/jobs/1000000000", "/jobs/x/start", "/boards/a%20b/tags", "/boards//tags", "/types?x=1", "/Types",
+    "/jobs/1/finish/",
+]
+FIELDS = [
+    "content-length: 5", "content-length: 65537", "content-length: 99999999999999999999999", "content-length: -1",
+    "content-length: 1 1", "content-length: 0x5", "content-length:", "content-length: 00", "transfer-encoding:",
+    "transfer-encoding: identity", "x-user: bob", "x-user: a b", "x-user:", "x-user: " + "u" * 48,
+    "x-user: " + "u" * 49, "x-key: k1", "x-key: k2", "x-key:", "x-key: k/1", "x-key: " + "k" * 64,
+    "x-key: " + "k" * 65, "expect: 100-continue", "host: a", "host : a", ": a", "a", "a:\x01", "a:\x7f", "é: a",
+    "a: é", "a\tb: c", "connection: keep-alive",
+]
 
 
-def plain(chance, good):
+def plain(chance: random.Random, good: Good) -> Tuple[str, str, List[str], bytes]:
     """A well-formed request as its parts: method, target, fields and body."""
     method, target, caller, body = good
     fields = [f"x-user: {caller}"] if caller else []
@@ -461,7 +490,9 @@ def plain(chance, good):
     return method, target, fields, body.encode()
 
 
-def spelled(chance, method, target, fields, body, declares=True):
+def spelled(
+    chance: random.Random, method: str, target: str, fields: List[str], body: bytes, declares: bool = True
+) -> bytes:
     lines = [f"{method} {target} HTTP/1.1", *fields]
     if declares and (body or chance.random() < 0.5):
         lines.append(f"content-length: {len(body)}")
@@ -469,7 +500,7 @@ def spelled(chance, method, target, fields, body, declares=True):
     return (end.join(lines) + end + end).encode() + body
 
 
-def changed_bytes(chance, sent):
+def changed_bytes(chance: random.Random, sent: bytes) -> bytes:
     """A request with some bytes changed, cut, doubled or moved, or with other words in it."""
     for _ in range(chance.choice([1, 1, 1, 2, 3, 8])):
         at = chance.randrange(len(sent) + 1)
@@ -491,7 +522,7 @@ def changed_bytes(chance, sent):
     return sent
 
 
-def wrong_parts(chance):
+def wrong_parts(chance: random.Random) -> bytes:
     """A request that is wrong in its method, its target, its fields or its length, or in none."""
     method, target, fields, body = plain(chance, chance.choice(GOOD))
     way = chance.randrange(5)
@@ -508,7 +539,7 @@ def wrong_parts(chance):
     return spelled(chance, method, target, fields, body, chance.random() < 0.8)
 
 
-def wrong_body(chance):
+def wrong_body(chance: random.Random) -> bytes:
     """A command whose body is wrong in a value, in its spelling or in its depth."""
     good = chance.choice([it for it in GOOD if it[3]])
     method, target, caller, body = good
@@ -530,7 +561,8 @@ def wrong_body(chance):
             at = chance.randrange(len(lines))
             value = json.dumps(chance.choice([it for it in VALUES if it is not None and not isinstance(it, dict)]))
             key = lines[at].split(" = ")[0]
-            lines[at] = chance.choice(["", f"{key} = {value}", lines[at] + " #", "[roles]", "roles = {}", f"{key} = {{}}"])
+            others = ["", f"{key} = {value}", lines[at] + " #", "[roles]", "roles = {}", f"{key} = {{}}"]
+            lines[at] = chance.choice(others)
             body = "\n".join(lines)
     body = body.encode()
     if chance.random() < 0.3:
@@ -538,19 +570,21 @@ def wrong_body(chance):
     return spelled(chance, method, target, [f"x-user: {caller}"], body)
 
 
-def large(chance):
+def large(chance: random.Random) -> bytes:
     """A head about as long as one may be, or with about as many fields, or a body about as large."""
     way = chance.randrange(3)
     if way == 0:
         count = chance.randrange(8100, 8300)
-        return b"GET /types HTTP/1.1\r\na: " + b"z" * (count - 27) + chance.choice([b"\r\n\r\n", b"", b"\r\n", b"\x01\r\n\r\n"])
+        end = chance.choice([b"\r\n\r\n", b"", b"\r\n", b"\x01\r\n\r\n"])
+        return b"GET /types HTTP/1.1\r\na: " + b"z" * (count - 27) + end
     if way == 1:
         return b"GET /types HTTP/1.1\r\n" + b"a: b\r\n" * chance.randrange(60, 70) + b"\r\n"
     count = chance.choice([60000, 65535, 65536, 65537])
-    return f"POST /pass HTTP/1.1\r\nx-user: ann\r\ncontent-length: {count}\r\n\r\n".encode() + b"z" * (count - chance.choice([0, 0, 1]))
+    head = f"POST /pass HTTP/1.1\r\nx-user: ann\r\ncontent-length: {count}\r\n\r\n".encode()
+    return head + b"z" * (count - chance.choice([0, 0, 1]))
 
 
-def some_request(chance):
+def some_request(chance: random.Random) -> bytes:
     way = chance.random()
     if way < 0.08:
         return bytes(chance.randrange(256) for _ in range(chance.randrange(120)))
@@ -576,25 +610,24 @@ def some_request(chance):
 class Server:
     """A program that serves a farm in a new file: a type, two boards, a job and a reservation."""
 
-    def __init__(self, folder):
+    def __init__(self, farm: str, folder: str):
         self.db = f"{tempfile.mkdtemp(dir=folder)}/farm.db"
-        subprocess.run([FARM, "init", "--db", self.db], check=True, stdout=subprocess.DEVNULL)
+        subprocess.run([farm, "init", "--db", self.db], check=True, stdout=subprocess.DEVNULL)
         with socket.socket() as taken:
             taken.bind(("127.0.0.1", 0))
             self.port = taken.getsockname()[1]
-        words = [FARM, "serve", "--db", self.db, "--port", str(self.port), "--max", "1000000000"]
+        words = [farm, "serve", "--db", self.db, "--port", str(self.port), "--max", "1000000000"]
         self.process = subprocess.Popen(words, stdout=subprocess.PIPE, stderr=subprocess.PIPE)
-        if self.process.stdout.readline() != f"listening {self.port}\n".encode():
-            fail("serve doesn't listen")
+        assert self.process.stdout is not None
+        assert self.process.stdout.readline() == f"listening {self.port}\n".encode()
         chance = random.Random(0)
         for place in (0, 2, 4, 5, 10):
             method, target, caller, body = GOOD[place]
             body = body if isinstance(body, str) else json.dumps(body)
             got = self.ask(spelled(chance, method, target, [f"x-user: {caller}"], body.encode()))
-            if not got.startswith(b"HTTP/1.1 200 "):
-                fail(f"{target} was answered {got}")
+            assert got and got.startswith(b"HTTP/1.1 200 "), f"{target} was answered {got!r}"
 
-    def ask(self, sent):
+    def ask(self, sent: bytes) -> Optional[bytes]:
         """All that is answered to bytes and the end of them; None where the connection was reset."""
         with socket.create_connection(("127.0.0.1", self.port), timeout=20) as stream:
             got = b""
@@ -608,7 +641,7 @@ class Server:
             return got
 
     @staticmethod
-    def end_of(stream):
+    def end_of(stream: socket.socket) -> None:
         """Says that no more is sent. A server that has answered and closed meanwhile needs no word of
         it: what it wrote is read all the same."""
         try:
@@ -617,10 +650,11 @@ class Server:
             if fault.errno != errno.ENOTCONN:
                 raise
 
-    def view(self, path):
-        return json.loads(self.ask(f"GET {path} HTTP/1.1\r\n\r\n".encode()).partition(b"\r\n\r\n")[2])
+    def view(self, path: str) -> Any:
+        answer = self.ask(f"GET {path} HTTP/1.1\r\n\r\n".encode()) or b""
+        return json.loads(answer.partition(b"\r\n\r\n")[2])
 
-    def shown(self):
+    def shown(self) -> Tuple[List[Any], List[Any]]:
         """All that the views show, without moments."""
         views = [self.view(path) for path in ("/types", "/boards", "/queue", "/reservations", "/status")]
         for row in views[3]["reservations"]:
@@ -629,27 +663,28 @@ class Server:
         jobs = [self.view(f"/jobs/{number}") for number in range(1, min(views[4]["next"], 300))]
         return views, jobs
 
-    def files(self):
+    def files(self) -> int:
         """How many files it has open, once it waits for the next client."""
         time.sleep(0.5)
         return len(os.listdir(f"/proc/{self.process.pid}/fd"))
 
-    def memory(self):
+    def memory(self) -> int:
         """How many KiB of memory it has."""
-        status = open(f"/proc/{self.process.pid}/status").read()
-        return int(re.search(r"VmRSS:\s+([0-9]+) kB", status)[1])
+        with open(f"/proc/{self.process.pid}/status", encoding="ascii") as status:
+            return int(re.findall(r"VmRSS:\s+([0-9]+) kB", status.read())[0])
 
 
-def keep(sent):
-    folder = tempfile.mkdtemp(prefix="malformed-")
-    open(f"{folder}/request", "wb").write(sent)
-    return f"{folder}/request"
+def keep(sent: bytes) -> str:
+    file = os.path.join(tempfile.mkdtemp(prefix="malformed-"), "request")
+    with open(file, "wb") as kept:
+        kept.write(sent)
+    return file
 
 
-def main(number, seed):
+def main(farm: str, number: int, seed: int, folder: str) -> str:
+    """Sends so many requests to a farm in a folder. Says what came of it."""
     chance = random.Random(seed)
-    folder = tempfile.mkdtemp()
-    served = Server(folder)
+    served = Server(farm, folder)
     judge = Judge()
     files, memory, lost = served.files(), served.memory(), 0
     for at in range(number):
@@ -661,26 +696,28 @@ def main(number, seed):
             # (a client that sends more than is asked for may meet the reset of its connection)
             lost += 1
         elif got is None or not judge.is_right(sent, got):
-            fail(f"a request, kept in {keep(sent)}, was answered {got}: {sent[:300]}")
-    if served.files() != files:
-        fail(f"it had {files} open files, and has {served.files()}")
+            raise AssertionError(f"a request, kept in {keep(sent)}, was answered {got!r}: {sent[:300]!r}")
+    assert served.files() == files, "open files"
     grown = served.memory() - memory
-    again = Server(folder)
+    again = Server(farm, folder)
     for sent in judge.done:
-        if not again.ask(sent).startswith(b"HTTP/1.1 200 "):
-            fail(f"a command that was done isn't done on another farm: {sent[:300]}")
-    if served.shown() != again.shown():
-        fail("the farm isn't that of the commands that were done")
+        got = again.ask(sent)
+        assert got and got.startswith(b"HTTP/1.1 200 "), f"it isn't done on another farm: {sent[:300]!r}"
+    assert served.shown() == again.shown(), "the farm isn't that of the commands that were done"
     status = served.view("/status")
     for it in (served, again):
         it.process.kill()
         it.process.communicate()
-    shutil.rmtree(folder)
     sums = ", ".join(f"{kind} {count}" for kind, count in sorted(judge.sums.items(), key=str))
-    print(f"malformed: {number} requests, {lost} of them reset: {sums}; {files} open files before and after")
-    print(f"malformed: the farm is that of the {len(judge.done)} answers 200: {status}; memory grew by {grown} KiB to {memory + grown}")
+    return (
+        f"{number} requests, {lost} of them reset: {sums}; {files} open files before and after\n"
+        f"the farm is that of the {len(judge.done)} answers 200: {status}; "
+        f"memory grew by {grown} KiB to {memory + grown}"
+    )
 
 
 if __name__ == "__main__":
-    FARM = os.path.realpath(sys.argv[1])
-    main(int(sys.argv[2]) if len(sys.argv) > 2 else 500000, int(sys.argv[3]) if len(sys.argv) > 3 else 20261124)
+    NUMBERS = [int(it) for it in sys.argv[2:]]
+    NUMBERS += [500000, 20261124][len(NUMBERS) :]
+    with tempfile.TemporaryDirectory() as room:
+        print(main(os.path.realpath(sys.argv[1]), NUMBERS[0], NUMBERS[1], room))

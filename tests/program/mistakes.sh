@@ -184,7 +184,7 @@ if as_nobody "$farm" once --memory --at 1 < /dev/null 2> /dev/null | grep -q '^H
     chmod -R u+w copy
     [ "$(shows copy/lab.db)" = "$job" ] || fail "$what: once it may be written it shows $(shows copy/lab.db)"
 else
-    echo "mistakes: a copy that may only be read wasn't tried, since nobody else may run the program"
+    left_out 'a copy that may only be read' 'nobody else may run the program'
 fi
 
 what='the unit for systemd'
@@ -219,6 +219,6 @@ assert sqlite3.sqlite_version_info >= (3, 37)' 2> /dev/null; then
     refuses "$bad_store" changed.db import once report serve
     refuses "$store_fault" changed.db init
 else
-    echo "mistakes: other databases weren't tried, since neither sqlite3 nor python3's module of that name is there"
+    left_out 'other databases' "there is no sqlite3, nor python3's module of that name"
 fi
-echo "mistakes: lost, cut and half restored files, mistyped paths, a second init, a second program"
+shown 'lost, cut and half restored files, mistyped paths, a second init, a second program'

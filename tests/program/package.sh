@@ -2,19 +2,17 @@
 # Builds the Debian packages of a built program and looks into them: sh tests/program/package.sh bin/farm
 # What each has and does at its installation, that its tools say their help, each file's sum, each man page of
 # docs/, each document that is named, and what lintian says where that is there.
-# Ends with status 77 where they can't be built. packaging/try.sh installs them in a clean Debian.
+# packaging/try.sh installs them in a clean Debian.
 set -eu
-program=$(realpath "$1")
+. "$(dirname "$0")/../shared/folder.sh"
 cd "$(dirname "$0")/../.."
-folder=$(mktemp -d)
-trap 'rm -r "$folder"' EXIT
-fail() {
-    echo "package: $*"
-    exit 1
-}
-status=0
-built=$(sh packaging/build.sh "$program" "$folder") || status=$?
-[ "$status" = 0 ] || { echo "$built"; exit "$status"; }
+if ! built=$(sh packaging/build.sh "$farm" "$folder"); then
+    case $built in
+        'package: not built, since '*) left_out 'the packages' "${built#*since }" ;;
+        *) fail "they aren't built: $built" ;;
+    esac
+    exit 0
+fi
 tree=$folder/tree
 for deb in $built; do
     dpkg-deb -x "$deb" "$tree"
@@ -61,6 +59,8 @@ said=$(PYTHONPATH=$modules /usr/bin/python3 -c 'import importlib.metadata as it;
 if /usr/bin/python3 -c 'import pytest' 2> /dev/null; then
     (cd "$folder" && PYTHONPATH=$modules /usr/bin/python3 -m pytest --help) > "$folder/help"
     grep -q '^  --farm=TAGS' "$folder/help" || fail "pytest doesn't find the plugin"
+else
+    left_out 'the plugin of pytest' 'there is no python3-pytest'
 fi
 for name in gitlab-ci.yml Jenkinsfile with-board.sh; do
     cmp -s "examples/$name" "$tree/usr/share/doc/fizgruk-desk/examples/$name" || fail "there is no example $name"
@@ -100,6 +100,8 @@ if command -v systemd-analyze > /dev/null; then
     done
     systemd-analyze --man=no verify "$folder"/*.service "$folder"/*.timer > "$folder/said" 2>&1 || :
     ! grep "$folder.*\(service\|timer\):" "$folder/said" || fail "its units"
+else
+    left_out 'its units' 'there is no systemd-analyze'
 fi
 
 # ---- programs and documents
@@ -131,5 +133,7 @@ done
 if command -v lintian > /dev/null; then
     # shellcheck disable=SC2086
     lintian --allow-root --fail-on error,warning $built > "$folder/said" 2>&1 || fail "lintian says $(cat "$folder/said")"
+else
+    left_out 'what lintian says' 'there is no lintian'
 fi
-echo "package: client, server and Python package apart, units that an admin may disable, the tools, man pages and each document that is named"
+shown "client, server and Python package apart, units that an admin may disable, the tools, man pages and each document that is named"

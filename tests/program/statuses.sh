@@ -338,6 +338,38 @@ assert sqlite3.sqlite_version_info >= (3, 37)' 2> /dev/null; then
     "$farm" once --db checked.db --at 1700000000 < input > output || fail "a job's view ended with status $?"
     grep -qF '"tags":[],"text":"\"é\\\n\u0001","type":"bbb"}' output || fail "a job's view is '$(cat output)'"
 else
-    echo "statuses: damaged files weren't tried, since neither sqlite3 nor python3's module of that name is there"
+    left_out 'damaged files' "there is no sqlite3, nor python3's module of that name"
 fi
-echo "statuses: each exit status and each line of a fault, but want of memory"
+
+# init_without_locks: where nothing can be locked, as over some networks, init takes away what it made.
+cat > unlocked.c <<'END'
+#define _GNU_SOURCE
+#include <dlfcn.h>
+#include <errno.h>
+#include <fcntl.h>
+#include <stdarg.h>
+
+int fcntl(int file, int command, ...)
+{
+    va_list given;
+    va_start(given, command);
+    void *value = va_arg(given, void *);
+    va_end(given);
+    if (command == F_SETLK || command == F_SETLKW || command == F_OFD_SETLK || command == F_OFD_SETLKW) {
+        errno = ENOLCK;
+        return -1;
+    }
+    return ((int (*)(int, int, ...))dlsym(RTLD_NEXT, "fcntl"))(file, command, value);
+}
+
+int fcntl64(int, int, ...) __attribute__((alias("fcntl")));
+END
+if cc -shared -fPIC -o unlocked.so unlocked.c -ldl 2> errors; then
+    status=0
+    LD_PRELOAD=./unlocked.so "$farm" init --db unlocked.db > output 2> errors || status=$?
+    [ "$status" = 4 ] && [ "$(cat errors)" = 'farm: 60 store fault' ] || fail "init without locks ended with status $status"
+    [ ! -e unlocked.db ] && [ ! -e unlocked.db-wal ] || fail 'init without locks left a file'
+else
+    left_out 'init where nothing can be locked' 'cc makes no library'
+fi
+shown 'each exit status and each line of a fault, but want of memory'

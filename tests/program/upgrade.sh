@@ -278,7 +278,7 @@ END
     sqlite3 lab.db < ../rows > ../output
     diff ../wanted ../output || fail "the rows are others"
 else
-    echo "upgrade: damaged files and rows weren't tried, since there is no sqlite3"
+    left_out 'damaged files and rows' 'there is no sqlite3'
 fi
 
 # ---- a farm that is served
@@ -302,6 +302,6 @@ if command -v curl > /dev/null; then
     server=
     looks /jobs/14 '"state":"Running"'
 else
-    echo "upgrade: a served farm wasn't tried, since there is no curl"
+    left_out 'a served farm' 'there is no curl'
 fi
-echo "upgrade: a farm of the first edition is told of, made this edition's once, and goes on as it was"
+shown "a farm of the first edition is told of, made this edition's once, and goes on as it was"

@@ -1,89 +1,108 @@
-"""What the tests of the client share: its calls, and farms of a row's own."""
+"""What the tests of the client share: its calls, and what they give it."""
+from __future__ import annotations
+
+import fcntl
 import functools
 import json
 import os
+import pty
 import select
+import struct
 import subprocess
 import sys
 import tempfile
-import threading
+import termios
+from typing import Dict, List, Sequence, Tuple, Union
 
-from served import STARTED, TOOLS, Farm, Tool, demand, environment, read
+from served import LASTING, STARTED, TOOLS, Board, Farm, Tool, environment, read, wait_until
 
 SHARED = os.path.dirname(os.path.abspath(__file__))
 DESK = os.path.join(TOOLS, "desk")
-BOARDS = [("b1", "bbb", ["hdmi", "serial"]), ("b2", "bbb", ["serial"]), ("c1", "ccc", [])]
+BOARDS: List[Board] = [("b1", "bbb", ["hdmi", "serial"]), ("b2", "bbb", ["serial"]), ("c1", "ccc", [])]
 JOB = "job_name = 'one'\ndevice_type = 'bbb'\n"
 GROUP = "job_name = 'two'\n[roles.a]\ndevice_type = 'bbb'\ncount = 2\n"
+LIMIT = 120  # seconds in which a call ends on a busy machine
+Ran = Tuple[int, str, str]  # status, output and errors
 
 
 class Starter:
     """A process that runs calls of the client in copies of itself (starter.py)."""
 
-    def __init__(self):
-        words = [os.path.join(SHARED, "starter.py"), DESK, "farm_tools.client"]
+    def __init__(self) -> None:
+        words = [sys.executable, os.path.join(SHARED, "starter.py"), DESK, "farm_tools.client"]
         self.process = subprocess.Popen(
-            [sys.executable, *words], stdin=subprocess.PIPE, stdout=subprocess.PIPE, text=True,
-            env=environment(),
+            words, stdin=subprocess.PIPE, stdout=subprocess.PIPE, text=True, env=environment()
         )
-        STARTED.append(self.process)
-        self.lock = threading.Lock()
+        LASTING.append(self.process)
 
-    def call(self, words, surroundings, given):
-        """The exit status, output and errors of a call."""
-        with self.lock, tempfile.TemporaryDirectory() as folder:
+    def call(self, words: Sequence[str], surroundings: Dict[str, str], given: str) -> Ran:
+        """What comes of a call."""
+        assert self.process.stdin and self.process.stdout
+        with tempfile.TemporaryDirectory() as folder:
             files = [write(folder, name, text) for name, text in (("in", given), ("out", ""), ("err", ""))]
             self.process.stdin.write(f"{json.dumps([words, surroundings, files])}\n")
             self.process.stdin.flush()
-            if not select.select([self.process.stdout], [], [], 60)[0]:
-                demand(f"desk {' '.join(words)}", "its end within 60 s", "none")
+            ended = select.select([self.process.stdout], [], [], LIMIT)[0]
+            assert ended, f"desk {' '.join(words)}: not within {LIMIT} s"
             status = int(self.process.stdout.readline())
             return status, read(files[1]), read(files[2])
 
 
 @functools.lru_cache(None)
-def starter():
+def starter() -> Starter:
     return Starter()
 
 
-def desk(farm, *words, given="", user="ann", **more):
-    """What the client comes to: its status, output and errors."""
-    surroundings = environment(DESK_SERVER=farm.server, DESK_USER=user, **more)
-    # (what Python itself reads of the environment wants a start)
-    if all(name.startswith("DESK_") for name in more):
-        return starter().call(words, surroundings, given)
-    ran = subprocess.run(
-        [sys.executable, DESK, *words],
-        input=given,
-        capture_output=True,
-        text=True,
-        timeout=60,
-        check=False,
-        env=surroundings,
-    )
-    return ran.returncode, ran.stdout, ran.stderr
+def around(farm: Union[Farm, str], user: str = "ann", **more: str) -> Dict[str, str]:
+    """The environment of a user of a farm, or of a server at an address. (What Python reads of it is left out.)"""
+    server = farm if isinstance(farm, str) else farm.server
+    found = environment(DESK_SERVER=server, DESK_USER=user, **more)
+    return {name: text for name, text in found.items() if name != "PYTHONUNBUFFERED"}
 
 
-def prints(farm, wanted, *words, **more):
-    demand(f"desk {' '.join(words)}", (0, wanted, ""), desk(farm, *words, **more))
+def desk(farm: Union[Farm, str], *words: str, given: str = "", user: str = "ann", **more: str) -> Ran:
+    """What the client comes to."""
+    return starter().call(words, around(farm, user, **more), given)
 
 
-def passes(farm):
+def prints(farm: Farm, wanted: str, *words: str, given: str = "", **more: str) -> None:
+    """Demands that the client prints this, and tells nothing."""
+    assert desk(farm, *words, given=given, **more) == (0, wanted, ""), f"desk {' '.join(words)}"
+
+
+def passes(farm: Farm) -> None:
     farm.tell("dispatcher", "/pass")
 
 
-def waiting_tool(farm, folder, *words, **more):
+def waiting_tool(farm: Farm, folder: str, *words: str, **more: str) -> Tool:
     """A client that goes on."""
-    return Tool(
-        ["desk", *words],
-        tempfile.mkdtemp(dir=folder),
-        DESK_SERVER=farm.server,
-        DESK_USER="ann",
-        **more,
+    return Tool(["desk", *words], tempfile.mkdtemp(dir=folder), **around(farm, **more))
+
+
+def number_of(tool: Tool) -> int:
+    """The number that a client prints at first."""
+    return int(wait_until("its number", tool.output).split()[0])
+
+
+def waits(tool: Tool) -> None:
+    """Waits until a client tells that it waits in the queue."""
+    wait_until("it waits", lambda: "in the queue" in tool.errors())
+
+
+def at_a_terminal(farm: Farm, *words: str, width: int = 0) -> Tuple["subprocess.Popen[bytes]", int]:
+    """A client at a terminal of its own: its process, and the terminal's other end."""
+    ours, its = pty.openpty()
+    fcntl.ioctl(its, termios.TIOCSWINSZ, struct.pack("HHHH", 24, width, 0, 0))
+    process = subprocess.Popen(
+        [sys.executable, DESK, *words], stdin=its, stdout=its, stderr=its, env=around(farm), start_new_session=True,
+        preexec_fn=lambda: fcntl.ioctl(0, termios.TIOCSCTTY, 0),
     )
+    STARTED.append(process)
+    os.close(its)
+    return process, ours
 
 
-def write(folder, name, text, mode=0o644):
+def write(folder: str, name: str, text: str, mode: int = 0o644) -> str:
     file = os.path.join(folder, name)
     with open(file, "w", encoding="utf-8") as opened:
         opened.write(text)
@@ -91,19 +110,10 @@ def write(folder, name, text, mode=0o644):
     return file
 
 
-def farm_of_its_own(farm, folder, boards=()):
-    """A farm that a row has for itself, of the same program."""
-    return Farm(farm.program, tempfile.mkdtemp(dir=folder), list(boards))
-
-
-def tell_at(farm, moment, user, path, body=b""):
+def tell_at(farm: Farm, moment: float, user: str, path: str, body: bytes = b"") -> None:
     """Gives a farm a command at a moment while it isn't served, and serves it again."""
     farm.kill()
     head = f"POST {path} HTTP/1.1\r\nx-user: {user}\r\ncontent-length: {len(body)}\r\n\r\n"
-    subprocess.run(
-        [farm.program, "once", "--db", farm.db, "--at", str(int(moment))],
-        input=head.encode() + body,
-        check=True,
-        capture_output=True,
-    )
+    words = [farm.program, "once", "--db", farm.db, "--at", str(int(moment))]
+    subprocess.run(words, input=head.encode() + body, check=True, capture_output=True)
     farm.start()

@@ -1,15 +1,36 @@
+#!/bin/sh
 # What scripts over the program share; the first word is the program's path.
 # `farm` is that path and `folder` a new folder, which is taken away at the end, as the process `server` is, where
-# there is one. `fail` says what went wrong, behind the script's name, and ends it.
+# there is one. `shown` says what a part of the script has shown, `left_out` what isn't tried and why, and `fail` what
+# went wrong, and ends it. The last lines are 'not tried: NAME (why), ..', if anything was left out, and
+# 'N passed, M failed, K skipped'. With FARM_STRICT=1 what is left out makes it end with 1.
 farm=$(realpath "$1")
 folder=$(mktemp -d)
 server=
+passed=0 failed=0 skipped=0
+left=
 finish() {
+    [ $? = 0 ] || failed=1
     [ -z "$server" ] || kill "$server" 2> /dev/null || :
     chmod -R u+w "$folder"
     rm -r "$folder"
+    [ -z "$left" ] || echo "not tried: $left"
+    echo "$passed passed, $failed failed, $skipped skipped"
+    [ "$failed" = 0 ] || exit 1
+    [ "${FARM_STRICT-}" != 1 ] || [ "$skipped" = 0 ] || exit 1
 }
 trap finish EXIT
+
+shown() {
+    passed=$((passed + 1))
+    echo "$(basename "$0" .sh): $*"
+}
+
+# Leaves out a part: NAME WHY
+left_out() {
+    skipped=$((skipped + 1))
+    left="$left${left:+, }$1 ($2)"
+}
 
 fail() {
     echo "$(basename "$0" .sh): $*"

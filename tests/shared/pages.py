@@ -1,23 +1,28 @@
 """What the tests of the status page share: a door that stands in the proxy's place, a farm behind
 it, what a page shows, and how it is worked with."""
+from __future__ import annotations
+
 import http.client
 import http.server
 import json
 import os
 import re
-import shutil
 import subprocess
-import sys
-import tempfile
 import threading
 import time
 import urllib.parse
+from typing import Any, Callable, Dict, List, Optional, Sequence, Tuple
 
-from browser import CHROMIUM, Browser
-from served import TOOLS, Farm, demand, free_port, wait_until
+from browser import Browser, Page
+from served import TOOLS, Board, Farm, wait_until
 
-BOARDS = [("b1", "bbb", ["hdmi", "serial"]), ("b2", "bbb", ["serial"]), ("c1", "ccc", [])]
+BOARDS: List[Board] = [("b1", "bbb", ["hdmi", "serial"]), ("b2", "bbb", ["serial"]), ("c1", "ccc", [])]
+HOUR = 3600
 PHONE = 390
+PAGE = os.path.join(TOOLS, "page", "farm.html")
+# Lets a page look every half second instead of every five.
+HURRY = """(real => window.setTimeout = (call, wait, ...more) =>
+  real(call, wait === 5000 ? 500 : wait, ...more))(window.setTimeout);"""
 # What a page shows: the cells of each table's rows, how many there are, and what it says. What an
 # earlier page said is found where this one says it.
 SHOWN = """(() => {
@@ -33,7 +38,7 @@ SHOWN = """(() => {
   found.news = document.querySelector(".news").textContent.replace(/^.*?M: /, "");
   found.who = text("who");
   found.quiet = document.querySelector("footer").textContent;
-  for (const name of ["boards", "queue", "reservations", "ended"]) {
+  for (const name of ["boards", "queue", "reservations", "ended", "board-history"]) {
     found[name] = [...document.querySelectorAll(`#${name} tbody tr:not(.group)`)].map(
       row => [...row.cells].map(words));
     found.counts[name] = text(name + "-count");
@@ -44,6 +49,7 @@ SHOWN = """(() => {
       || part.textContent).filter(text => text));
   return found;
 })()"""
+Shown = Dict[str, Any]
 
 
 class Door(http.server.BaseHTTPRequestHandler):
@@ -52,13 +58,20 @@ class Door(http.server.BaseHTTPRequestHandler):
 
     protocol_version = "HTTP/1.1"
 
-    def do_GET(self):
-        lab, path = self.server.lab, urllib.parse.urlsplit(self.path).path
+    @property
+    def lab(self) -> "Lab":
+        assert isinstance(self.server, Server)
+        return self.server.lab
+
+    def do_GET(self) -> None:
+        lab, path = self.lab, urllib.parse.urlsplit(self.path).path
         if path == "/":
-            self.answer(200, "text/html; charset=utf-8", page().encode())
+            with open(PAGE, "rb") as text:
+                self.answer(200, "text/html; charset=utf-8", text.read())
             return
-        lab.asked.append(path)
+        lab.asked.append((path, time.monotonic()))
         lab.may_answer.wait()
+        time.sleep(lab.delays.get(path, 0))
         if path in lab.files:
             self.give_file(lab.files[path])
         elif path == "/whoami" and lab.user:
@@ -68,28 +81,31 @@ class Door(http.server.BaseHTTPRequestHandler):
         else:
             self.hand_on("GET", path)
 
-    def do_POST(self):
-        lab, body = self.server.lab, self.rfile.read(int(self.headers["content-length"] or 0))
+    def do_POST(self) -> None:
+        lab, body = self.lab, self.rfile.read(int(self.headers["content-length"] or 0))
         lab.given.append((self.path, self.headers["x-key"], body.decode()))
         fields = {"x-user": lab.user, "x-key": self.headers["x-key"]}
-        self.hand_on("POST", self.path, body, {it: fields[it] for it in fields if fields[it]})
+        self.hand_on("POST", self.path, body, {name: text for name, text in fields.items() if text})
 
-    def hand_on(self, method, path, body=None, fields=None):
-        lab = self.server.lab
+    def hand_on(
+        self, method: str, path: str, body: Optional[bytes] = None, fields: Optional[Dict[str, str]] = None
+    ) -> None:
+        lab = self.lab
         try:
-            line = http.client.HTTPConnection("127.0.0.1", lab.farm.port, timeout=30)
+            line = http.client.HTTPConnection("127.0.0.1", lab.farm.port, timeout=60)
             line.request(method, path, body=body, headers=fields or {})
             answer = line.getresponse()
             status, said = answer.status, answer.read()
         except OSError:
             status, said = 502, b"Bad Gateway"
-        if method == "POST" and lab.lost:
-            lab.lost -= 1
-            self.close_connection = True
-            return
+        if method == "POST" and lab.troubles:
+            status = lab.troubles.pop(0)
+            if not status:
+                self.close_connection = True
+                return
         self.answer(status, "text/html" if status == 502 else "application/json", said)
 
-    def give_file(self, body):
+    def give_file(self, body: bytes) -> None:
         """A file, or its end where that is asked for."""
         asked = re.fullmatch(r"bytes=-(\d+)", self.headers["range"] or "")
         if not asked or not body:
@@ -98,7 +114,7 @@ class Door(http.server.BaseHTTPRequestHandler):
         begin = max(0, len(body) - int(asked.group(1)))
         self.answer(206, "text/plain", body[begin:], f"bytes {begin}-{len(body) - 1}/{len(body)}")
 
-    def answer(self, status, kind, body, content_range=None):
+    def answer(self, status: int, kind: str, body: bytes, content_range: str = "") -> None:
         self.send_response(status)
         self.send_header("content-type", kind)
         self.send_header("content-length", str(len(body)))
@@ -107,100 +123,127 @@ class Door(http.server.BaseHTTPRequestHandler):
         self.end_headers()
         self.wfile.write(body)
 
-    def log_message(self, *_):
+    def date_time_string(self, timestamp: Optional[int] = None) -> str:
+        return super().date_time_string(self.lab.date if timestamp is None else timestamp)
+
+    def log_message(self, format: str, *args: Any) -> None:  # pylint: disable=redefined-builtin
         pass
 
 
-def page():
-    with open(os.path.join(TOOLS, "page", "farm.html"), encoding="utf-8") as text:
-        return text.read()
+class Server(http.server.ThreadingHTTPServer):
+    def __init__(self, lab: "Lab"):
+        self.lab = lab
+        super().__init__(("127.0.0.1", 0), Door)
+        threading.Thread(target=self.serve_forever, args=(0.05,), daemon=True).start()
 
 
 class Lab:
     """A served farm, and a door to it that gives the page too."""
 
-    def __init__(self, program, folder, browser, boards, user=None):
-        self.browser, self.user = browser, user
-        self.farm = Farm(program, tempfile.mkdtemp(dir=folder), boards)
-        # paths that were asked for; commands that were given: path, key, body; files beside the
-        # page, by path; how many of the next answers to commands are lost on their way
-        self.asked, self.given, self.files, self.lost = [], [], {}, 0
+    def __init__(self, browser: Browser, farm: Farm, user: Optional[str] = None):
+        self.farm, self.user = farm, user
+        # paths that were asked for, each with when; commands that were given: path, key, body
+        self.asked: List[Tuple[str, float]] = []
+        self.given: List[Tuple[str, Optional[str], str]] = []
+        # files beside the page, by path; what becomes of the next answers to commands: each a status
+        # that comes in their place, or 0 where they are lost
+        self.files: Dict[str, bytes] = {}
+        self.troubles: List[int] = []
+        # how many seconds the answers to looks take more, by path
+        self.delays: Dict[str, float] = {}
+        # the date of answers, where it isn't the time
+        self.date: Optional[int] = None
         self.may_answer = threading.Event()
         self.may_answer.set()
-        self.door = http.server.ThreadingHTTPServer(("127.0.0.1", 0), Door)
-        self.door.lab = self
-        threading.Thread(target=self.door.serve_forever, daemon=True).start()
+        self.door, self.visit = Server(self), browser.visit()
 
-    def open(self, path="/", scheme=None, **size):
+    def open(self, path: str = "/", scheme: str = "", before: str = HURRY, **size: int) -> Page:
         """A page that looks at the farm, in light or dark where that is said."""
         address = f"http://127.0.0.1:{self.door.server_address[1]}{path}"
         if not scheme:
-            return self.browser.open(address, **size)
-        opened = self.browser.open("data:text/html,", **size)
-        set_scheme(opened, scheme)
+            return self.visit.open(address, before=before, **size)
+        opened = self.visit.open("data:text/html,", before=before, **size)
+        opened.set_scheme(scheme)
         opened.go(address)
         return opened
 
-    def look(self, path="/"):
+    def opened(self, path: str = "/", **more: Any) -> Page:
+        """A page that has looked."""
+        opened = self.open(path, **more)
+        seen(opened)
+        return opened
+
+    def look(self, path: str = "/") -> Shown:
         """What the page shows once it has looked."""
         opened = self.open(path)
         shown = seen(opened)
         opened.close()
         return shown
 
-    def times_asked(self, path):
-        return self.asked.count(path)
+    def times_asked(self, path: str) -> int:
+        return sum(it == path for it, _ in self.asked)
 
-    def end(self):
-        self.farm.kill()
+    def looks_twice(self) -> None:
+        """Waits until a page has looked, and has begun to look again."""
+        before = self.times_asked("/status")
+        wait_until("two more looks", lambda: self.times_asked("/status") >= before + 2)
+
+    def reserve(self, user: str, *tags: str, **more: str) -> int:
+        """Makes a reservation, and returns its number."""
+        return int(self.farm.tell(user, "/reservations", {"tags": list(tags), **more})["number"])
+
+    def passes(self) -> None:
+        self.farm.tell("dispatcher", "/pass")
+
+    def set_health(self, **boards: str) -> None:
+        for name, health in boards.items():
+            self.farm.tell("admin", f"/boards/{name}/health", {"health": health})
+
+    def end(self) -> None:
+        self.may_answer.set()
+        self.visit.end()
         self.door.shutdown()
+        self.door.server_close()
 
 
-def seen(opened):
+def seen(opened: Page) -> Shown:
     """What a page shows once it has looked for the first time."""
     return until(opened, "it has looked", lambda it: "as of" in it["said"])
 
 
-def until(opened, what, test):
+def until(opened: Page, what: str, test: Callable[[Shown], object]) -> Shown:
     """What a page shows once that passes a test."""
 
-    def shown():
-        found = opened.ask(SHOWN)
-        return found if test(found) else None
+    def shown() -> Shown:
+        found: Shown = opened.ask(SHOWN)
+        return found if test(found) else {}
 
     return wait_until(what, shown)
 
 
-def names(shown, table="boards"):
+def names(shown: Shown, table: str = "boards") -> List[str]:
     return [row[0] for row in shown[table]]
 
 
-def tell_at(farm, moment, user, path, body=b""):
+def tell_at(farm: Farm, moment: float, user: str, path: str, body: Any = None) -> int:
     """Gives a command at a moment of its own, while the farm isn't served. Returns its number."""
-    head = f"POST {path} HTTP/1.1\r\nx-user: {user}\r\ncontent-length: {len(body)}\r\n\r\n"
+    sent = body if isinstance(body, bytes) else json.dumps(body or {}).encode()
+    head = f"POST {path} HTTP/1.1\r\nx-user: {user}\r\ncontent-length: {len(sent)}\r\n\r\n"
     words = [farm.program, "once", "--db", farm.db, "--at", str(int(moment))]
-    ran = subprocess.run(words, input=head.encode() + body, capture_output=True, check=False)
-    demand(f"{user} {path} at {moment}", 0, ran.returncode)
+    ran = subprocess.run(words, input=head.encode() + sent, capture_output=True, check=False)
+    assert ran.returncode == 0, f"{user} {path} at {moment}: {ran.stdout!r} {ran.stderr!r}"
     number = re.search(rb'"number":(\d+)', ran.stdout)
     return int(number.group(1)) if number else 0
 
 
-def set_health(farm, **boards):
-    for name, health in boards.items():
-        farm.tell("admin", f"/boards/{name}/health", {"health": health})
-
-
-def want_a_browser(name):
-    """Ends the script where it can't be tried."""
-    if CHROMIUM is None:
-        print(f"{name}: not tried, since Chromium isn't there")
-        sys.exit(77)
-    try:
-        free_port()
-    except OSError:
-        print(f"{name}: not tried, since there is no 127.0.0.1")
-        sys.exit(77)
-
+def begin_at(farm: Farm, moment: float, boards: Sequence[Board] = BOARDS) -> None:
+    """Adds Good boards to a farm at a moment, and leaves it unserved."""
+    farm.kill()
+    for kind in sorted({it[1] for it in boards}):
+        tell_at(farm, moment, "admin", "/types", {"name": kind})
+    for name, kind, tags in boards:
+        tell_at(farm, moment, "admin", "/boards", {"name": name, "type": kind, "tags": list(tags)})
+        tell_at(farm, moment, "admin", f"/boards/{name}/health", {"health": "Good"})
 
 
 # ---- working with it
@@ -215,148 +258,91 @@ FACTS = """(id => Object.fromEntries([...document.querySelectorAll(`#${id} dt`)]
   it => [it.textContent, it.nextElementSibling.textContent.trim()])))"""
 
 
-def click(opened, table, row, text):
+def click(opened: Page, table: str, row: str, text: str) -> None:
     opened.ask(BUTTON.format(table=table, row=row, text=text) + ".click()")
 
 
-def text_of(opened, selector):
+def sort_by(opened: Page, table: str, text: str) -> None:
+    opened.ask(HEAD.format(table=table, text=text) + ".querySelector('button').click()")
+
+
+def text_of(opened: Page, selector: str) -> Optional[str]:
     """The text of the first element of this kind, and nothing where there is none."""
-    return opened.ask(f"(document.querySelector({selector!r}) || {{}}).textContent")
+    text: Optional[str] = opened.ask(f"(document.querySelector({selector!r}) || {{}}).textContent")
+    return text
 
 
-def answer(opened, text):
+def facts_of(opened: Page, dialog: str) -> Dict[str, str]:
+    """The facts that a dialog shows, by their terms."""
+    facts: Dict[str, str] = opened.ask(f"{FACTS}('{dialog}')")
+    return facts
+
+
+def answer(opened: Page, text: str) -> None:
     """Answers the question that is open."""
     found = f"find(it => it.textContent === '{text}')"
     opened.ask(f"[...document.querySelectorAll('#question button')].{found}.click()")
 
 
-def buttons(shown, table, row):
-    """What can be done with a row."""
-    return next(it[-1] for it in shown[table] if it[0] == row)
+def buttons(shown: Shown, table: str, row: str) -> str:
+    """What can be done with a row, and what is told beside it."""
+    return str(next(it[-1] for it in shown[table] if it[0] == row))
 
 
-def set_scheme(opened, scheme):
-    """Lets a page be light or dark."""
-    media = [{"name": "prefers-color-scheme", "value": scheme}]
-    opened.do("Emulation.setEmulatedMedia", features=media)
+# ---- the past
 
 
-def key(opened, name, number, text=""):
-    """Presses a key, with the text that it types."""
-    pressed = {"key": name, "code": name, "windowsVirtualKeyCode": number}
-    kind = "keyDown" if text else "rawKeyDown"
-    opened.do("Input.dispatchKeyEvent", type=kind, text=text, **pressed)
-    opened.do("Input.dispatchKeyEvent", type="keyUp", **pressed)
+def record(
+    number: int, owner: str, board: str, ended: int, outcome: str = "Complete", reason: str = ""
+) -> Dict[str, Any]:
+    """A job that ended after 90 s, as the dispatcher's history has it."""
+    return {
+        "kind": "job", "job": number, "group": number, "owner": owner, "boards": [board],
+        "type": "bbb", "name": f"test {number}", "submitted": None, "began": ended - 90,
+        "ended": ended, "outcome": outcome, "reason": reason,
+    }
 
 
-def reservation(lab, user, *tags):
-    return lab.farm.tell(user, "/reservations", {"tags": list(tags)})["number"]
+def past(lab: Lab, *jobs: Dict[str, Any]) -> None:
+    """Serves a history of these jobs, and of a board that went Bad."""
+    changes = [{"kind": "health", "board": "b1", "from": "Good", "to": "Bad",
+                "at": int(time.time()) - 5000, "reason": "no prompt"}]
+    told = {"at": int(time.time()), "jobs": list(jobs), "boards": changes}
+    lab.files["/history.json"] = json.dumps(told).encode()
 
 
-def passes(lab):
-    lab.farm.tell("dispatcher", "/pass")
+# ---- a full farm
 
 
-def end_all(lab):
-    """Ends what a row left."""
-    for it in lab.farm.look("/reservations")["reservations"]:
-        if it["state"] in ("waiting", "allocated", "acquired"):
-            lab.farm.tell("admin", f"/reservations/{it['number']}/cancel")
-    for it in lab.farm.look("/boards")["boards"]:
-        kind, _, number = it["holder"].partition(" ")
-        if kind == "job":
-            lab.farm.tell("admin", f"/jobs/{number}/cancel")
-            if lab.farm.job(int(number))["state"] == "Canceling":
-                lab.farm.tell("dispatcher", f"/jobs/{number}/finish", {"outcome": "Complete"})
-    for it in lab.farm.look("/queue")["queue"]:
-        lab.farm.tell("admin", f"/jobs/{it['number']}/cancel")
-    lab.given.clear()
-    lab.files.clear()
-
-
-def lab_of_the_past(program, folder, browser, ago):
-    """A lab for ann whose boards were added so many seconds ago; its farm isn't served yet."""
-    lab, moment = Lab(program, folder, browser, [], "ann"), time.time() - ago
-    lab.farm.kill()
-    commands = [("/types", {"name": kind}) for kind in sorted({it[1] for it in BOARDS})]
-    for name, kind, tags in BOARDS:
-        commands.append(("/boards", {"name": name, "type": kind, "tags": tags}))
-        commands.append((f"/boards/{name}/health", {"health": "Good"}))
-    for path, body in commands:
-        tell_at(lab.farm, moment, "admin", path, json.dumps(body).encode())
-    return lab
-
-
-def run_rows(name, program, rows, own_rows):
-    """Tries rows over one farm after another, and then those that want a farm of their own."""
-    want_a_browser(name)
-    folder = tempfile.mkdtemp()
-    try:
-        browser = Browser(folder)
-        lab = Lab(program, folder, browser, BOARDS, "ann")
-        for row in rows:
-            print(f"{name}: {row(lab)}", flush=True)
-        lab.end()
-        for row in own_rows:
-            print(f"{name}: {row(program, folder, browser)}", flush=True)
-        browser.end()
-    finally:
-        # (Chromium may still write)
-        shutil.rmtree(folder, ignore_errors=True)
-
-
-# ---- contrast
-
-# The texts that are seen, with their colour and the grounds that they stand on, the nearest first.
-TEXTS = """(() => {
-  const grounds = it => it
-    ? [getComputedStyle(it).backgroundColor, ...grounds(it.parentElement)] : [];
-  const top = document.querySelector("dialog:modal") || document.body;
-  const seen = [...top.querySelectorAll("*")].filter(it => it.checkVisibility());
-  const texts = seen
-    .filter(it => [...it.childNodes].some(node => node.nodeType === 3 && node.data.trim()))
-    .map(it => [it.className || it.tagName, getComputedStyle(it).color, grounds(it)]);
-  const fields = seen.filter(it => it.placeholder && !it.value).map(
-    it => ["placeholder", getComputedStyle(it, "::placeholder").color, grounds(it)]);
-  return [...texts, ...fields];
-})()"""
-
-
-def poor_texts(opened):
-    """The texts of a page, or of what is open over it, whose contrast is below 4.5, as WCAG counts
-    it."""
-    texts = opened.ask(TEXTS)
-    demand("some texts", True, len(texts) > 3)
-    return sorted(
-        {
-            name
-            for name, colour, grounds in texts
-            if contrast(parts(colour), ground_of(grounds)) < 4.5
-        }
-    )
-
-
-def parts(colour):
-    """A colour's red, green, blue, and how much it covers."""
-    found = [float(it) for it in re.findall(r"[\d.]+", colour)]
-    return [*found[:3], found[3] if len(found) > 3 else 1.0]
-
-
-def ground_of(grounds):
-    """What is seen where these colours lie over each other, the last at the bottom."""
-    mixed = [255.0, 255.0, 255.0]
-    for ground in reversed(grounds):
-        *colour, cover = parts(ground)
-        mixed = [cover * new + (1 - cover) * old for new, old in zip(colour, mixed)]
-    return mixed
-
-
-def contrast(one, other):
-    light = sorted(map(luminance, (one, other)))
-    return (light[1] + 0.05) / (light[0] + 0.05)
-
-
-def luminance(colour):
-    shares = [it / 255 for it in colour[:3]]
-    linear = [it / 12.92 if it <= 0.03928 else ((it + 0.055) / 1.055) ** 2.4 for it in shares]
-    return 0.2126 * linear[0] + 0.7152 * linear[1] + 0.0722 * linear[2]
+def full_farm(now: int) -> Dict[str, bytes]:
+    """What a desk of 256 boards and 3,000 waiting claims answers, by path."""
+    boards, held = [], []
+    for place in range(256):
+        holder = f"job {place + 1}" if place % 3 == 0 else "none"
+        if place % 5 == 1:
+            holder = f"reservation {place + 1}"
+            held.append({
+                "board": f"board-{place:03}", "deadline": 1_700_000_000, "number": place + 1,
+                "owner": "ann", "priority": 50, "state": "acquired", "tags": ["serial"],
+            })
+        boards.append({
+            "health": "Bad" if place % 17 == 2 else "Good", "holder": holder, "jobs_since": 3,
+            "last_check": 0, "name": f"board-{place:03}", "type": f"type-{place % 8}",
+            "state": "Idle" if holder == "none" else "Running",
+            "tags": ["gigabit", f"outlet={place % 8}", f"power=pdu{place // 8}", "serial"],
+        })
+    job = {"board": "", "group": 1, "kind": "ordinary", "number": 1, "owner": "bob", "priority": 50,
+           "result": "", "role": "", "state": "Running", "tags": [], "text": "job_name = 'boot'",
+           "type": "type-0"}
+    held_by = [int(str(it["holder"])[4:]) for it in boards if str(it["holder"]).startswith("job ")]
+    views = {
+        "types": {"types": [{"check": "none", "every": 0, "name": f"type-{it}"} for it in range(8)]},
+        "boards": {"boards": boards},
+        "queue": {"queue": [{"boards": 1, "kind": "group", "number": 1000 + it, "owner": f"user-{it % 40}",
+                             "priority": 50} for it in range(3000)]},
+        "status": {"boards": 256, "clock": now, "collector": 0, "count": 9000, "jobs": 4000, "next": 4000,
+                   "reservations": 300, "types": 8},
+        "reservations": {"reservations": held},
+        **{f"jobs/{number}": job for number in (*held_by, *range(1000, 1005))},
+    }
+    return {f"/{path}": json.dumps(body).encode() for path, body in views.items()}

@@ -1,4 +1,6 @@
 """A farm that a test of the tools serves, and the tools that it starts."""
+from __future__ import annotations
+
 import atexit
 import http.client
 import json
@@ -8,10 +10,13 @@ import socket
 import subprocess
 import sys
 import time
+from typing import Any, Callable, Dict, List, Optional, Sequence, Tuple, TypeVar
 
 TOP = os.path.realpath(os.path.join(os.path.dirname(__file__), "../.."))
 TOOLS = os.path.join(TOP, "tools")
-STARTED = []
+# Processes that are killed at the end of the test that started them, and those that last for the whole run.
+STARTED: List["subprocess.Popen[Any]"] = []
+LASTING: List["subprocess.Popen[Any]"] = []
 # Calls a tool with each of these words, as a process each would, and prints what came of it.
 CALLS = """\
 import contextlib, io, json, os, runpy, sys
@@ -27,90 +32,75 @@ for more, words in calls:
     given.append([status, output.getvalue(), errors.getvalue()])
 print(json.dumps(given))
 """
+Found = TypeVar("Found")
+Board = Tuple[str, str, Sequence[str]]
 
 
-@atexit.register
-def end_all():
-    """Kills what a test that fails left."""
-    for process in STARTED:
+def end_all(processes: Optional[List["subprocess.Popen[Any]"]] = None) -> None:
+    """Kills those of the processes that still run, and waits for them."""
+    for process in STARTED + LASTING if processes is None else processes:
         if process.poll() is None:
             process.kill()
             process.wait()
 
 
-def demand(what, wanted, found):
+atexit.register(end_all)
+
+
+def demand(what: str, wanted: object, found: object) -> None:
     """Ends the test where something isn't as it should be."""
-    if wanted != found:
-        print(
-            f"{os.path.basename(sys.argv[0])}: {what}: wanted {wanted!r}, got {found!r}",
-            file=sys.stderr,
-        )
-        sys.exit(1)
+    assert found == wanted, f"{what}: wanted {wanted!r}, got {found!r}"
 
 
-def wait_until(what, call, limit=40):
+def wait_until(what: str, call: Callable[[], Found], limit: float = 60) -> Found:
     """Waits until a call gives something true, and returns that. It asks less often the longer it waits."""
     until, pause = time.monotonic() + limit, 0.02
     while True:
         found = call()
         if found:
             return found
-        if time.monotonic() > until:
-            demand(f"{what}, within {limit} s", True, found)
+        assert time.monotonic() < until, f"{what}: not within {limit} s; it is {found!r}"
         time.sleep(pause)
         pause = min(pause * 1.2, 0.2)
 
 
-def free_port():
+def free_port() -> int:
     with socket.socket() as taken:
         taken.bind(("127.0.0.1", 0))
-        return taken.getsockname()[1]
+        return int(taken.getsockname()[1])
 
 
-def rows_of_part(rows, part=None):
-    """The rows that a script has to try: all, or of some parts that together have all, as KofN says
-    or the environment's FARM_TEST_PART, the Kth."""
-    part = os.environ.get("FARM_TEST_PART", "") if part is None else part
-    if not part:
-        return rows
-    place, parts = (int(it) for it in part.split("of"))
-    return rows[place - 1::parts]
-
-
-def environment(**more):
+def environment(**more: str) -> Dict[str, str]:
     """The environment without settings of the tools, and with a home that has none. The tools keep
     their bytecode, as a user's do, since they are started some hundred times."""
-    kept = {
-        name: text for name, text in os.environ.items() if not name.startswith(
-            ("DESK_", "DISPATCH_", "FARM_", "PYTHONDONTWRITEBYTECODE")
-        )
-    }
-    return {
-        **kept, "HOME": "/nonexistent", "XDG_CONFIG_HOME": "/nonexistent", "COLUMNS": "80", **more
-    }
+    left_out = ("DESK_", "DISPATCH_", "FARM_", "PYTHONDONTWRITEBYTECODE", "PYTHONUNBUFFERED", "PYTEST_")
+    kept = {name: text for name, text in os.environ.items() if not name.startswith(left_out)}
+    homes = {"HOME": "/nonexistent", "XDG_CONFIG_HOME": "/nonexistent", "COLUMNS": "80"}
+    return {**kept, **homes, **more}
 
 
-def calls_in_one(tool, calls):
+def calls_in_one(
+    tool: str, calls: Sequence[Tuple[Dict[str, str], Sequence[str]]]
+) -> List[Tuple[Optional[int], str, str]]:
     """What comes of calls of a tool, each of them more environment and the words: exit statuses, outputs
     and errors. One process makes them all, since a start costs more than most of what a tool does."""
     words = [sys.executable, "-c", CALLS, os.path.join(TOOLS, tool), json.dumps(calls)]
     ran = subprocess.run(
         words, capture_output=True, text=True, timeout=300, check=False, env=environment()
     )
-    demand(f"calls of {tool}", (0, ""), (ran.returncode, ran.stderr))
-    return [tuple(it) for it in json.loads(ran.stdout)]
+    assert (ran.returncode, ran.stderr) == (0, ""), f"calls of {tool}"
+    return [(it[0], it[1], it[2]) for it in json.loads(ran.stdout)]
 
 
 class Farm:
     """A farm in a new file, with Good boards of two types, served on a free port of 127.0.0.1."""
 
-    def __init__(self, program, folder, boards):
+    def __init__(self, program: str, folder: str, boards: Sequence[Board]):
         """`boards` is a list of names, types and tags."""
         self.program = os.path.realpath(program)
         self.db = os.path.join(folder, "farm.db")
         self.port = free_port()
-        self.server = f"http://127.0.0.1:{self.port}"
-        self.process = None
+        self.process: "subprocess.Popen[bytes]"
         subprocess.run(
             [self.program, "init", "--db", self.db], check=True, stdout=subprocess.DEVNULL
         )
@@ -118,32 +108,40 @@ class Farm:
         for name in sorted({it[1] for it in boards}):
             self.tell("admin", "/types", {"name": name})
         for name, kind, tags in boards:
-            self.tell("admin", "/boards", {"name": name, "type": kind, "tags": tags})
+            self.tell("admin", "/boards", {"name": name, "type": kind, "tags": list(tags)})
             self.tell("admin", f"/boards/{name}/health", {"health": "Good"})
 
-    def start(self):
-        """Serves the farm, once its port is free."""
-        words = [
-            self.program, "serve", "--db", self.db, "--port", str(self.port), "--max", "100000000"
-        ]
+    @property
+    def server(self) -> str:
+        return f"http://127.0.0.1:{self.port}"
+
+    def start(self) -> None:
+        """Serves the farm, once its port is free. Where another took the port meanwhile and keeps it,
+        a new farm gets another port."""
         while True:
+            words = [
+                self.program, "serve", "--db", self.db, "--port", str(self.port), "--max", "100000000"
+            ]
             self.process = subprocess.Popen(words, stdout=subprocess.PIPE, stderr=subprocess.PIPE)
             STARTED.append(self.process)
+            assert self.process.stdout is not None
             if self.process.stdout.readline():
                 return
-            self.process.wait()
+            self.process.communicate()
             time.sleep(0.1)
 
-    def kill(self):
+    def kill(self) -> None:
         """Kills the serving at once."""
         self.process.kill()
         self.process.communicate()
 
-    def ask(self, user, method, path, body=None, key=None):
+    def ask(
+        self, user: str, method: str, path: str, body: Any = None, key: Optional[str] = None
+    ) -> Tuple[int, Any]:
         """The status and the body of an answer."""
         fields = {"x-user": user, **({"x-key": key} if key else {})}
         sent = body if body is None or isinstance(body, bytes) else json.dumps(body).encode()
-        line = http.client.HTTPConnection("127.0.0.1", self.port, timeout=30)
+        line = http.client.HTTPConnection("127.0.0.1", self.port, timeout=60)
         try:
             line.request(method, path, body=sent, headers=fields)
             answer = line.getresponse()
@@ -151,39 +149,39 @@ class Farm:
         finally:
             line.close()
 
-    def tell(self, user, path, body=None):
+    def tell(self, user: str, path: str, body: Any = None) -> Any:
         """Gives a command that has to be accepted."""
         status, said = self.ask(user, "POST", path, body)
-        demand(f"{user} POST {path} {body}", 200, status)
+        assert status == 200, f"{user} POST {path} {body}: {said}"
         return said
 
-    def look(self, path):
+    def look(self, path: str) -> Any:
         status, said = self.ask("ann", "GET", path)
-        demand(f"GET {path}", 200, status)
+        assert status == 200, f"GET {path}: {said}"
         return said
 
-    def job(self, number):
+    def job(self, number: int) -> Any:
         return self.look(f"/jobs/{number}")
 
-    def board(self, name):
+    def board(self, name: str) -> Any:
         return next(it for it in self.look("/boards")["boards"] if it["name"] == name)
 
-    def reservation(self, number):
+    def reservation(self, number: int) -> Any:
         return next(
             it for it in self.look("/reservations")["reservations"] if it["number"] == number
         )
 
-    def submit(self, run, kind="bbb", user="ann", more=""):
+    def submit(self, run: str, kind: str = "bbb", user: str = "ann", more: str = "") -> int:
         """Submits a job of one board whose text has a line that the tests' command runs, and what
         is to stand behind it."""
         text = f"job_name = 'test'\ndevice_type = '{kind}'\nrun = '{run}'\n{more}"
-        return self.tell(user, "/jobs", text.encode())["number"]
+        return int(self.tell(user, "/jobs", text.encode())["number"])
 
 
 class Tool:
     """A tool that runs, with its output in files."""
 
-    def __init__(self, words, folder, **more):
+    def __init__(self, words: Sequence[str], folder: str, **more: str):
         self.files = [os.path.join(folder, name) for name in ("output", "errors")]
         with open(self.files[0], "ab") as output, open(self.files[1], "ab") as errors:
             self.process = subprocess.Popen(
@@ -195,25 +193,25 @@ class Tool:
             )
         STARTED.append(self.process)
 
-    def output(self):
+    def output(self) -> str:
         return read(self.files[0])
 
-    def errors(self):
+    def errors(self) -> str:
         return read(self.files[1])
 
-    def send(self, number):
+    def send(self, number: int) -> None:
         self.process.send_signal(number)
 
-    def kill(self):
+    def kill(self) -> None:
         self.send(signal.SIGKILL)
         self.process.wait()
 
-    def ends(self, limit=40):
+    def ends(self, limit: float = 60) -> int:
         """The exit status, once it has ended."""
         return self.process.wait(timeout=limit)
 
 
-def read(file):
+def read(file: str) -> str:
     try:
         with open(file, encoding="utf-8") as text:
             return text.read()

@@ -10,9 +10,10 @@ import json
 import os
 import runpy
 import sys
+from typing import Dict, List
 
 
-def become(tool, words, surroundings, files):
+def become(tool: str, words: List[str], surroundings: Dict[str, str], files: List[str]) -> None:
     """Runs the tool as a process of its own would, and ends as it does."""
     os.environ.clear()
     os.environ.update(surroundings)
@@ -26,7 +27,7 @@ def become(tool, words, surroundings, files):
     runpy.run_path(tool, run_name="__main__")
 
 
-def main(tool, module):
+def main(tool: str, module: str) -> None:
     sys.path.insert(0, os.path.dirname(tool))
     importlib.import_module(module)
     gc.freeze()

@@ -1,6 +1,9 @@
-"""What the rows of tests/tools/watch.py share: farms that farm-watch looks at, a sendmail and a webhook
-of the tests' own, and a door in front of a desk."""
+"""Farms that farm-watch looks at, a sendmail and a webhook of the tests' own, and a door in front of a desk."""
+from __future__ import annotations
+
+import contextlib
 import email
+import email.message
 import email.policy
 import http.client
 import http.server
@@ -12,12 +15,13 @@ import subprocess
 import tempfile
 import threading
 import time
+from typing import Any, Callable, Dict, Iterator, List, Optional, Sequence, Tuple
 
 from desks import write
-from served import Farm, Tool, demand, read, wait_until
+from served import Board, Farm, Tool, read, wait_until
 
 HOUR = 3600
-BOARDS = [("b1", "bbb", ["hdmi"]), ("b2", "bbb", []), ("b3", "ccc", [])]
+BOARDS: Sequence[Board] = [("b1", "bbb", ["hdmi"]), ("b2", "bbb", []), ("b3", "ccc", [])]
 SENDMAIL = """#!/bin/sh
 # A sendmail that keeps what it is given, or refuses it, or kills a process then.
 set -e
@@ -37,7 +41,7 @@ fi
 """
 
 
-def reply(handler, status, body):
+def reply(handler: http.server.BaseHTTPRequestHandler, status: int, body: bytes) -> None:
     """Answers a request, where its client lives still."""
     try:
         handler.send_response(status)
@@ -48,7 +52,7 @@ def reply(handler, status, body):
         pass
 
 
-def hours(subject):
+def hours(subject: str) -> str:
     """A subject without the minutes of an age, which a slow machine adds."""
     return re.sub(r"( hours) [0-9]+ minutes?", r"\1", subject)
 
@@ -56,21 +60,21 @@ def hours(subject):
 class Mailbox:
     """A sendmail, and the mails that it took."""
 
-    def __init__(self, folder):
+    def __init__(self, folder: str):
         self.folder = tempfile.mkdtemp(dir=folder)
         self.sendmail = write(self.folder, "sendmail", SENDMAIL, 0o755)
-        self.brought = {}  # texts by the files' names
-        self.taken = {}  # mails by their Message-ID
-        self.read = {}  # messages by the texts that were brought
+        self.brought: Dict[str, str] = {}  # texts by the files' names
+        self.taken: Dict[str, str] = {}  # mails by their Message-ID
+        self.read: Dict[str, email.message.EmailMessage] = {}  # messages by the texts that were brought
 
-    def refuse(self, refuses):
+    def refuse(self, refuses: bool) -> None:
         """Lets it refuse mails, or take them again."""
         if refuses:
             write(self.folder, "refuse", "")
         else:
             os.unlink(os.path.join(self.folder, "refuse"))
 
-    def kill(self, process):
+    def kill(self, process: Optional[int]) -> None:
         """Lets it kill this process once it has taken a mail; None lets it kill nobody."""
         if process is not None:
             os.replace(write(self.folder, "to-kill", str(process)),
@@ -78,30 +82,31 @@ class Mailbox:
         elif os.path.exists(os.path.join(self.folder, "kill")):
             os.unlink(os.path.join(self.folder, "kill"))
 
-    def texts(self, kind="mail"):
+    def texts(self, kind: str = "mail") -> List[str]:
         """What was brought, each time. (A file has its name once it is whole, and isn't read again.)"""
         for name in os.listdir(self.folder):
             if name.startswith(f"{kind}.") and name not in self.brought:
                 self.brought[name] = read(os.path.join(self.folder, name))
         return [text for name, text in self.brought.items() if name.startswith(f"{kind}.")]
 
-    def mails(self):
+    def mails(self) -> List[email.message.EmailMessage]:
         """Those that were taken, by their Message-ID: one that came again is dropped, and has to be
         the same to the byte."""
         for text in self.texts():
             if text in self.read:
                 continue
             words, _, mail = text.partition("\n")
-            demand("sendmail's words", "-t -i", words)
+            assert words == "-t -i"
             message = email.message_from_string(mail, policy=email.policy.default)
-            demand("a mail that came again", mail, self.taken.setdefault(message["message-id"], mail))
+            assert isinstance(message, email.message.EmailMessage)
+            assert self.taken.setdefault(message["message-id"], mail) == mail, "a mail that came again is another one"
             self.read[text] = message
         return list(self.read.values())
 
-    def told(self, kind=None):
+    def told(self, kind: Optional[str] = None) -> List[Tuple[str, str]]:
         """Whom which subjects went to, in order; of ages the hours alone."""
         return sorted(
-            (it["to"], hours(it["subject"]))
+            (it["to"], hours(it["subject"].strip()))  # (a long one stands on a line of its own)
             for it in self.mails()
             if kind in (None, it["x-farm-event"])
         )
@@ -110,19 +115,20 @@ class Mailbox:
 class Hook:
     """A webhook, and what was posted to it."""
 
-    def __init__(self):
-        self.posted = []
+    def __init__(self) -> None:
+        self.posted: List[Tuple[str, Dict[str, str], bytes]] = []
         self.answer = 200
+        self.answers: Dict[str, int] = {}  # in its place, to messages of these owners
         self.hangs = False
-        self.to_kill = None
+        self.to_kill: Optional[int] = None
         hook = self
 
         class Handler(http.server.BaseHTTPRequestHandler):
-            def do_POST(self):
+            def do_POST(self) -> None:
                 body = self.rfile.read(int(self.headers["content-length"]))
                 hook.take(self, body)
 
-            def log_message(self, *_):
+            def log_message(self, *_: object) -> None:
                 pass
 
         self.server = http.server.ThreadingHTTPServer(("127.0.0.1", 0), Handler)
@@ -130,7 +136,7 @@ class Hook:
         self.url = f"http://127.0.0.1:{self.server.server_port}/hook?room=1"
         threading.Thread(target=self.server.serve_forever, daemon=True).start()
 
-    def take(self, handler, body):
+    def take(self, handler: http.server.BaseHTTPRequestHandler, body: bytes) -> None:
         if self.hangs:
             handler.send_response_only(200)
             for _ in range(600):  # a byte now and then, so that no wait for bytes ends it
@@ -140,22 +146,23 @@ class Hook:
                 except OSError:
                     return
             return
-        if self.answer == 200:
+        answer = self.answers.get(json.loads(body)["owner"], self.answer)
+        if answer == 200:
             self.posted.append((handler.path, dict(handler.headers.items()), body))
         if self.to_kill is not None:
             process, self.to_kill = self.to_kill, None
             os.kill(process, signal.SIGKILL)
-        reply(handler, self.answer, b"")
+        reply(handler, answer, b"")
 
-    def messages(self):
+    def messages(self) -> List[Any]:
         """What was taken, by its id: one that came again is dropped, and has to be the same."""
-        found = {}
+        found: Dict[str, bytes] = {}
         for _, _, body in list(self.posted):
             said = json.loads(body)
-            demand("a message that came again", body, found.setdefault(said["id"], body))
+            assert found.setdefault(said["id"], body) == body, "a message that came again is another one"
         return [json.loads(body) for body in found.values()]
 
-    def told(self, kind=None):
+    def told(self, kind: Optional[str] = None) -> List[Tuple[str, str]]:
         return sorted(
             (it["owner"], hours(it["subject"]))
             for it in self.messages()
@@ -166,22 +173,22 @@ class Hook:
 class Door:
     """What stands in front of a desk, notes what is asked of it, and may change its answers."""
 
-    def __init__(self, farm):
-        self.asked = []
-        self.change = {}
-        self.serves = {}  # what it serves beside the desk
+    def __init__(self, farm: Farm):
+        self.asked: List[Tuple[str, str]] = []
+        self.change: Dict[str, Dict[str, Any]] = {}
+        self.serves: Dict[str, bytes] = {}  # what it serves beside the desk
         self.is_full = False  # it refuses keys, as a farm that has no room for replies
-        self.before = None  # what is called in the place of a command,
-        self.after = None  # and after one, before its answer
+        self.before: Optional[Callable[[], object]] = None  # what is called in the place of a command,
+        self.after: Optional[Callable[[], object]] = None  # and after one, before its answer
         door = self
 
         class Handler(http.server.BaseHTTPRequestHandler):
-            def do_GET(self):
+            def do_GET(self) -> None:
                 door.pass_on(self, farm)
 
             do_POST = do_GET
 
-            def log_message(self, *_):
+            def log_message(self, *_: object) -> None:
                 pass
 
         self.server = http.server.ThreadingHTTPServer(("127.0.0.1", 0), Handler)
@@ -189,7 +196,7 @@ class Door:
         self.address = f"http://127.0.0.1:{self.server.server_port}"
         threading.Thread(target=self.server.serve_forever, daemon=True).start()
 
-    def pass_on(self, handler, farm):
+    def pass_on(self, handler: http.server.BaseHTTPRequestHandler, farm: Farm) -> None:
         self.asked.append((handler.command, handler.path))
         if handler.path in self.serves:
             reply(handler, 200, self.serves[handler.path])
@@ -211,17 +218,18 @@ class Door:
             said = {**said, **self.change.get(handler.path, {})}
         reply(handler, status, json.dumps(said).encode())
 
-    def looks(self):
+    def looks(self) -> int:
         return self.asked.count(("GET", "/status"))
 
-    def count(self, path):
+    def count(self, path: str) -> int:
         return self.asked.count(("GET", path))
 
 
 class Watched:
     """A farm, its rules, and who is told."""
 
-    def __init__(self, program, room, rules, boards=BOARDS, mail=True, hook=True):
+    def __init__(self, program: str, room: str, rules: str, boards: Sequence[Board] = BOARDS,
+                 mail: bool = True, hook: bool = True):
         self.folder = tempfile.mkdtemp(dir=room)
         self.farm = Farm(program, self.folder, list(boards))
         self.door = Door(self.farm)
@@ -229,9 +237,9 @@ class Watched:
         self.hook = Hook()
         self.place = os.path.join(self.folder, "watch")
         self.write_rules(rules, mail, hook)
-        self.tool = None
+        self.tool: Tool
 
-    def write_rules(self, rules, mail=True, hook=True):
+    def write_rules(self, rules: str, mail: bool = True, hook: bool = True) -> None:
         heads = [
             f"[desk]\nserver = '{self.door.address}'\n",
             "[mail]\nfrom = 'farm@lab.example'\nto = '{owner}@lab.example'\n"
@@ -240,81 +248,86 @@ class Watched:
         ]
         self.file = write(self.folder, "watch.toml", "".join(heads) + rules)
 
-    def words(self, *more):
+    def words(self, *more: str) -> List[str]:
         return ["farm-watch", "--every", "0.2", "--folder", self.place, *more, self.file]
 
-    def start(self, *more):
+    def start(self, *more: str) -> None:
         """Watches. Returns once it has looked."""
         seen = read(os.path.join(self.folder, "output")).count("sees ")
         self.tool = Tool(self.words(*more), self.folder)
         wait_until("a first look", lambda: self.tool.output().count("sees ") > seen)
 
-    def looked(self, count=1):
+    def looked(self, count: int = 1) -> None:
         """Waits for whole looks that begin from now on."""
         begun = self.door.looks()
         wait_until("looks", lambda: self.door.looks() > begun + count)
 
-    def stop(self):
+    def stop(self) -> None:
         self.tool.send(signal.SIGTERM)
-        demand("its status", 0, self.tool.ends())
+        assert self.tool.ends() == 0
 
-    def end(self):
-        self.stop()
+    def end(self) -> None:
+        """Ends what runs still; farm-watch ends with status 0."""
+        if hasattr(self, "tool") and self.tool.process.poll() is None:
+            self.stop()
         self.farm.kill()
+        for it in (self.door.server, self.hook.server):
+            it.shutdown()
+            it.server_close()
 
-    def mails(self, wanted, kind=None):
+    def mails(self, wanted: Sequence[Tuple[str, str]], kind: Optional[str] = None) -> None:
         """Waits until these mails are there: no more, and none of them twice."""
         wait_until(f"the mails {wanted}", lambda: self.mailbox.told(kind) == sorted(wanted))
 
     # ---- what happens at the farm
 
-    def passes(self):
+    def passes(self) -> Any:
         return self.farm.tell("dispatcher", "/pass")
 
-    def starts(self, number):
+    def starts(self, number: int) -> None:
         self.farm.tell("dispatcher", f"/jobs/{number}/start")
 
-    def finishes(self, number, outcome="Complete"):
+    def finishes(self, number: int, outcome: str = "Complete") -> None:
         self.farm.tell("dispatcher", f"/jobs/{number}/finish", {"outcome": outcome})
 
-    def runs(self, *words, outcome="Complete", **more):
+    def runs(self, outcome: str = "Complete", user: str = "ann") -> int:
         """A job that is submitted, and has ended when this returns."""
-        number = self.farm.submit(*words, **more)
+        number = self.farm.submit("true", user=user)
         self.passes()
         self.starts(number)
         self.finishes(number, outcome)
         return number
 
-    def reserves(self, user="ann", board="b1"):
-        return self.farm.tell(user, "/reservations", {"tags": [f"name={board}"]})["number"]
+    def reserves(self, user: str = "ann", board: str = "b1") -> int:
+        return int(self.farm.tell(user, "/reservations", {"tags": [f"name={board}"]})["number"])
 
-    def holds(self, user="ann", board="b1"):
+    def holds(self, user: str = "ann", board: str = "b1") -> int:
         number = self.reserves(user, board)
         self.passes()
         self.farm.tell(user, f"/reservations/{number}/acquire")
         return number
 
-    def held_since(self, moments):
+    def held_since(self, moments: Sequence[Tuple[float, str, str]]) -> List[int]:
         """A farm whose boards have been held since these moments of the past, by these users: the
         numbers of the reservations. Its clock hasn't got beyond the last of them."""
         self.farm.kill()
-        numbers = []
+        numbers: List[int] = []
         first = moments[0][0]
-        self.at(first, "admin", "/types", b'{"name":"old"}')
+        self.at(first, "admin", "/types", {"name": "old"})
         for _, _, board in moments:
-            body = json.dumps({"name": board, "type": "old"}).encode()
-            self.at(first, "admin", "/boards", body)
-            self.at(first, "admin", f"/boards/{board}/health", b'{"health":"Good"}')
+            self.at(first, "admin", "/boards", {"name": board, "type": "old"})
+            self.at(first, "admin", f"/boards/{board}/health", {"health": "Good"})
         for moment, user, board in moments:
-            body = json.dumps({"tags": [f"name={board}"]}).encode()
-            number = self.at(moment, user, "/reservations", body)["number"]
+            number = self.at(moment, user, "/reservations", {"tags": [f"name={board}"]})["number"]
             self.at(moment, "dispatcher", "/pass")
             self.at(moment, user, f"/reservations/{number}/acquire")
             numbers.append(number)
         self.farm.start()
         return numbers
 
-    def at(self, moment, user, path, body=b""):
+    def at(self, moment: float, user: str, path: str, said: Any = None) -> Any:
+        """Gives the farm, which isn't served, a command at a moment."""
+        body = b"" if said is None else json.dumps(said).encode()
         head = f"POST {path} HTTP/1.1\r\nx-user: {user}\r\ncontent-length: {len(body)}\r\n\r\n"
         ran = subprocess.run(
             [self.farm.program, "once", "--db", self.farm.db, "--at", str(int(moment))],
@@ -325,3 +338,15 @@ class Watched:
         return json.loads(ran.stdout.partition(b"\r\n\r\n")[2])
 
 
+@contextlib.contextmanager
+def watched_farms(program: str, room: str) -> Iterator[Callable[..., Watched]]:
+    """Makes farms that are watched, by their rules and what else is wanted of them, and ends them."""
+    made: List[Watched] = []
+
+    def make(rules: str, **more: Any) -> Watched:
+        made.append(Watched(program, room, rules, **more))
+        return made[-1]
+
+    yield make
+    for it in made:
+        it.end()

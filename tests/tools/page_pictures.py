@@ -2,9 +2,11 @@
 """Draws the pictures of the status page: python3 tests/tools/page_pictures.py bin/farm [FOLDER]
 
 A farm of the example lab as a user of it sees it: page.png 1280 points wide, and page-phone.png as
-a phone of 390 points has it, both in FOLDER, or in docs/. Ends with status 77 where Chromium isn't
+a phone of 390 points has it, both in FOLDER, or in docs/. Ends with status 1 where Chromium isn't
 there.
 """
+from __future__ import annotations
+
 import json
 import os
 import shutil
@@ -12,29 +14,29 @@ import subprocess
 import sys
 import tempfile
 import time
+from typing import Any, Dict
 
 sys.path.insert(0, os.path.join(os.path.dirname(os.path.abspath(__file__)), "../shared"))
-from browser import Browser  # noqa: E402
-from pages import PHONE, Lab, seen, tell_at, until, want_a_browser  # noqa: E402
-from served import TOP  # noqa: E402
+from browser import CHROMIUM, Browser  # noqa: E402
+from pages import HOUR, PHONE, Lab, record, tell_at, until  # noqa: E402
+from served import TOP, Farm  # noqa: E402
 
-MINUTE, HOUR = 60, 3600
+MINUTE = 60
 LOG = "U-Boot 2026.01 (Jan 05 2026)\nDRAM:  2 GiB\nbooting ...\nlogin: \n"
 
 
-def example(name):
+def example(name: str) -> bytes:
     with open(os.path.join(TOP, "examples", name), "rb") as text:
         return text.read()
 
 
-def use(farm, now):
+def use(farm: Farm, now: int) -> None:
     """A day of the lab, up to now."""
     boards = [it["name"] for it in farm.look("/boards")["boards"]]
     farm.kill()
 
-    def tell(ago, user, path, body=b""):
-        sent = body if isinstance(body, bytes) else json.dumps(body).encode()
-        return tell_at(farm, now - ago, user, path, sent)
+    def tell(ago: int, user: str, path: str, body: Any = None) -> int:
+        return tell_at(farm, now - ago, user, path, body)
 
     for name in boards:
         tell(26 * HOUR, "admin", f"/boards/{name}/health", {"health": "Good"})
@@ -68,20 +70,22 @@ def use(farm, now):
     farm.tell("gus", "/reservations", {"tags": ["outlet=3", "wifi"]})
 
 
-def look(farm, now):
+def look(farm: Farm, now: int) -> bytes:
     words = [farm.program, "once", "--db", farm.db, "--at", str(int(now - 4 * HOUR))]
     request = b"GET /boards HTTP/1.1\r\n\r\n"
     ran = subprocess.run(words, input=request, capture_output=True, check=True)
     return ran.stdout.split(b"\r\n\r\n", 1)[1]
 
 
-def job(number, owner, board, kind, name, ended, took, outcome="Complete", reason=""):
-    return {"kind": "job", "job": number, "group": number, "owner": owner, "boards": [board],
-            "type": kind, "name": name, "submitted": ended - took - 40, "began": ended - took,
-            "ended": ended, "outcome": outcome, "reason": reason}
+def job(
+    number: int, owner: str, board: str, kind: str, name: str, ended: int, took: int, outcome: str = "Complete",
+    reason: str = "",
+) -> Dict[str, Any]:
+    begun = {"type": kind, "name": name, "submitted": ended - took - 40, "began": ended - took}
+    return {**record(number, owner, board, ended, outcome, reason), **begun}
 
 
-def past(now):
+def past(now: int) -> bytes:
     jobs = [
         job(42, "ann", "qemu-02", "qemu-aarch64", "kernel next", now - 260, 190),
         job(40, "ci", "bbb-04", "beaglebone-black", "boot", now - 1500, 41),
@@ -99,7 +103,7 @@ def past(now):
     return json.dumps({"at": now, "jobs": jobs, "boards": changes}).encode()
 
 
-def sights(farm, now):
+def sights(farm: Farm, now: int) -> str:
     """A script by which a page has seen the jobs come, as one that was open all the time."""
     since = {"Running": now - 12 * MINUTE, "Reserved": now - MINUTE}
     seen_before = [
@@ -110,20 +114,18 @@ def sights(farm, now):
     return f"localStorage.setItem('sights', {json.dumps(json.dumps(seen_before))})"
 
 
-def draw(room, browser, folder):
-    lab, now = Lab(PROGRAM, room, browser, [], "ann"), int(time.time())
+def draw(program: str, room: str, browser: Browser, folder: str) -> None:
+    lab, now = Lab(browser, Farm(program, room, []), "ann"), int(time.time())
     lab.farm.kill()
     file = os.path.join(TOP, "examples", "lab.toml")
-    start = str(now - 27 * HOUR)
-    subprocess.run([PROGRAM, "import", "--db", lab.farm.db, "--at", start, file], check=True,
-                   stdout=subprocess.DEVNULL)
+    words = [program, "import", "--db", lab.farm.db, "--at", str(now - 27 * HOUR), file]
+    subprocess.run(words, check=True, stdout=subprocess.DEVNULL)
     lab.farm.start()
     use(lab.farm, now)
     lab.files.update({"/history.json": past(now), "/logs/42": LOG.encode()})
     for name, wide, high in (("page.png", 1280, 1600), ("page-phone.png", PHONE, 1800)):
-        lab.farm.tell("dispatcher", "/pass")
-        opened = lab.open(wide=wide, high=high, before=sights(lab.farm, now))
-        seen(opened)
+        lab.passes()
+        opened = lab.opened(wide=wide, high=high, before=sights(lab.farm, now))
         until(opened, "the jobs' owners", lambda it: any("dan" in row[4] for row in it["boards"]))
         opened.resize(wide, min(high, opened.ask("document.documentElement.scrollHeight")))
         opened.draw(os.path.join(folder, name))
@@ -131,15 +133,19 @@ def draw(room, browser, folder):
     lab.end()
 
 
-if __name__ == "__main__":
-    PROGRAM = os.path.realpath(sys.argv[1])
-    want_a_browser("page_pictures")
+def main() -> None:
+    if CHROMIUM is None:
+        sys.exit("page_pictures: there is no Chromium")
     target = sys.argv[2] if len(sys.argv) > 2 else os.path.join(TOP, "docs")
     work = tempfile.mkdtemp()
     try:
         chromium = Browser(work)
-        draw(work, chromium, target)
+        draw(os.path.realpath(sys.argv[1]), work, chromium, target)
         chromium.end()
     finally:
         # (Chromium may still write)
         shutil.rmtree(work, ignore_errors=True)
+
+
+if __name__ == "__main__":
+    main()

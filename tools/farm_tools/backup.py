@@ -70,7 +70,7 @@ it has fewer. Where no answer comes this is told, and the copy is kept."""
     option("--every", metavar="SECONDS", type=_seconds, default=1.0, help=about)
     about = "The program that checks a copy (default %(default)s, as the shell finds it)."
     option("--program", metavar="FILE", default="farm", help=about)
-    about = "Tell on standard error why a copy is made again."
+    about = "Tell on standard error why a copy is made again, and with which desk it is compared."
     option("--verbose", action="store_true", help=about)
     option("folder", metavar="DIR", help="Where the copies or the standby are.")
     return parser
@@ -123,6 +123,8 @@ def back_up(farm: copying.Farm, folder: str, options: argparse.Namespace) -> int
     try:
         if answered is not None:
             compare(farm.within(place), answered)
+            if options.verbose:
+                tell(f"compared with the desk at {options.server}: {answered} commands")
         name = copying.free_name(folder, began)
         os.rename(place, os.path.join(folder, name))
     except BaseException:

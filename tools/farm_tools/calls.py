@@ -76,6 +76,8 @@ class Desk:
         self.patience = patience
         # what is told, once, where a call gets no answer at first and is sent again
         self.tell_trouble: Callable[[str], None] = lambda trouble: None
+        # what is called before a command is given
+        self.tell_where: Callable[[], None] = lambda: None
         self.context: Optional[ssl.SSLContext] = None
         if address.scheme == "https":
             self.context = ssl.create_default_context(cafile=settings.ca_file)
@@ -102,12 +104,14 @@ class Desk:
     def tell(self, path: str, body: Body = None, key: Optional[str] = None) -> Dict[str, Any]:
         """Gives a command, again and again under its key until an answer comes; without a key it is
         sent once."""
+        self.tell_where()
         fields = {"x-key": key} if key else {}
         return self._answer("POST", path, _bytes_of(body), fields, key is not None)
 
     def nudge(self, path: str) -> Dict[str, Any]:
         """Gives a command that does no harm when it is done twice, a pass or a refresh, so it needs
         no key."""
+        self.tell_where()
         return self._answer("POST", path, None, {}, True)
 
     def stream(self, path: str, begin: int = 0) -> Iterator[bytes]:

@@ -2,7 +2,7 @@
 import argparse
 import os
 import sys
-from typing import Any, Callable, Dict, Optional, Sequence, Union
+from typing import Any, Callable, Dict, Optional, Sequence, TextIO, Union
 
 from farm_tools import (
     admin,
@@ -36,38 +36,73 @@ ACTIONS = {"extend": "refresh", "cancel-reservation": "cancel"}
 
 
 def main(words: Optional[Sequence[str]] = None) -> int:
-    options = options_of(sys.argv[1:] if words is None else words)
-    interrupts.catch_signals()
     try:
+        options = options_of(sys.argv[1:] if words is None else words)
+        interrupts.catch_signals()
         status = status_of(options)
         interrupts.ignore_signals()  # nothing is left to be interrupted
         return status
     except interrupts.Interrupted as it:
+        let_go(sys.stdout)
         return it.status
+    finally:
+        let_go(sys.stderr)
 
 
 def status_of(options: argparse.Namespace) -> int:
     """Does what the options ask for. Returns the exit status."""
     fault_status = holding.OF_ITSELF if options.does is holding.run_with_board else FAULT
+    where = Where()
     try:
         desk = calls.Desk(settings.read_settings("desk", options, options.asks_as), PATIENCE)
+        where.server = desk.server
+        desk.tell_where = where.tell
         desk.tell_trouble = Trouble(desk).tell
         options.clock = clocks.Watch(desk)
         status: int = options.does(desk, options)
         if status == 0 and not options.clock.has_looked:
             options.clock.look()
+        print(end="", flush=True)
         return status
     except calls.Refused as refusal:
+        where.tell()
         return told(REFUSED, f"refused: {refusal}")
     except waiting.Gone as end:
         return told(ENDED, str(end))
     except calls.NoAnswer as fault:
-        return told(fault_status, f"no answer from the desk: {fault}")
+        return told(fault_status, f"no answer from the desk at {where.server}: {fault}")
     except BrokenPipeError:
-        os.dup2(os.open(os.devnull, os.O_WRONLY), sys.stdout.fileno())
+        let_go(sys.stdout)
         return fault_status
     except (settings.BadSettings, OSError) as fault:
+        let_go(sys.stdout)
         return told(fault_status, str(fault))
+
+
+def let_go(stream: Optional[TextIO]) -> None:
+    """Drops what nobody takes of an output. Python would try it once more at its end, and end with
+    120."""
+    if stream is None:
+        return  # the client was started without it
+    try:
+        stream.flush()
+    except OSError:
+        os.dup2(os.open(os.devnull, os.O_WRONLY), stream.fileno())
+
+
+class Where:
+    """Tells whoever sits at a terminal which desk gets commands, or refuses, once, where that isn't
+    the default."""
+
+    def __init__(self) -> None:
+        self.server = settings.SERVER
+        self.is_told = False
+
+    def tell(self) -> None:
+        is_seen = sys.stderr is not None and sys.stderr.isatty()
+        if is_seen and not self.is_told and self.server != settings.SERVER:
+            self.is_told = True
+            told(0, f"the desk is at {self.server}")
 
 
 class Trouble:

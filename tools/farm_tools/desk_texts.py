@@ -6,7 +6,8 @@ Speaks with the desk of a board farm, at its address or through the proxy in fro
 command is sent under a fresh key (those of an import under keys made of the names), and again \
 under the same key where no answer came, so that it is done once. A refresh, which does no harm \
 when it is done twice, has no key. Where no answer comes at first it says so on standard error, \
-and tries again for a quarter of a minute.
+and tries again for a quarter of a minute. At a terminal it says on standard error, before its \
+first command and where it is refused, which desk that is, where it isn't the default.
 It warns on standard error where no pass has come for more than 30 seconds: where the desk's \
 clock, which every accepted command moves, is so old beside this machine's; while it waits, where \
 nothing but its own commands moved that clock for so long, or where free boards meet its claim for \
@@ -21,7 +22,11 @@ STATUSES = (
         "Refused by the desk, or in part: standard error has its code and text, and what is known "
         "beside; or a lab file that can't be taken; or there is no such log or board.",
     ),
-    ("4", "No answer from the desk, or bad settings, or a file that can't be read."),
+    (
+        "4",
+        "No answer from the desk, or bad settings, or a file that can't be read, or an output that "
+        "can't be written.",
+    ),
     ("125", "Of 'with': no board for the command, or the board couldn't be given back."),
     ("126", "Of 'with': the command can't be run."),
     ("127", "Of 'with': there is no such command."),

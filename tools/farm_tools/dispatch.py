@@ -8,15 +8,21 @@ import sys
 import time
 from typing import Any, Callable, Dict, List, Optional, Sequence
 
-from farm_tools import calls, folders, limits, parsers, settings
+from farm_tools import cages, calls, folders, limits, parsers, parts, settings, words as texts
 from farm_tools.clocks import UNSYNCHRONIZED, Clocks
-from farm_tools.dispatcher import Dispatcher
+from farm_tools.dispatcher import ADOPT, Dispatcher
+from farm_tools.runner import wake
 
 HOUR = 3600
 REFUSED, FAULT, NOT_STARTED = 3, 4, 5
 STANDS = (
     "a command can't be started ({}): until it can, nothing is started, no pass made, and no job "
     "finished by it"
+)
+TRIES, PAUSE = 40, 0.05
+NO_CAGE = (
+    "neither a cgroup nor a namespace of processes is made for a job: what a command leaves behind "
+    "is found by its environment and an open file alone, and a process that drops both lives on"
 )
 NO_TOML = "timeouts of jobs aren't read: this Python has neither tomllib nor tomli (python3-tomli)"
 # What options, environment and files may set: its value's word, its default, and what it is.
@@ -35,6 +41,31 @@ MORE = {
         "For how long a log that the proxy serves is kept, after the last that was added to it, "
         "where its job has ended; the one in the job's folder goes with that, after --keep",
     ),
+    "cage": (
+        "WORD",
+        "best",
+        "By what all processes of a job are found and ended: 'cgroup', a cgroup below its own "
+        "('Delegate=yes' of the unit); 'namespace', one of processes, in which sudo(8) doesn't "
+        "work; 'none', the environment and an open file, which a process can drop; 'best', the "
+        "first of these that can be made",
+    ),
+    "log_limit": (
+        "SIZE",
+        "100 MB",
+        "The bytes that are kept of what a job says, its head and its tail; a SIZE is a number, or "
+        "a text as '100 MB'",
+    ),
+    "folder_limit": (
+        "SIZE",
+        "10 GB",
+        "How large a job's folder may become before the job is ended, as by its time limit",
+    ),
+    "serves": (
+        "TAG",
+        "all boards",
+        "The boards whose groups it runs, by a tag as 'worker=rack2', where several dispatchers "
+        "share a desk; who serves a group's first board runs its command",
+    ),
     "clock": (
         "WORD",
         "synchronized",
@@ -50,20 +81,22 @@ each health check that a pass gave its boards, runs COMMAND for it, one process 
 the desk how it ended: Complete for status 0, Infra for 75 (--infra) and for a signal, Incomplete \
 for any other status and where the time limit ended it. The command of a job that is canceled, or \
 whose time limit is over, is sent SIGTERM, and SIGKILL after the grace.
-One dispatcher runs for a desk. It may be killed at any moment: commands go on, and the next one \
-on the same folder takes them up. Each group's command is begun once at most.
+One dispatcher runs for a desk, or for each part of its boards (--serves). It may be killed at any \
+moment: commands go on, and the next one on the same folder takes them up. Each group's command is \
+begun once at most, and its boards are given on when nothing lives of what it started.
 The command runs in a folder of its own, DIR/jobs/NUMBER, which has the job's text in 'job.toml' \
 and its boards in 'boards' and 'boards.json', and gets all that it says in 'log'. Its environment \
 has 'FARM_JOB', 'FARM_KIND', 'FARM_OWNER', 'FARM_PRIORITY', 'FARM_BOARD' (the first), \
-'FARM_BOARDS', 'FARM_TYPES', 'FARM_ROLES', 'FARM_JOB_FILE', 'FARM_BOARDS_FILE' and \
-'FARM_FOLDER'."""
+'FARM_BOARDS', 'FARM_TYPES', 'FARM_ROLES', 'FARM_MACHINES', 'FARM_JOB_FILE', 'FARM_BOARDS_FILE' \
+and 'FARM_FOLDER'."""
 STATUSES = (
     ("0", "It was ended by SIGTERM or SIGINT."),
     ("2", "Bad words, or a setting that there isn't."),
     ("3", "The desk refuses the user as its dispatcher."),
-    ("4", "Bad settings, or DIR can't be used or is in use by another dispatcher."),
+    ("4", "Bad settings, or DIR can't be used, or it or the boards are another dispatcher's."),
     ("5", "It was ended by SIGTERM or SIGINT while a command couldn't be started."),
 )
+
 
 class Stopped(BaseException):
     """SIGTERM or SIGINT came."""
@@ -92,23 +125,58 @@ def main(words: Optional[Sequence[str]] = None) -> int:
     dispatcher = None
     try:
         stops = Stops()
-        desk = calls.Desk(settings.read_settings("dispatch", options, "dispatcher"), patience=0)
+        own = settings.read_settings("dispatch", options, "dispatcher")
+        desk = calls.Desk(own, patience=0)
         use(options, settings.values_of("dispatch", options))
         place = os.path.realpath(options.folder)
         os.makedirs(place, mode=0o711, exist_ok=True)
-        lock = folders.take_lock(os.path.join(place, folders.LOCK))
+        if options.adopt:
+            return adopt(place, options.adopt)
+        lock = lock_of(place)
         if lock is None:
             return end(FAULT, f"{place} is in use by another farm-dispatch")
-        dispatcher = Dispatcher(desk, place, options)
+        part = parts.take(desk.server, options.serves)
+        dispatcher = Dispatcher(desk, place, options, own)
         clocks = Clocks(desk, place, options.clock == "synchronized")
-        print(f"passes every {options.every:g} s at {desk.server}, jobs in {place}", flush=True)
-        if limits.tomllib is None:
-            end(0, NO_TOML)
-        return serve(dispatcher, clocks, Wakes(place), stops)
+        tell_of_itself(desk, place, options)
+        status = serve(dispatcher, clocks, Wakes(place), stops)
+        part.close()
+        return status
     except Stopped:
         return NOT_STARTED if dispatcher and dispatcher.starts.fault else 0
-    except (settings.BadSettings, OSError) as fault:
+    except (settings.BadSettings, parts.Taken, OSError, ValueError) as fault:
         return end(FAULT, str(fault))
+
+
+def lock_of(place: str) -> Optional[int]:
+    """A folder's lock, which the process that a killed dispatcher just made may have for a
+    moment."""
+    for left in reversed(range(TRIES)):
+        lock = folders.take_lock(os.path.join(place, folders.LOCK))
+        if lock is not None or not left:
+            return lock
+        time.sleep(PAUSE)
+    return None
+
+
+def tell_of_itself(desk: calls.Desk, place: str, options: argparse.Namespace) -> None:
+    part = f", boards with {options.serves}" if options.serves else ""
+    print(f"passes every {options.every:g} s at {desk.server}, jobs in {place}{part}", flush=True)
+    if limits.tomllib is None:
+        end(0, NO_TOML)
+    if options.cage == cages.NONE:
+        end(0, NO_CAGE)
+
+
+def adopt(place: str, numbers: Sequence[int]) -> int:
+    """Lets the dispatcher of this folder take jobs whose folder was lost."""
+    folder = os.path.join(place, ADOPT)
+    os.makedirs(folder, mode=0o750, exist_ok=True)
+    for number in numbers:
+        folders.write_whole(os.path.join(folder, str(number)), "", 0o640)
+    wake(place)
+    print(f"{place}: {' '.join(map(str, numbers))}, once they are Running and have no folder")
+    return 0
 
 
 def parser_of() -> parsers.Parser:
@@ -135,20 +203,36 @@ more than 30 seconds old."""
     option("--keep", "DAYS", 30, seconds, about)
     about = "The command for health checks with its arguments, in one word (default COMMAND)."
     parser.add_argument("--check", metavar="WORDS", type=shlex.split, help=about)
+    about = """\
+Only lets the dispatcher of DIR take these jobs, '12,13', which run for the desk and were begun with
+a folder that is lost: they end as Infra. What began them has to be gone, as its machine is off, and
+stay so until they are Finished."""
+    parser.add_argument("--adopt", metavar="NUMBERS", type=numbers_of, help=about)
     group = settings.add_options(parser, "dispatch", "default dispatcher")
     for name, (metavar, default, about) in MORE.items():
         word = f"--{name.replace('_', '-')}"
         group.add_argument(word, metavar=metavar, help=f"{about} (default {default}).")
-    about = "What is run for a job: the script itself, without a shell or env(1) in front."
-    parser.add_argument("command", metavar="COMMAND", help=about)
-    about = "What the command gets as its arguments."
-    parser.add_argument("arguments", metavar="ARGUMENT", nargs=argparse.REMAINDER, help=about)
+    add_command(parser)
     return parser
 
 
+def add_command(parser: parsers.Parser) -> None:
+    """Adds the command, which is wanted where it doesn't adopt alone."""
+    about = "What is run for a job: the script itself, without a shell or env(1) in front."
+    parser.add_argument("command", metavar="COMMAND", nargs="?", help=about)
+    about = "What the command gets as its arguments."
+    parser.add_argument("arguments", metavar="ARGUMENT", nargs=argparse.REMAINDER, help=about)
+    runs = parsers.forms_of(parser)[0].replace(" [--adopt NUMBERS]", "")
+    adopts = "farm-dispatch [--folder DIR] --adopt NUMBERS"
+    parser.forms = (runs.replace("[COMMAND]", "COMMAND"), adopts)
+
+
 def options_of(words: Optional[Sequence[str]]) -> argparse.Namespace:
-    options = parser_of().parse_args(words)
-    options.command = from_anywhere([options.command, *options.arguments])
+    parser = parser_of()
+    options = parser.parse_args(words)
+    if options.command is None and not options.adopt:
+        parser.error("the following arguments are required: COMMAND")
+    options.command = from_anywhere([options.command or "true", *options.arguments])
     options.check = from_anywhere(options.check) if options.check else options.command
     return options
 
@@ -160,18 +244,42 @@ def from_anywhere(words: List[str]) -> List[str]:
 
 def use(options: argparse.Namespace, more: Dict[str, Optional[str]]) -> None:
     """Puts the settings that options, environment or files may have into the options."""
-    for name in ("limit", "most", "retry", "keep_logs"):
+    for name, of, like in (
+        *((it, time_of, "time, as '90 minutes'") for it in ("limit", "most", "retry", "keep_logs")),
+        *((it, limits.size_of, "size, as '100 MB'") for it in ("log_limit", "folder_limit")),
+    ):
         text = more[name] or MORE[name][1]
         try:
-            setattr(options, name, time_of(text))
+            setattr(options, name, of(text))
         except ValueError as fault:
-            raise settings.BadSettings(
-                f"{name}: {text!r} is no time, as '90 minutes' is one"
-            ) from fault
+            raise settings.BadSettings(f"{name}: {text!r} is no {like} is one") from fault
     options.limit = min(options.limit, options.most)
+    options.serves = more["serves"] or parts.ALL
+    if options.serves and not texts.TAGS.fullmatch(options.serves):
+        raise settings.BadSettings(f"serves: {options.serves!r} is no tag, as worker=rack2 is one")
+    options.cage = cage_of(more["cage"] or MORE["cage"][1])
     options.clock = more["clock"] or MORE["clock"][1]
     if options.clock not in ("synchronized", "any"):
         raise settings.BadSettings(f"clock: {options.clock!r} is neither synchronized nor any")
+
+
+def cage_of(word: str) -> str:
+    """The form of a cage that a word asks for."""
+    if word == "best":
+        return cages.best_form()
+    if word not in cages.FORMS:
+        raise settings.BadSettings(f"cage: {word!r} is none of best, {', '.join(cages.FORMS)}")
+    if not cages.can_make(word):
+        raise settings.BadSettings(f"cage: no {word} can be made here")
+    return word
+
+
+def numbers_of(text: str) -> List[int]:
+    """Numbers of jobs, with commas between."""
+    numbers = [int(it) for it in text.split(",")]
+    if not all(0 < it < 10**9 for it in numbers):
+        raise ValueError
+    return numbers
 
 
 def seconds(text: str) -> float:
@@ -222,7 +330,7 @@ def serve(dispatcher: Dispatcher, clocks: Clocks, wakes: "Wakes", stops: Stops) 
         if trouble != before:
             end(0, trouble or "it goes on")
         if passes:
-            due = time.monotonic() + dispatcher.options.every
+            due = time.monotonic() + dispatcher.turns.wait
         stops.check()
         wakes.wait(due)
 

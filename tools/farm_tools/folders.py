@@ -1,9 +1,15 @@
-"""A job's folder, in which the dispatcher and the process that runs the job tell each other what
-happened.
+"""A group's folders.
 
-    job.toml      the job's text             boards.json   the boards as JSON
-    boards        the boards, a line each    log           what its command said
-    about.json    what its history will say of it
+DIR/groups/N has what the dispatcher and the process that runs the group's command, its runner, tell
+each other; DIR/jobs/N is the job's own, which its command may write, and nothing is read from it.
+
+In DIR/groups/N are
+
+    about.json    its members, and what its history will say of it
+    job.toml      the job's text
+    boards.json   the boards
+    key           the key under which its start is told
+    made          a word of its own, by which a runner knows the folder that it was started for
     began         it was begun, once for all: nobody begins it again; when, by the machine's clock
                   that nobody sets, and its time limit, in seconds
     started       its command runs, or ran
@@ -12,21 +18,31 @@ happened.
     ended         how it ended
     finished      the desk knows how it ended
     unkeyed       the desk had no room to keep the reply to its start
+    log           what its command said: one file with DIR/logs/N and DIR/jobs/N/log
 
-`lock` is held as long as the process that runs the job, its command, or a child of that lives.
+and `lock`, which its runner holds as long as it lives. DIR/cages/N is the mark of the processes
+that its command started (farm_tools.cages), DIR/cages/N.lock what they hold where they have neither
+a cgroup nor a namespace. In DIR/jobs/N are job.toml, boards, boards.json and log.
+
+A folder of an earlier version has all of them in DIR/jobs/N; DIR/groups/N is a link to it then.
 """
+import contextlib
 import fcntl
+import json
 import os
-import signal
 import time
-from typing import Optional, Tuple
+from typing import Any, Dict, Iterator, List, Optional, Tuple
+
+from farm_tools import strangers
 
 BEGAN, STARTED, ENDED, FINISHED = "began", "started", "ended", "finished"
-CANCEL, LATE, UNKEYED = "cancel", "late", "unkeyed"
+CANCEL, LATE, UNKEYED, KEY, MADE = "cancel", "late", "unkeyed", "key", "made"
 LOCK, LOG, TEXT, BOARDS, ABOUT = "lock", "log", "job.toml", "boards", "about.json"
-COOKIE = "FARM_FOLDER"
+BOARD_ROWS = "boards.json"
+GROUPS, JOBS, CAGES = "groups", "jobs", "cages"
 READABLE = 0o644  # by the proxy's user and other tools too
-NOT_STARTED, TIME_LIMIT = "not started", "time limit"  # how `ended` begins then
+# How `ended` begins then.
+NOT_STARTED, TIME_LIMIT, FOLDER_LIMIT = "not started", "time limit", "folder limit"
 
 
 def sync_folder(folder: str) -> None:
@@ -48,7 +64,7 @@ def write_whole(file: str, text: str, mode: int = READABLE) -> None:
 
 def write_synced(file: str, text: str) -> None:
     """Writes a file whole or not at all, and waits until it is on the disk."""
-    with open(f"{file}.new", "w", encoding="utf-8", newline="") as new:
+    with open(f"{file}.new", "w", encoding="utf-8", errors="replace", newline="") as new:
         new.write(text)
         new.flush()
         os.fsync(new.fileno())
@@ -89,16 +105,18 @@ def line_of(text: str) -> bytes:
 
 def note(folder: str, text: str) -> None:
     """Adds a line to a job's log, where there is room for it."""
-    try:
-        with open(os.path.join(folder, LOG), "ab") as log:
-            log.write(line_of(text))
-    except OSError:
-        pass
+    flags = os.O_WRONLY | os.O_APPEND | os.O_NOFOLLOW | os.O_NONBLOCK | os.O_CLOEXEC
+    with contextlib.suppress(OSError):
+        opened = os.open(os.path.join(folder, LOG), flags)
+        try:
+            os.write(opened, line_of(text))
+        finally:
+            os.close(opened)
 
 
 def take_lock(file: str) -> Optional[int]:
     """The open file, locked until its last copy is closed, or None where another has the lock."""
-    opened = os.open(file, os.O_RDWR | os.O_CREAT | os.O_CLOEXEC, 0o640)
+    opened = os.open(file, os.O_RDWR | os.O_CREAT | os.O_CLOEXEC | os.O_NOFOLLOW, 0o640)
     try:
         fcntl.flock(opened, fcntl.LOCK_EX | fcntl.LOCK_NB)
     except BlockingIOError:
@@ -107,12 +125,36 @@ def take_lock(file: str) -> Optional[int]:
     return opened
 
 
-def claim(folder: str, limit: float = 0) -> bool:
-    """Notes that the job begins, and its time limit. False where that was noted before: of all that
-    ask, one alone is told True."""
-    file = os.path.join(folder, BEGAN)
+@contextlib.contextmanager
+def locked(folder: str) -> Iterator[bool]:
+    """Has a group's lock meanwhile, where its runner hasn't: says whether."""
+    lock = take_lock(os.path.join(folder, LOCK))
     try:
-        opened = os.open(file, os.O_WRONLY | os.O_CREAT | os.O_EXCL, 0o640)
+        yield lock is not None
+    finally:
+        if lock is not None:
+            os.close(lock)
+
+
+def claim(folder: str, limit: float = 0, ended: str = "") -> bool:
+    """Notes that the job begins, and its time limit, where the caller has the group's lock; or that
+    it never will, since it ended so. False where that was noted before: of all that ask, one alone
+    is told True. How an earlier try ended that was taken back goes first, so that it isn't taken
+    for this one's end; what was to say that it never begins stays."""
+    file = os.path.join(folder, BEGAN)
+    if os.path.exists(file):
+        return False
+    if ended:
+        write_synced(os.path.join(folder, ENDED), f"{ended}\n")
+    else:
+        said = strangers.text_in(os.path.join(folder, ENDED))
+        if said is not None and not said.startswith(NOT_STARTED):
+            return False
+        if said is not None:
+            os.unlink(os.path.join(folder, ENDED))
+            sync_folder(folder)
+    try:
+        opened = os.open(file, os.O_WRONLY | os.O_CREAT | os.O_EXCL | os.O_CLOEXEC, 0o640)
     except FileExistsError:
         return False
     try:
@@ -129,10 +171,9 @@ def begin_of(folder: str) -> Optional[Tuple[float, float]]:
     """When the job began, as time.monotonic() of this boot tells it, and its time limit. None where
     that isn't noted."""
     try:
-        with open(os.path.join(folder, BEGAN), encoding="utf-8") as file:
-            began, limit = file.read().split()
+        began, limit = (strangers.text_in(os.path.join(folder, BEGAN)) or "").split()
         return float(began), float(limit)
-    except (OSError, ValueError):
+    except ValueError:
         return None
 
 
@@ -141,49 +182,91 @@ def cancel(folder: str) -> Optional[float]:
     before."""
     file = os.path.join(folder, CANCEL)
     try:
-        with open(file, encoding="utf-8") as asked:
-            return time.monotonic() - float(asked.read())
-    except (OSError, ValueError):
+        return time.monotonic() - float(strangers.text_in(file) or "")
+    except ValueError:
         write_synced(file, f"{time.monotonic()}\n")
         return None
 
 
 def take_back(folder: str) -> bool:
     """Takes back that the job began, since its command couldn't be started: it may be begun again.
-    Returns False where the process that tried it lives still. Cut off in the middle it is to be
-    done again, as `ended` says."""
-    lock = take_lock(os.path.join(folder, LOCK))
-    if lock is None:
-        return False
-    try:
+    Returns False where the process that tried it lives still, or it ended otherwise. Cut off in the
+    middle it is to be done again, as `ended` says."""
+    with locked(folder) as is_mine:
+        if not is_mine:
+            return False
+        said = strangers.text_in(os.path.join(folder, ENDED))
+        if said is None or not said.startswith(NOT_STARTED):
+            return False
         for name in (BEGAN, ENDED):
             if os.path.exists(os.path.join(folder, name)):
                 os.unlink(os.path.join(folder, name))
                 sync_folder(folder)
-    finally:
-        os.close(lock)
     return True
 
 
 def is_locked(folder: str) -> bool:
-    """Whether the process that runs the job lives, or its command."""
-    lock = take_lock(os.path.join(folder, LOCK))
-    if lock is None:
-        return True
-    os.close(lock)
-    return False
+    """Whether the process that runs the job lives."""
+    with locked(folder) as is_mine:
+        return not is_mine
 
 
-def kill_processes_of(folder: str) -> None:
-    """Kills what a job's command left, whatever its group and session: the folder is in its
-    environment."""
-    cookie = f"{COOKIE}={folder}".encode()
-    for name in os.listdir("/proc"):
-        if not name.isdigit() or int(name) == os.getpid():
+class Files:
+    """The files of one group, in a dispatcher's folder."""
+
+    def __init__(self, place: str, number: int):
+        self.state = os.path.join(place, GROUPS, str(number))
+        self.work = os.path.join(place, JOBS, str(number))
+        self.mark = os.path.join(place, CAGES, str(number))
+
+    def are_there(self) -> bool:
+        return os.path.isdir(self.state)
+
+    def file(self, name: str) -> str:
+        return os.path.join(self.state, name)
+
+    def has(self, name: str) -> bool:
+        return os.path.lexists(self.file(name))
+
+    def text(self, name: str) -> Optional[str]:
+        """What one of its files says, in a line; None where there is none."""
+        said = strangers.text_in(self.file(name))
+        return None if said is None else said.strip()
+
+    def write(self, name: str, text: str) -> None:
+        write_synced(self.file(name), f"{text}\n")
+
+    def json(self, name: str) -> Any:
+        """What one of its files says as JSON; None where there is none."""
+        said = strangers.text_in(self.file(name))
+        return None if said is None else json.loads(said)
+
+    def cage_mark(self) -> str:
+        """The mark of what its command started; nothing where it started nothing, or an earlier
+        version did."""
+        return (strangers.text_in(self.mark) or "").strip()
+
+    def is_of_earlier_version(self) -> bool:
+        return os.path.islink(self.state)
+
+    def fill_work(self, rows: List[Dict[str, Any]], text: str) -> None:
+        """Makes the job's own folder, anew."""
+        new = os.path.join(os.path.dirname(self.work), f"new-{os.path.basename(self.work)}")
+        os.mkdir(new, 0o750)
+        lines = [f"{it['name']} {it['type']} {it['role'] or '-'} {it['job']}\n" for it in rows]
+        write_synced(os.path.join(new, TEXT), text)
+        write_synced(os.path.join(new, BOARDS), "".join(lines))
+        write_synced(os.path.join(new, BOARD_ROWS), json.dumps(rows, indent=1) + "\n")
+        os.rename(new, self.work)
+
+
+def link_earlier(place: str) -> None:
+    """Takes up the folders of jobs that an earlier version began and didn't finish."""
+    for name in os.listdir(os.path.join(place, JOBS)):
+        work, state = (os.path.join(place, it, name) for it in (JOBS, GROUPS))
+        is_earlier = name.isdigit() and os.path.lexists(os.path.join(work, BOARD_ROWS))
+        if not is_earlier or os.path.lexists(state):
             continue
-        try:
-            with open(f"/proc/{name}/environ", "rb") as environment:
-                if cookie in environment.read().split(b"\0"):
-                    os.kill(int(name), signal.SIGKILL)
-        except OSError:
-            continue  # it ended, or is another user's
+        if any(os.path.lexists(os.path.join(work, it)) for it in (ABOUT, BEGAN, LOCK)):
+            if not os.path.lexists(os.path.join(work, FINISHED)):
+                os.symlink(os.path.join("..", JOBS, name), state)

@@ -33,8 +33,10 @@ FIRST_HEALTH = "Maintenance"
 
 def main(words: Optional[Sequence[str]] = None) -> int:
     options = options_of(words)
+    server = settings.SERVER
     try:
         desk = calls.Desk(settings.read_settings("desk", options, "admin"), PATIENCE)
+        server = desk.server
         if options.set_health is not None:
             return set_health(desk, options.set_health)
         warn_of_clock(desk)
@@ -42,7 +44,7 @@ def main(words: Optional[Sequence[str]] = None) -> int:
     except calls.Refused as refusal:
         return told(REFUSED, f"refused: {refusal}")
     except calls.NoAnswer as fault:
-        return told(lab_file.FAULT, f"no answer from the desk: {fault}")
+        return told(lab_file.FAULT, f"no answer from the desk at {server}: {fault}")
     except (settings.BadSettings, lab_file.Unreadable, OSError, UnicodeDecodeError) as fault:
         return told(lab_file.FAULT, str(fault))
 

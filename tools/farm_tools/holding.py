@@ -4,11 +4,10 @@ import os
 import shutil
 import signal
 import subprocess
-import sys
 import time
 from typing import Any, Dict, List, Optional, Sequence, Tuple, Union
 
-from farm_tools import calls, waiting
+from farm_tools import calls, clocks, waiting
 from farm_tools.interrupts import SIGNALS, Interrupted, check
 
 OF_ITSELF, NOT_RUN, NOT_FOUND = 125, 126, 127
@@ -63,7 +62,7 @@ class Reservation:
             except calls.NoAnswer as silence:
                 fault = silence
             if isinstance(fault, calls.Refused) or time.monotonic() > until:
-                print(f"desk: {fault}: {self._left()}", file=sys.stderr)
+                clocks.tell(f"{fault}: {self._left()}")
                 return False
             time.sleep(1)
 
@@ -78,7 +77,7 @@ def run_with_board(desk: calls.Desk, options: argparse.Namespace) -> int:
     exit status."""
     status, fault = fault_of(options.words[0])
     if status:
-        print(f"desk: {options.words[0]}: {fault}", file=sys.stderr)
+        clocks.tell(f"{options.words[0]}: {fault}")
         return status
     reservation = Reservation(desk, options.tags, options.priority)
     try:
@@ -119,7 +118,7 @@ def ran_with(reservation: Reservation, options: argparse.Namespace) -> int:
         check()
         return run(options.words, board, number)
     except (calls.Refused, calls.NoAnswer, waiting.Gone) as fault:
-        print(f"desk: {fault}", file=sys.stderr)
+        clocks.tell(f"{fault}")
         return OF_ITSELF
 
 
@@ -147,7 +146,7 @@ def run(words: Sequence[str], board: Dict[str, Any], number: int) -> int:
     try:
         child = subprocess.Popen(words, env=environment, preexec_fn=unblock)
     except (OSError, subprocess.SubprocessError) as fault:
-        print(f"desk: {fault}", file=sys.stderr)
+        clocks.tell(f"{fault}")
         return NOT_RUN
     while child.poll() is None:
         came = signal.sigwaitinfo((*SIGNALS, signal.SIGCHLD))

@@ -8,7 +8,6 @@ from types import ModuleType
 from typing import List, Optional, Tuple
 
 
-
 def _reader() -> Optional[ModuleType]:
     """Python's own reader of TOML, or tomli before Python 3.11; None where neither is there."""
     for name in ("tomllib", "tomli"):
@@ -23,6 +22,9 @@ tomllib = _reader()
 UNITS = {"days": 86400, "hours": 3600, "minutes": 60, "seconds": 1}
 PART = re.compile(r"([0-9]+(?:\.[0-9]+)?) *(day|hour|minute|second)s?(?: *,? *|$)")
 LONGEST = 1e9
+SIZES = {"kB": 1000, "MB": 1000**2, "GB": 1000**3, "TB": 1000**4}
+SIZE = re.compile(r"([0-9]+(?:\.[0-9]+)?) *(kB|MB|GB|TB)?")
+LARGEST = 10**15
 
 
 class BadTime(ValueError):
@@ -77,6 +79,23 @@ def _parts_of(text: str) -> List[Tuple[str, str]]:
         found.append((part[1], part[2]))
         place = part.end()
     return found
+
+
+def size_of(text: str) -> int:
+    """The bytes of a size: a number of them, or `100 MB`."""
+    match = SIZE.fullmatch(text.strip())
+    if match is None:
+        raise BadTime(f"{text!r} isn't like '100 MB'")
+    size = float(match[1]) * SIZES.get(match[2] or "", 1)
+    if not 1 <= size <= LARGEST:
+        raise BadTime(f"{text!r} is no size")
+    return int(size)
+
+
+def size_words(size: int) -> str:
+    """A size in words: `100 MB`."""
+    unit = max((it for it in SIZES.items() if it[1] <= size), key=lambda it: it[1], default=None)
+    return f"{size / unit[1]:g} {unit[0]}" if unit else f"{size} bytes"
 
 
 def words_of(seconds: float) -> str:

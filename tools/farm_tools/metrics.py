@@ -18,7 +18,8 @@ HISTORY = "/var/lib/farm-dispatch/history.jsonl"
 ABOUT = """\
 Asks a desk for its status, its boards and its queue, and prints once, in Prometheus' text format, \
 what it counts. With --textfile it writes that into a file of node_exporter's textfile folder, by \
-a rename; with --listen it serves it on 127.0.0.1, and asks the desk at each request. It asks for \
+a rename; with --listen it serves it on 127.0.0.1, and asks the desk at each request, whose \
+address it tells first on standard error. It asks for \
 no view that grows with the farm's age."""
 STATUSES = (
     ("0", "Done; --listen: it was ended by a signal."),
@@ -42,6 +43,7 @@ def main(words: Optional[Sequence[str]] = None) -> int:
         counted = options.passes or beside
         metrics = Metrics(collecting.Collector(desk, options.history, counted, state))
         if options.listen is not None:
+            tell(f"asks the desk at {desk.server}")
             listen(metrics, options.listen)
         text = metrics.text()
         if options.textfile:

@@ -5,6 +5,7 @@ In a text 'words' in quotes are typed or shown as they stand, and a word in capi
 that an option or an argument names so."""
 import argparse
 import shutil
+import sys
 import textwrap
 from typing import Any, List, Optional, Sequence, Tuple
 
@@ -36,6 +37,14 @@ class Parser(argparse.ArgumentParser):
         self.section, self.settings_about = section, about
         self.settings = self.add_argument_group("settings")
         return self.settings
+
+    def _print_message(self, message: str, file: Any = None) -> None:
+        """Prints help, or what is wrong with the words, which isn't told where nobody is there."""
+        try:
+            super()._print_message(message, file)
+        except OSError:
+            if file is not sys.stderr:
+                raise
 
     def format_usage(self) -> str:
         self._lay_out()

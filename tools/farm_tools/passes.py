@@ -8,6 +8,9 @@ import time
 from farm_tools import folders
 
 FILE = "passes.json"
+LONGEST = 3  # periods that a dispatcher waits for others
+EARLIER = 0.9  # of the time that is left, so that who waited comes before who passed
+SHORTEST = 0.1
 
 
 @dataclasses.dataclass(frozen=True)
@@ -17,6 +20,27 @@ class Passes:
 
     count: int
     at: float
+
+
+class Turns:
+    """Whose turn a pass is, where several dispatchers share a desk: of those who wait it is the one
+    that waits longest. Each command moves the desk's clock, so what others do may look like a pass;
+    therefore nobody waits for more than three times the period."""
+
+    def __init__(self, every: float, is_shared: bool):
+        self.every, self.is_shared = every, is_shared
+        self.last = time.monotonic() - every
+        self.wait = every  # seconds until it is looked at again
+
+    def is_mine(self, clock: float) -> bool:
+        """Whether this one passes now, where the desk's clock says when the last command was."""
+        now, self.wait = time.monotonic(), self.every
+        age = time.time() - clock
+        if self.is_shared and 0 <= age < self.every and now - self.last < LONGEST * self.every:
+            self.wait = max(SHORTEST, EARLIER * (self.every - age))
+            return False
+        self.last = now
+        return True
 
 
 class Counter:

@@ -5,7 +5,7 @@ import os
 import time
 from typing import Any, Dict, Iterable, List, Optional, Set, Tuple
 
-from farm_tools import calls, folders, records, toml_text
+from farm_tools import calls, folders, records, strangers, toml_text
 from farm_tools.lab_file import MOST_WANTS
 from farm_tools.submissions import Submissions
 
@@ -24,29 +24,38 @@ class Past:
         self.history = records.History(place, is_open)
         self.submissions = Submissions(place)
 
-    def look(self) -> None:
+    def look(self) -> Dict[str, Any]:
         """Looks at the numbers that the desk has given, and shows the newest lines where there was
-        no room for them. A log whose number will be given again goes."""
-        following = self.desk.look("/status").get("next")
+        no room for them. A log whose number will be given again goes. Returns the desk's status."""
+        status = self.desk.look("/status")
+        following = status.get("next")
         if following is not None and self.submissions.note(following):
             for number, log in self._served_logs():
                 if number >= following:
                     os.unlink(log)
         if not self.history.is_shown:
             self.history.show()
+        return status
 
     def see(self, boards: List[Dict[str, Any]]) -> None:
         """Notes how the health of boards has changed."""
         self.history.see(boards)
 
-    def prepare(self, folder: str, members: List[Dict[str, Any]]) -> List[str]:
+    def expect(self, board: str, health: str, reason: str) -> None:
+        """Notes why a board's health is about to become this one."""
+        self.history.effects[board] = records.Effect(records.ALL_HEALTHS, health, reason)
+
+    def about(self, members: List[Dict[str, Any]]) -> Dict[str, Any]:
+        """What the history will say of a group that got its boards, by its members' views."""
+        return _about(members)
+
+    def prepare(self, folder: str, about: Dict[str, Any]) -> List[str]:
         """Notes in a group's folder what its history will say, and lets its log be served under the
         number of each member. Returns why it isn't, where it isn't."""
-        about = json.dumps(_about(members))
-        folders.write_synced(os.path.join(folder, folders.ABOUT), f"{about}\n")
+        folders.write_synced(os.path.join(folder, folders.ABOUT), f"{json.dumps(about)}\n")
         folders.make_log(folder)
         faults = []
-        for number in (it["number"] for it in members):
+        for number in (it["job"] for it in about["members"]):
             try:
                 log = os.path.join(folder, folders.LOG)
                 folders.link(log, os.path.join(self.logs, f"{number}"))
@@ -93,14 +102,11 @@ class Past:
 
     def _about_in(self, folder: str) -> Dict[str, Any]:
         """What stands in a group's folder; in one that an earlier version made, by the desk."""
-        try:
-            with open(os.path.join(folder, folders.ABOUT), encoding="utf-8") as file:
-                said: Dict[str, Any] = json.load(file)
-                return said
-        except FileNotFoundError:
-            pass
-        with open(os.path.join(folder, "boards.json"), encoding="utf-8") as file:
-            numbers = [it["job"] for it in json.load(file)]
+        said = strangers.text_in(os.path.join(folder, folders.ABOUT))
+        if said is not None:
+            return _checked(json.loads(said))
+        boards = json.loads(strangers.text_in(os.path.join(folder, folders.BOARD_ROWS)) or "[]")
+        numbers = [it["job"] for it in boards]
         try:
             return _about([self.desk.look(f"/jobs/{it}") for it in numbers])
         except calls.Refused as refusal:
@@ -137,6 +143,15 @@ def _about(members: List[Dict[str, Any]]) -> Dict[str, Any]:
             {"job": it["number"], "board": it["board"], "type": it["type"]} for it in members
         ],
     }
+
+
+def _checked(about: Any) -> Dict[str, Any]:
+    """What a group's folder says, where it is that."""
+    texts = [about["owner"], about["name"], *(it["board"] for it in about["members"])]
+    numbers = [it["job"] for it in about["members"]]
+    if not all(isinstance(it, str) for it in texts) or not all(type(it) is int for it in numbers):
+        raise strangers.Strange(f"{folders.ABOUT} isn't what the dispatcher wrote")
+    return dict(about)
 
 
 def _name_in(text: str) -> str:

@@ -17,6 +17,7 @@ MOST_SHOWN = 200
 CHECK = "health check"  # the name of a job that the desk makes itself
 BY_ADMIN = "by the admin"
 BLOCK = 65536
+ALL_HEALTHS = ("Good", "Unknown", "Maintenance")
 # The kinds of lines, each with its fields.
 FIELDS = {
     "job": (

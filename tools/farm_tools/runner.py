@@ -1,61 +1,82 @@
-"""Runs one job's command: python3 -m farm_tools.runner FOLDER GRACE DEFAULT MOST COMMAND ARGUMENT..
+"""Runs one group's command: python3 -m farm_tools.runner FOLDER ORDER COMMAND ARGUMENT..
 
 It stands between the dispatcher and the command, in a session of its own, so that the command goes
 on when the dispatcher is killed, and how it ended is found in the folder afterwards. Of two that
 are started for one folder one runs the command. It ends the command when the job's time limit is
-over. What the command leaves behind is killed.
+over, or its folder too large, writes the log, and notes the end when nothing is left of what the
+command started. FOLDER is the group's in DIR/groups, ORDER what the dispatcher's options say.
 """
 import contextlib
+import dataclasses
+import json
 import os
 import select
 import signal
-import subprocess
 import sys
 import time
-from typing import Optional, Sequence
+from typing import Optional, Sequence, Tuple
 
-from farm_tools import commands, folders, limits
+from farm_tools import cage_limits, cages, commands, folders, limits, logs, room, strangers
 
 LOOKS = 0.5
 RETRY = 1.0
-LOG_OPENED = os.O_WRONLY | os.O_APPEND | os.O_CREAT | os.O_CLOEXEC
+MEASURES = 10.0  # seconds between two looks at a folder's size
+DIES_WITHIN = 10.0  # seconds that what was killed has to be gone
+BLOCK = 65536
+
+
+@dataclasses.dataclass(frozen=True)
+class Order:
+    """What the dispatcher says of a group's run: `place` is its folder, `form` and `cgroup` how the
+    command is caged, times are in seconds and sizes in bytes."""
+
+    place: str
+    form: str
+    cgroup: str
+    grace: float
+    limit: float
+    most: float
+    log_limit: int
+    folder_limit: int
+    made: str
+
+    def word(self) -> str:
+        return json.dumps(dataclasses.asdict(self))
 
 
 def main(words: Sequence[str]) -> int:
-    folder, grace, command = words[0], float(words[1]), words[4:]
+    state, order, command = words[0], Order(**json.loads(words[1])), words[2:]
+    files = folders.Files(order.place, int(os.path.basename(state)))
     try:
-        lock = lock_of(folder)
-        limit = limits.limit_of(text_of(folder), float(words[2]), float(words[3]))
-        if lock is None or not folders.claim(folder, limit.seconds):
+        if order.form == cages.CGROUP:
+            cages.enter(order.cgroup)
+        lock = lock_of(state)
+        if lock is None or (files.text(folders.MADE) or "") != order.made:
+            return 0
+        text = strangers.text_in(files.file(folders.TEXT)) or ""
+        limit = limits.limit_of(text, order.limit, order.most)
+        if not room.with_room(order.place, lambda: folders.claim(state, limit.seconds)):
             return 0
     except FileNotFoundError:
         return 0  # the folder was removed: nobody waits for the job any more
     signal.signal(signal.SIGTERM, signal.SIG_IGN)
     signal.signal(signal.SIGHUP, signal.SIG_IGN)
-    how = ran(folder, grace, limit, command, lock)
-    keep_end(folder, how)
-    wake(os.path.dirname(os.path.dirname(folder)))
+    how = Run(files, order, limit).ran(command)
+    keep_end(order.place, state, how)
+    wake(order.place)
     return 0
 
 
-def keep_end(folder: str, how: str) -> None:
+def keep_end(place: str, state: str, how: str) -> None:
     """Notes how the job ended. Where there is no room for it this waits until there is: without
     the note a job that went well would be a lost one. Nobody waits where the folder was removed."""
-    while os.path.isdir(folder):
+    file = os.path.join(state, folders.ENDED)
+    while os.path.isdir(state):
         try:
-            folders.write_synced(os.path.join(folder, folders.ENDED), f"{how}\n")
+            room.with_room(place, lambda: folders.write_synced(file, f"{how}\n"))
             return
         except OSError:
             time.sleep(RETRY)
-
-
-def text_of(folder: str) -> str:
-    """The job's text, of which a health check has none."""
-    try:
-        with open(os.path.join(folder, folders.TEXT), encoding="utf-8", errors="replace") as file:
-            return file.read()
-    except FileNotFoundError:
-        return ""
 
 
 def lock_of(folder: str) -> Optional[int]:
@@ -69,52 +90,182 @@ def lock_of(folder: str) -> Optional[int]:
     return None
 
 
-def ran(
-    folder: str, grace: float, limit: limits.Limit, command: Sequence[str], lock: int
-) -> str:
-    """Runs the command. Returns `status N` or `signal N`, behind `time limit of TIME, ` where that
-    ended it, or `not started: ..`."""
-    try:
-        ended, wakes = os.pipe2(os.O_NONBLOCK | os.O_CLOEXEC)
-        signal.set_wakeup_fd(wakes)
-        signal.signal(signal.SIGCHLD, lambda *_: None)
-        for remark in limit.remarks:
-            note_once(folder, remark)
-        child = started(folder, command, lock)
-    except (OSError, subprocess.SubprocessError) as fault:
-        note_once(folder, str(fault))
-        return f"{folders.NOT_STARTED}: {fault}"
-    mark_started(folder)
-    late = wait_for(child.pid, folder, grace, limit, ended)
-    folders.kill_processes_of(folder)
-    send(child.pid, signal.SIGKILL)
-    status = child.wait()
-    how = f"status {status}" if status >= 0 else f"signal {-status}"
-    return f"{folders.TIME_LIMIT} of {limit.words()}, {how}" if late else how
+class Run:
+    """One run of a group's command."""
+
+    def __init__(self, files: folders.Files, order: Order, limit: limits.Limit):
+        self.files, self.order, self.limit = files, order, limit
+        lock = f"{files.mark}.lock"
+        self.cage = cages.Cage(order.form, order.cgroup, files.work, lock)
+        self.mark = ""
+        self.counts: cage_limits.Counts = {}
+        self.over = time.monotonic() + limit.seconds
+        self.measure = time.monotonic() + MEASURES
+        self.told: Optional[float] = None  # since when it is told to end
+        self.late = ""  # the limit that ended it
+        self.killed = False
+
+    def ran(self, command: Sequence[str]) -> str:
+        """Runs the command. Returns `status N` or `signal N`, behind the limit where one ended it,
+        or `not started: ..`, in which case nothing runs."""
+        try:
+            fault = commands.fault_of(command)
+            if fault:
+                raise OSError(fault)
+            log = logs.Log(self.files.file(folders.LOG), self.order.log_limit)
+            for remark in self.limit.remarks:
+                if not has_line(self.files.state, remark):
+                    log.note(remark)
+            said, says = os.pipe()
+            keeper, ends = self._started(command, says)
+        except OSError as refused:
+            note_once(self.files.state, str(refused))
+            return f"{folders.NOT_STARTED}: {refused}"
+        os.close(says)
+        os.set_blocking(said, False)
+        mark_started(self.files.state)
+        self._wait(keeper, ends, said, log)
+        how = self._ended(ends)
+        read_all(said, log)
+        for met in cage_limits.met_since(self.mark, self.counts):
+            log.note(met)
+        log.close(self.order.place)
+        return f"{self.late}, {how}" if self.late else how
+
+    def _started(self, command: Sequence[str], says: int) -> Tuple[cages.Kept, "Ends"]:
+        """Starts the command, whose cage is noted before. Where this raises OSError nothing ran,
+        and nothing will; where its keeper was killed before it could tell, it may have."""
+        os.makedirs(self.files.work, exist_ok=True)
+        environment = {**os.environ, cages.COOKIE: self.files.work}
+        keeper = cages.keep(self.cage, command, environment, says)
+        ends = Ends(keeper.told)
+        try:
+            self.mark = ends.after("mark")
+            self.counts = cage_limits.counts_of(self.mark)
+            note = f"{self.mark}\n"
+            room.with_room(self.order.place, lambda: folders.write_synced(self.files.mark, note))
+            os.write(keeper.go, b"g")
+            if ends.has_line():
+                ends.after("started")
+        except OSError:
+            with contextlib.suppress(ProcessLookupError):
+                os.kill(keeper.pid, signal.SIGKILL)
+            raise
+        return keeper, ends
+
+    def _ended(self, ends: "Ends") -> str:
+        """How the command ended, once nothing of it is left, or what is left can't be killed."""
+        if self.order.form == cages.NONE:
+            ends.wait_for_close(DIES_WITHIN)
+        cages.empty(self.mark, self.cage, DIES_WITHIN)
+        how = ends.how or f"signal {int(signal.SIGKILL)}"
+        is_killed = how == f"signal {int(signal.SIGKILL)}"
+        had_no_memory = is_killed and cage_limits.was_out_of_memory(self.mark)
+        return f"{how}, out of memory" if had_no_memory else how
+
+    def _wait(self, keeper: cages.Kept, ends: "Ends", said: int, log: logs.Log) -> None:
+        """Waits until the command has ended, and tells it to end once the folder says so or a limit
+        is over."""
+        lines = [keeper.told, said]
+        while not ends.are_there():
+            ready = select.select(lines, [], [], LOOKS)[0]
+            if said in ready and not read_some(said, log):
+                lines.remove(said)
+            if keeper.told in ready:
+                ends.read()
+            self._look(keeper, log)
+
+    def _look(self, keeper: cages.Kept, log: logs.Log) -> None:
+        """Looks whether the command has to end."""
+        now = time.monotonic()
+        if self.told is None:
+            over = self._limit_over(now)
+            if not over and not os.path.lexists(self.files.file(folders.CANCEL)):
+                return
+            self.told, self.late = now, over
+            if over:
+                log.note(f"the {over} is over: SIGTERM")
+            with contextlib.suppress(ProcessLookupError):
+                os.kill(keeper.pid, signal.SIGTERM)
+        elif now - self.told >= self.order.grace:
+            if not self.killed:
+                self.killed = True
+                told = limits.words_of(self.order.grace)
+                log.note(f"it goes on {told} after SIGTERM: SIGKILL")
+            cages.kill(self.mark, self.cage)
+
+    def _limit_over(self, now: float) -> str:
+        """The limit that is over, in words."""
+        if now >= self.over:
+            return f"{folders.TIME_LIMIT} of {self.limit.words()}"
+        if now >= self.measure:
+            if strangers.size_of(self.files.work) > self.order.folder_limit:
+                return f"{folders.FOLDER_LIMIT} of {limits.size_words(self.order.folder_limit)}"
+            self.measure = time.monotonic() + MEASURES
+        return ""
 
 
-def started(folder: str, command: Sequence[str], lock: int) -> "subprocess.Popen[bytes]":
-    """The command's process, once it runs. Its children have the folder's lock too. Where this
-    raises OSError nothing runs."""
-    fault = commands.fault_of(command)
-    if fault:
-        raise OSError(fault)
-    log = os.open(os.path.join(folder, folders.LOG), LOG_OPENED, 0o666)
+class Ends:
+    """What a keeper tells, line by line."""
+
+    def __init__(self, line: int):
+        self.line = line
+        self.text = b""
+        self.closed = False
+        self.how = ""
+
+    def has_line(self) -> bool:
+        """Waits for a line, and says whether there is one: else its keeper was killed."""
+        while b"\n" not in self.text and not self.closed:
+            self.read()
+        return b"\n" in self.text
+
+    def after(self, word: str) -> str:
+        """What the next line says behind a word. Raises OSError where it begins otherwise."""
+        self.has_line()
+        line, _, self.text = self.text.partition(b"\n")
+        first, _, rest = line.decode(errors="replace").partition(" ")
+        if first != word:
+            raise OSError(rest or "the process that starts the command was ended")
+        return rest
+
+    def read(self) -> None:
+        said = os.read(self.line, BLOCK)
+        self.closed |= not said
+        self.text += said
+
+    def are_there(self) -> bool:
+        """Whether the command has ended, or its keeper, which is how it was killed."""
+        if b"\n" in self.text:
+            line, _, self.text = self.text.partition(b"\n")
+            self.how = line.decode(errors="replace")
+        return bool(self.how) or self.closed
+
+    def wait_for_close(self, seconds: float) -> None:
+        until = time.monotonic() + seconds
+        while not self.closed:
+            left = max(0.0, until - time.monotonic())
+            if not select.select([self.line], [], [], left)[0]:
+                return
+            self.read()
+
+
+def read_some(said: int, log: logs.Log) -> bool:
+    """Adds what the command said to its log. False where nobody is left that could say more."""
     try:
-        return subprocess.Popen(
-            command,
-            cwd=folder,
-            env={**os.environ, folders.COOKIE: folder},
-            stdin=subprocess.DEVNULL,
-            stdout=log,
-            stderr=log,
-            start_new_session=True,
-            pass_fds=[lock],
-            preexec_fn=as_before,
-        )
-    finally:
-        with contextlib.suppress(OSError):
-            os.close(log)
+        text = os.read(said, BLOCK)
+    except BlockingIOError:
+        return True
+    log.add(text)
+    return bool(text)
+
+
+def read_all(said: int, log: logs.Log) -> None:
+    """Adds what is left to be read, where those that said it are gone."""
+    until = time.monotonic() + DIES_WITHIN
+    while time.monotonic() < until and select.select([said], [], [], 0)[0]:
+        if not read_some(said, log):
+            return
 
 
 def mark_started(folder: str) -> None:
@@ -123,54 +274,17 @@ def mark_started(folder: str) -> None:
         pass
 
 
-def as_before() -> None:
-    """Signals are to the command what they are to a program that a shell starts."""
-    signal.signal(signal.SIGTERM, signal.SIG_DFL)
-    signal.signal(signal.SIGHUP, signal.SIG_DFL)
-
-
-def wait_for(child: int, folder: str, grace: float, limit: limits.Limit, ended: int) -> bool:
-    """Waits until the child has ended, and tells it to end once the folder says so or its time
-    limit is over. Returns whether that was for the limit. It is left a zombie, so that its number
-    is its own until all that it left is killed."""
-    over = time.monotonic() + limit.seconds
-    told, late, killed = None, False, False
-    while True:
-        if select.select([ended], [], [], LOOKS)[0]:
-            os.read(ended, 4096)
-        if os.waitid(os.P_PID, child, os.WEXITED | os.WNOHANG | os.WNOWAIT) is not None:
-            return late
-        now = time.monotonic()
-        canceled = os.path.exists(os.path.join(folder, folders.CANCEL))
-        if told is None and (canceled or now >= over):
-            told, late = now, not canceled
-            if late:
-                folders.note(folder, f"the time limit of {limit.words()} is over: SIGTERM")
-            send(child, signal.SIGTERM)
-        elif told is not None and now - told >= grace:
-            if not killed:
-                killed = True
-                folders.note(folder, f"it goes on {limits.words_of(grace)} after SIGTERM: SIGKILL")
-            send(child, signal.SIGKILL)
+def has_line(folder: str, text: str) -> bool:
+    """Whether a line of the dispatcher's stands at the head of a log."""
+    with contextlib.suppress(OSError), open(os.path.join(folder, folders.LOG), "rb") as log:
+        return folders.line_of(text) in log.read(BLOCK)
+    return False
 
 
 def note_once(folder: str, text: str) -> None:
     """Adds a line to the log of a job that hasn't begun, where it doesn't stand there yet."""
-    try:
-        with open(os.path.join(folder, folders.LOG), "rb") as log:
-            if folders.line_of(text) in log.readlines():
-                return
-    except OSError:
-        pass
-    folders.note(folder, text)
-
-
-def send(group: int, number: int) -> None:
-    """Sends a signal to a group of processes, of which some may have ended or be another user's."""
-    try:
-        os.killpg(group, number)
-    except (ProcessLookupError, PermissionError):
-        pass
+    if not has_line(folder, text):
+        folders.note(folder, text)
 
 
 def wake(place: str) -> None:

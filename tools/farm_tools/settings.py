@@ -20,7 +20,9 @@ NO_LOGIN = "a server's address has no user and no password in it: --user and --p
 LOOPBACK = ("127.0.0.1", "localhost", "::1")
 WORDS = ("server", "user", "password_file", "ca_file", "timeout")
 OF_DESK = ("history",)
-OF_DISPATCH = ("limit", "most", "retry", "clock", "keep_logs")
+OF_DISPATCH = (
+    "limit", "most", "retry", "clock", "keep_logs", "cage", "log_limit", "folder_limit", "serves",
+)
 # The sections of a file, each with its settings.
 SECTIONS = {
     "desk": (*WORDS, *OF_DESK),
@@ -177,7 +179,7 @@ def address_of(server: str) -> urllib.parse.SplitResult:
         address = urllib.parse.urlsplit(server)
         if "@" in address.netloc:
             raise BadSettings(NO_LOGIN)
-        if address.scheme in ("http", "https") and address.hostname and (address.port or 1) > 0:
+        if address.scheme in ("http", "https") and address.hostname and address.port != 0:
             return address
     except ValueError:
         pass

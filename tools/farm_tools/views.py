@@ -63,6 +63,7 @@ def show_jobs(desk: calls.Desk, options: argparse.Namespace) -> int:
         except calls.Refused as refusal:
             if refusal.code != calls.NO_JOB:
                 raise
+            desk.tell_where()
             print(f"desk: job {number}: refused: {refusal}", file=sys.stderr, flush=True)
             status = REFUSED
     if options.text:

@@ -1,6 +1,6 @@
 """The events that farm-watch tells: how each is named, worded and addressed."""
 import time
-from typing import Any, Dict, List, Sequence
+from typing import Any, Dict, List, Sequence, Tuple
 
 from farm_tools import limits, tables, toml_text
 from farm_tools.watch_file import Rules
@@ -147,6 +147,31 @@ class Events:
             level=level, jobs=jobs, reservations=reservations,
         )
 
+    def room_low(self, paths: Tuple[str, ...], free: int, size: int) -> None:
+        """A file system fell below the limit of room."""
+        self._add(
+            "room", "room-low", f"{paths[0]}.{time.time_ns()}", "",
+            f"room is short at {paths[0]}: {bytes_of(free)} are free",
+            [
+                f"The file system of {' and '.join(paths)} has {bytes_of(free)} free of "
+                f"{bytes_of(size)}, less than {limits.size_words(self.rules.below or 0)}.",
+                "Where it is full the desk takes no command, and no job is started.",
+                "",
+                f"    df -h {paths[0]}",
+                f"    du -xh {paths[0]} | sort -h | tail",
+            ],
+            paths=list(paths), free=free, size=size,
+        )
+
+    def room_back(self, paths: Tuple[str, ...], free: int, since: int) -> None:
+        """There is room again."""
+        self._add(
+            "room", "room-back", f"{paths[0]}.{time.time_ns()}", "",
+            f"there is room again at {paths[0]}: {bytes_of(free)} are free",
+            [f"Room was short on the file system of {' and '.join(paths)} since {moment(since)}."],
+            paths=list(paths), free=free, since=since,
+        )
+
 
 ENDED = [
     ("NUMBER", lambda it: it["number"]),
@@ -163,6 +188,11 @@ def fullness(status: Dict[str, Any]) -> float:
     replies = REPLIES_OF_A_ROW * (jobs + reservations)
     parts = (jobs / MOST_JOBS, reservations / MOST_RESERVATIONS, replies / MOST_REPLIES)
     return 100 * float(max(parts))
+
+
+def bytes_of(size: int) -> str:
+    """A size in words, to three digits."""
+    return limits.size_words(int(float(f"{size:.3g}")))
 
 
 def moment(at: float) -> str:

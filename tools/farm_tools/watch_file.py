@@ -58,6 +58,8 @@ class Rules:
     late: Optional[float]
     levels: Tuple[int, ...]
     by: Dict[str, Tuple[str, ...]]
+    below: Optional[int] = None  # bytes of room
+    paths: Tuple[str, ...] = ()
 
 
 # ---- values: each reader says what is allowed
@@ -136,6 +138,21 @@ def levels_of(value: Any) -> Tuple[int, ...]:
     return tuple(sorted(set(value)))
 
 
+def size_of(value: Any) -> int:
+    try:
+        return limits.size_of(text_of(value))
+    except limits.BadTime as fault:
+        raise BadFile(f"{value!r} is no size, as \"5 GB\" is one") from fault
+
+
+def paths_of(value: Any) -> Tuple[str, ...]:
+    """Paths from / on, each once."""
+    found = value if isinstance(value, list) else [value]
+    if not found or not all(isinstance(it, str) and it.startswith("/") for it in found):
+        raise BadFile(f"{value!r} is no list of paths from / on, as [\"/var/lib/farm\"] is one")
+    return tuple(dict.fromkeys(found))
+
+
 def url_of(value: Any) -> str:
     try:
         address = urllib.parse.urlsplit(text_of(value))
@@ -196,11 +213,13 @@ TABLES: Dict[str, Dict[str, Callable[[Any], Any]]] = {
     "board": {"bad": flag_of, "free": claims_of, **BY},
     "pass": {"late": time_of(SHORTEST_LATE, LONGEST_LATE), **BY},
     "full": {"at": levels_of, **BY},
+    "room": {"below": size_of, "paths": paths_of, **BY},
 }
 # Which rules are told to an owner, and which to the admins.
 OF_OWNERS = (("hold", "remind"), ("hold", "end"), ("job", "ended"), ("board", "free"))
-OF_ADMINS = (("board", "bad"), ("pass", "late"), ("full", "at"))
-RULES = ("hold", "job", "board", "pass", "full")
+OF_ADMINS = (("board", "bad"), ("pass", "late"), ("full", "at"), ("room", "below"))
+RULES = ("hold", "job", "board", "pass", "full", "room")
+PATHS = ("/var/lib/farm", "/var/lib/farm-dispatch")  # whose room counts where none are named
 
 
 # ---- the file
@@ -255,6 +274,8 @@ class Reader:
             late=found["pass"].get("late"),
             levels=found["full"].get("at", ()),
             by=self.channels(found),
+            below=found["room"].get("below"),
+            paths=found["room"].get("paths", PATHS),
         )
         self.demand_sense(rules, found)
         return rules
@@ -322,6 +343,8 @@ class Reader:
         """Refuses rules that could tell nobody anything."""
         if not (rules.mail or rules.webhook):
             raise BadFile("there is neither [mail] nor [webhook], so nobody can be told")
+        if rules.below is None and "paths" in found["room"]:
+            raise self.fault(("room",), "below is missing: how much room there has to be")
         told = [(name, key) for name, key in OF_OWNERS + OF_ADMINS if found[name].get(key)]
         if not told:
             raise BadFile(f"it has no rule: nothing of {', '.join(f'[{it}]' for it in RULES)}")

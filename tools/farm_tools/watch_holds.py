@@ -3,7 +3,7 @@
 A hold's age counts from its deadline less a lease: from the moment at which its reservation was
 given its board, released or refreshed last. The desk shows deadlines in its view of all
 reservations alone, so that is asked for only once a hold is due by what is known of it; a refresh
-since then only moves that on.
+since then only moves that on. A hold that was reminded of may have been refreshed since, too.
 """
 import time
 from typing import Any, Callable, Dict, Optional
@@ -32,6 +32,7 @@ class Holds:
         self.told = told
         self.looked: Optional[float] = None
         self.later: Dict[str, float] = {}  # until when a hold that can't be ended is left
+        self.shown: Dict[str, float] = {}  # when the desk showed a hold's deadline last
 
     def note(self, seen: Seen, held: Dict[int, Dict[str, Any]], now: float) -> None:
         """Notes which boards are held by reservations that are acquired."""
@@ -48,6 +49,7 @@ class Holds:
             for key, board in acquired.items()
         }
         self.later = {key: it for key, it in self.later.items() if key in acquired}
+        self.shown = {key: it for key, it in self.shown.items() if key in acquired}
 
     def care(self, events: Events, now: float) -> None:
         """Reminds of the holds that are due, and ends those that are. Which may be ended is kept
@@ -70,7 +72,16 @@ class Holds:
         if self.later.get(key, 0.0) > time.monotonic():
             return False
         _, _, begin, reminded = seen["holds"][key]
-        return begin is None or self._is_over(begin, now) or self._is_to_tell(begin, reminded, now)
+        return (
+            begin is None or self._is_over(begin, now) or self._is_to_tell(begin, reminded, now)
+            or (reminded == begin and self._is_to_see(key, begin, now))
+        )
+
+    def _is_to_see(self, key: str, begin: int, now: float) -> bool:
+        """Whether a hold that was reminded of may be due again by a refresh since its deadline was
+        shown: it counts from that refresh, so not before that long has passed once more."""
+        remind = self.rules.remind
+        return remind is not None and self.shown.get(key, begin + remind) + remind <= now
 
     def _is_over(self, begin: Optional[int], now: float) -> bool:
         end = self.rules.end
@@ -89,6 +100,7 @@ class Holds:
         begin = row["deadline"] - LEASE
         _, _, _, reminded = seen["holds"].get(key, [None, None, None, None])
         if row["state"] == "acquired":
+            self.shown[key] = now
             seen["holds"][key] = [row["board"], row["owner"], begin, reminded]
         if self._is_over(begin, now) and (row["state"] == "acquired" or began_to_end):
             if self._end(key):

@@ -55,9 +55,10 @@ class Delivery(NamedTuple):
 
 
 # What was seen, by its kinds: the farm's own numbers; each board's health; open groups of jobs and
-# reservations that wait, with their owners; holds, and those that may be ended.
+# reservations that wait, with their owners; holds, and those that may be ended; file systems that
+# lack room.
 Seen = Dict[str, Dict[str, Any]]
-KINDS = ("farm", "boards", "groups", "waiting", "holds", "endings")
+KINDS = ("farm", "boards", "groups", "waiting", "holds", "endings", "room")
 
 
 def nothing() -> Seen:

@@ -12,7 +12,6 @@ import ssl
 import subprocess
 import tempfile
 import threading
-import time
 import urllib.parse
 from typing import Callable, Dict, Optional
 

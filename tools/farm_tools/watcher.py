@@ -13,6 +13,7 @@ from farm_tools.watch_file import Rules
 from farm_tools.watch_history import History
 from farm_tools.watch_holds import Holds
 from farm_tools.watch_passes import Passes
+from farm_tools.watch_room import Room
 from farm_tools.watch_store import Seen, Store, nothing
 
 MOST_JOBS = 200  # jobs that a look asks for one by one; the next look goes on
@@ -51,6 +52,7 @@ class Watcher:
         self.rules = rules
         self.passes = Passes(desk, rules.late or 0)
         self.history = History(desk)
+        self.room = Room(store, rules, told)
         self.holds = Holds(desk, store, rules, self.passes.note_own, told)
         self.checked: Optional[Set[str]] = None
         self.types = -1
@@ -117,6 +119,7 @@ class Watcher:
             return seen, False
         began: Seen = {
             **nothing(),
+            "room": seen["room"],
             "farm": {
                 "number": farm.get("number", 0) + 1,
                 "next": 1,

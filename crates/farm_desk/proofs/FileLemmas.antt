@@ -1,5 +1,6 @@
 -- From a store that was opened to the farm of its files.
 use Rattle.std.proofs.Common.{◌≡◌, sym, ap, subst, ◌∙◌, arith}
+use Rattle.std.specs.Prelude.{Result, Ok, Err, IfErr, IfOk, MatchResult}
 use Rattle.sqlite.specs.Effect.{Database}
 use Rattle.sqlite.specs.Files.{file_state, over_files}
 use Rattle.sqlite.specs.Held.{Held, state}
@@ -21,6 +22,21 @@ use Rattle.farm_keep.specs.KeeperState.{KeeperState}
 use Rattle.farm_keep.specs.declared.fault.KeepFault.{KeepFault}
 use Rattle.farm_desk.specs.InFiles.{AreFarms, AreFree, DeniesFarm, DeniesTables, FindsFarm, FindsTables, HoldsTables, IsFoundIn, ListFarm, ListNothing, MakesFarm, MakesTables, OpensTables, ShowsFiles}
 use Rattle.farm_serve.specs.declared.fault.DeskFault.{DeskFault}
+
+-- ---- two facts of one result
+
+pub both_err : {A E : Type 0} (r : Result A E) (P Q R : E → Type 0) → IfErr r P → IfErr r Q → ((e : E) → P e → Q e → R e) → IfErr r R
+both_err (Ok a) P Q R p q f = tt
+both_err (Err e) P Q R p q f = f e p q
+
+pub both_match : {A E : Type 0} (r : Result A E) (C P Q : A → Type 0) (N M R : E → Type 0) → IfOk r C → IfErr r N → MatchResult r P M → ((a : A) → C a → P a → Q a) → ((e : E) → N e → M e → R e)
+    → MatchResult r Q R
+both_match (Ok a) C P Q N M R ok err h f g = f a ok h
+both_match (Err e) C P Q N M R ok err h f g = g e err h
+
+pub ok_err_match : {A E : Type 0} (r : Result A E) (P Q : A → Type 0) (M R : E → Type 0) → IfOk r P → IfErr r M → ((a : A) → P a → Q a) → ((e : E) → M e → R e) → MatchResult r Q R
+ok_err_match (Ok a) P Q M R ok err f g = f a ok
+ok_err_match (Err e) P Q M R ok err f g = g e err
 
 -- ---- any store
 

@@ -1,5 +1,6 @@
 mod FileLemmas
 mod UpgradeLemmas
 mod LineLemmas
-mod PendingLemmas
 mod LabLemmas
+mod UnsentLemmas
+mod PendingLemmas

@@ -30,7 +30,11 @@ use Rattle.farm_keep.specs.Lives.{LeavesDone}
 use Rattle.farm_keep.specs.Versions.{LooksForFarm}
 use Rattle.farm_keep.specs.declared.fault.KeepFault.{KeepFault}
 use Rattle.farm_keep.specs.declared.keeper.run.RunEnd.{RunEnd}
+use Rattle.farm_serve.specs.Connections.{AreServedInTurn, Connection}
+use Rattle.farm_serve.specs.Imports.{IsImport}
+use Rattle.farm_serve.specs.Stops.{Do, GivesImported}
 use Rattle.farm_serve.specs.declared.fault.DeskFault.{DeskFault}
+use Rattle.farm_serve.specs.declared.lab_import.ImportEnd.{ImportEnd}
 
 -- ---- what the files hold
 
@@ -128,12 +132,15 @@ keep_fault (Ok done) = None
 keep_fault (Err (DeskFault.Keep fault)) = Some fault
 keep_fault (Err fault) = None
 
--- a database is found in the files, and its version was looked at before anything else of it; or
--- the store failed
+-- a database is found in the files, and its version was looked at before anything else of it
+abbrev pub LooksAtFiles : Image → (Database → Type 0) → Type 0
+LooksAtFiles image Looks = (db : Database) × IsFoundIn image db × Looks db
+
+-- so it is; or the store failed
 abbrev pub LooksIn : {A : Type 0} → (Option KeepFault → Database → Type 0) → Image
     → Result A DeskFault → Type 0
 LooksIn Looks image result = (result ≡ Err (DeskFault.Keep KeepFault.Store))
-    ⊎ ((db : Database) × IsFoundIn image db × Looks (keep_fault result) db)
+    ⊎ LooksAtFiles image (Looks (keep_fault result))
 
 -- so it is where a farm of this edition is looked for, on a disk that always returns what was
 -- written
@@ -208,3 +215,29 @@ LeavesFiles k it =
     → KeepsOwnFarm over_files old → Runs over_files old k end calls
     → (image : Image) → (files.state it).may_leave image
     → ∥ HoldsRun image old.farm.farm end calls ∥₁
+
+-- they hold the farm after the calls that these connections asked and did, with every call among
+-- them that was answered
+pub record HoldsServed (image : Image) (F : Farm) (connections : List Connection) : Type 0 where
+  pub done : List Call
+  pub does : Do F connections done
+  pub holds : HoldsFarm image (run F done)
+
+-- what a stop leaves of the files of this store, which the keeper had once connections were served:
+-- each holds the farm after what they did
+abbrev pub LeavesServedFiles : {D : Type 0} {g : Ghosts D} → Type 0 → KeeperState (FileStore D g)
+    → FileStore D g → Type 0
+LeavesServedFiles Sure k it =
+    IsClean (files.view it) → (old : KeeperState _) (connections : List Connection)
+    → KeepsOwnFarm over_files old → AreServedInTurn over_files Sure connections old k
+    → (image : Image) → (files.state it).may_leave image
+    → ∥ HoldsServed image old.farm.farm connections ∥₁
+
+-- and once a lab file's text was imported: each holds the farm after the calls of it that were done
+abbrev pub LeavesImportedFiles : {D : Type 0} {g : Ghosts D} → KeeperState (FileStore D g)
+    → FileStore D g → Type 0
+LeavesImportedFiles k it =
+    IsClean (files.view it) → (old : KeeperState _) (text : List ℕ) (now : ℕ) (end : ImportEnd)
+    → KeepsOwnFarm over_files old → IsImport over_files old k text now end
+    → (image : Image) → (files.state it).may_leave image
+    → ∥ GivesImported (HoldsFarm image) old.farm.farm text now end end.fault ∥₁

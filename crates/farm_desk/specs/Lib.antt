@@ -7,6 +7,7 @@ pub mod Reports
 pub mod Lines
 pub mod NewFile
 pub mod Pending
+pub mod Unsent
 pub mod Waiting
 pub mod ExitStatuses
 pub mod Tasks

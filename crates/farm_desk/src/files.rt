@@ -1,21 +1,19 @@
 //! Farms in files: opening one, making one, and bringing one of the first edition to this one.
 ghost use Rattle.std.specs.Prelude.{◌≡◌, false, IfOk, IfErr, IfSome};
-ghost use Rattle.sqlite.specs.Held.{state};
 ghost use Rattle.sqlite_wal.specs.Files.{image_at};
 ghost use Rattle.sqlite_wal.specs.Recovery.{Image};
-ghost use Rattle.farm_keep.specs.Headline.{IsAlwaysClean};
-ghost use Rattle.farm_keep.specs.Versions.{LooksForFarm, LooksForFirst};
-ghost use Rattle.farm_desk.specs.InFiles.{ShowsFiles, FindsTables, FindsFarm, MakesTables};
-ghost use Rattle.farm_desk.specs.InFiles.{MakesFarm, DeniesTables, HasReason, IsOpenFault};
-ghost use Rattle.farm_desk.specs.InFiles.{LooksForFarmIn, keep_fault};
+ghost use Rattle.farm_desk.specs.InFiles.{ShowsFiles, FindsFarm, MakesTables};
+ghost use Rattle.farm_desk.specs.InFiles.{MakesFarm, HasReason, IsOpenFault};
+ghost use Rattle.farm_desk.specs.InFiles.{LooksForFarmIn};
 ghost use Rattle.farm_desk.specs.Orders.{MakesNewFarm};
-ghost use Rattle.farm_desk.specs.Upgrades.{DeniesRaise, HasUpgradeReason, IsUpgradeFault};
+ghost use Rattle.farm_desk.specs.Upgrades.{HasUpgradeReason, IsUpgradeFault};
 ghost use Rattle.farm_desk.specs.Upgrades.{LooksForFirstIn};
-ghost use Rattle.farm_desk.specs.Upgrades.{RaisesFarm, RaisesTables};
+ghost use Rattle.farm_desk.specs.Upgrades.{RaisesFarm};
 
+use crate::at_hand::{find_on, raise_on};
 use crate::new_file::NewFile;
 use crate::preflight::Preflight;
-use farm_keep::{KeepFault, Keeper, migrate};
+use farm_keep::{KeepFault, Keeper};
 use farm_serve::DeskFault;
 use farm_store::opened_stands;
 use sqlite::{Alter, Connection, FileFrom, FileStore, Start};
@@ -60,8 +58,9 @@ pub fn open_farm<S: Start>(
 ) -> Result<FileKeeper<S>, DeskFault>
     ensures found { IfOk result (FindsFarm (image_at S.Start)) }
 
-    // On a disk that always returns what was written, the files are reported as bad only where they
-    // hold no sound farm, and as of an old schema only where their tables are of the first edition.
+    // As `at_hand::find_on` says of a disk that has so far returned what was written: the files are
+    // reported as bad only where they hold no sound farm, and as of an old schema only where their
+    // tables are of the first edition. No clause can name the disk here, which is let go of.
     ensures denied { HasReason (image_at S.Start) result }
 
     // Whatever else they hold, they are reported to be of an old schema only where their `meta` may
@@ -122,8 +121,7 @@ fn make_at<S: Start>(
     new_farm_on(alloc, conn).inspect_err(|_| preflight.clean_up(rt))
 }
 
-/// A keeper of the farm that files hold which were just opened. That its one call is of any store
-/// keeps its proof short.
+/// A keeper of the farm that files hold which were just opened; without one, they are closed.
 fn farm_on<D: Disk + Drop>(
     alloc: Global,
     conn: Connection<FileStore<D>>,
@@ -134,21 +132,10 @@ fn farm_on<D: Disk + Drop>(
     ensures version { (image : Image) → ShowsFiles image conn → LooksForFarmIn image result }
     ensures fault { IfErr result IsOpenFault }
 {
-    adopt(alloc, conn)
-}
-
-/// A keeper of the farm whose tables a connection holds that was just opened.
-fn adopt<S: Alter + Drop>(alloc: Global, conn: Connection<S>) -> Result<Keeper<S>, DeskFault>
-    requires { conn.in_transaction ≡ false }
-    ensures found { IfOk result (FindsTables S.Store conn) }
-    ensures denied { IsAlwaysClean S.Store → IfErr result (DeniesTables S.Store conn) }
-    ensures version { IsAlwaysClean S.Store
-        → LooksForFarm (keep_fault result) (state S.Store conn).now }
-    ensures fault { IfErr result IsOpenFault }
-{
-    opened_stands(&conn);
-    let keeper = Keeper::adopt(alloc, conn)?;
-    Ok(keeper)
+    match find_on(alloc, conn) {
+        Ok(keeper) => Ok(keeper),
+        Err(unkept) => Err(DeskFault::Keep(unkept.fault())),
+    }
 }
 
 /// A keeper of the empty farm over files that were just opened; its one call is of any store too.
@@ -189,8 +176,9 @@ pub fn migrate_farm<S: Start>(
 ) -> Result<Connection<FileStore<FileFrom<S>>>, DeskFault>
     ensures raised { IfOk result (RaisesFarm (image_at S.Start)) }
 
-    // On a disk that always returns what was written, the files are reported as bad only where they
-    // hold no sound farm of the first edition, and as new only where their tables are of this one.
+    // As `at_hand::raise_on` says of a disk that has so far returned what was written: the files are
+    // reported as bad only where they hold no sound farm of the first edition, and as new only where
+    // their tables are of this one. No clause can name the disk here, which is let go of.
     ensures denied { HasUpgradeReason (image_at S.Start) result }
 
     // Whatever else they hold, they are reported to be of a new schema only where their `meta` may
@@ -204,8 +192,8 @@ pub fn migrate_farm<S: Start>(
     raised_on(alloc, conn).inspect_err(|_| preflight.clean_up(rt))
 }
 
-/// The store over files that were just opened, once the farm in it is brought to this edition. That
-/// its one call is of any store keeps its proof short.
+/// The store over files that were just opened, once the farm in it is brought to this edition; else
+/// they are closed.
 fn raised_on<D: Disk + Drop>(
     alloc: Global,
     conn: Connection<FileStore<D>>,
@@ -217,22 +205,8 @@ fn raised_on<D: Disk + Drop>(
     ensures version { (image : Image) → ShowsFiles image conn → LooksForFirstIn image result }
     ensures fault { IfErr result IsUpgradeFault }
 {
-    raise(alloc, conn)
-}
-
-/// A store that was just opened, once the farm in it is brought to this edition.
-fn raise<S: Alter + Drop>(
-    alloc: Global,
-    mut conn: Connection<S>,
-) -> Result<Connection<S>, DeskFault>
-    requires { conn.in_transaction ≡ false }
-    ensures raised { IfOk result (RaisesTables S.Store conn) }
-    ensures denied { IsAlwaysClean S.Store → IfErr result (DeniesRaise S.Store conn) }
-    ensures version { IsAlwaysClean S.Store
-        → LooksForFirst (keep_fault result) (state S.Store conn).now }
-    ensures fault { IfErr result IsUpgradeFault }
-{
-    opened_stands(&conn);
-    migrate(alloc, &mut conn)?;
-    Ok(conn)
+    match raise_on(alloc, conn) {
+        Ok(raised) => Ok(raised),
+        Err(refused) => Err(DeskFault::Keep(refused.fault())),
+    }
 }

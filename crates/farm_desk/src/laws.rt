@@ -1,9 +1,10 @@
 //! What is proved of farms in files, and of the exit statuses.
 ghost use Rattle.farm_desk.specs.ExitStatuses.{ExitStatusesAgree};
-ghost use Rattle.farm_desk.specs.InFiles.{LeavesFiles};
+ghost use Rattle.farm_desk.specs.InFiles.{LeavesFiles, LeavesImportedFiles, LeavesServedFiles};
 ghost use Rattle.farm_desk.specs.Upgrades.{LeavesEitherFile};
 
 use farm_keep::Keeper;
+use farm_serve::Clients;
 use sqlite::{Connection, FileStore};
 use sqlite_disk::Disk;
 
@@ -13,6 +14,23 @@ use sqlite_disk::Disk;
 /// files that hold a farm has exactly that farm.
 pub fn stopped_files_hold<D: Disk + Drop>(keeper: Keeper<FileStore<D>>) -> FileStore<D>
     ensures { LeavesFiles keeper result }
+{
+    keeper.into_connection().into_store()
+}
+
+/// The crash prefix of what the program does, in files: whatever a stop leaves of the files of a
+/// keeper once clients were served, by whatever ended it, they hold the farm after calls that the
+/// clients' bytes ask, in their order, with every one that was answered whole. `AreServedInTurn` is
+/// what `farm_serve::serve` ensures of its clients, and holds of each front of them too.
+pub fn served_files_hold<D: Disk + Drop, K: Clients>(keeper: Keeper<FileStore<D>>) -> FileStore<D>
+    ensures { LeavesServedFiles K.Reader.never_fails keeper result }
+{
+    keeper.into_connection().into_store()
+}
+
+/// And of an import, by `IsImport`, which `farm_serve::import` ensures.
+pub fn imported_files_hold<D: Disk + Drop>(keeper: Keeper<FileStore<D>>) -> FileStore<D>
+    ensures { LeavesImportedFiles keeper result }
 {
     keeper.into_connection().into_store()
 }

@@ -3,19 +3,22 @@
 //! `converse`, `serve` and `import` are farm_serve's; `serve_on` serves the clients of a listener;
 //! `open_farm` and others are for farms in files; `program` is the program `farm`.
 //!
-//! Read `src/` in the order lab_files; pending, deadline_stream, socket_clients; new_file,
-//! preflight, files, open_files; report, orders, command_line; laws.
+//! Read `src/` in the order lab_files; deadline_stream, waiting, unsent, leavers, pending,
+//! socket_clients; new_file, preflight, at_hand, files, open_files; report, orders, command_line;
+//! laws.
 //!
-//! Read `specs/` in the order LabFiles; Pending, Waiting, who is served next; Preflight, NewFile,
+//! Read `specs/` in the order LabFiles; Pending, Unsent, Waiting, who is served next; Preflight, NewFile,
 //! InFiles, Upgrades, which farm files hold; Faults, Lines, Reports, what the program prints; Tasks,
 //! Orders, Program, what it does.
 #![tactic(auto)]
 
+mod at_hand;
 mod command_line;
 mod deadline_stream;
 mod files;
 mod lab_files;
 mod laws;
+mod leavers;
 mod new_file;
 mod open_files;
 mod orders;
@@ -23,14 +26,17 @@ mod pending;
 mod preflight;
 mod report;
 mod socket_clients;
+mod unsent;
+mod waiting;
 
 // Conversations with one client, and with one after another; imports; what ends them; and what is
 // proved of them, functions that only proofs read.
 pub use farm_serve::{
     Client, Clients, DeskFault, ImportEnd, Input, Output, ScriptedClient, ScriptedClients,
     ServedClient, answered_act_as_run, conversations_join, conversations_keep_a_prefix, converse,
-    converse_counted, converse_in_memory, converse_in_turn, import, request_answered_again, serve,
-    serve_in_memory,
+    converse_counted, converse_in_memory, converse_in_turn, desk_lives_keep_what_was_answered,
+    found_after_any_clients, found_after_import, found_after_serving, import,
+    request_answered_again, serve, serve_in_memory,
 };
 pub use socket_clients::serve_on;
 
@@ -47,4 +53,6 @@ pub use lab_files::LabFiles;
 pub use orders::{End, carry_out, carry_out_from};
 
 // What is proved of desks: functions that only proofs read.
-pub use laws::{statuses_agree, stopped_files_hold, upgraded_files_hold};
+pub use laws::{
+    imported_files_hold, served_files_hold, statuses_agree, stopped_files_hold, upgraded_files_hold,
+};

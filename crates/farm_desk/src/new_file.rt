@@ -2,17 +2,19 @@
 //! table. An open takes the size of the pages from there. A commit writes each page that it
 //! changes whole, and a farm's rows are short, so a new farm's pages are the shorter: 1,024 bytes,
 //! where `sqlite` alone would make such of 4,096.
-ghost use Rattle.std.specs.Prelude.{◌≡◌};
-ghost use Rattle.farm_desk.specs.NewFile.{page_head};
+ghost use Rattle.std.specs.Prelude.{◌≡◌, OnOk};
+ghost use Rattle.std.specs.Io.KnownBytes.{Appends};
+ghost use Rattle.farm_desk.specs.NewFile.{first_page, page_head};
 
 use sqlite::Start;
+use std::io::{self, Write};
 
 /// The bytes of the first page behind its head.
-pub(crate) const REST_OF_PAGE: usize = 916;
+const REST_OF_PAGE: usize = 916;
 
 /// The head of a database without a table (SQLite's file format, 1.3), and that of its one page, a
 /// leaf of the list of tables without a row (1.6).
-pub(crate) fn page_head() -> [u8; 108]
+fn page_head() -> [u8; 108]
     ensures { result ≡ page_head }
 {
     *b"SQLite format 3\0\
@@ -21,6 +23,15 @@ pub(crate) fn page_head() -> [u8; 108]
         \0\0\0\0\0\0\0\0\0\0\0\0\0\0\0\0\0\0\0\0\
         \0\0\0\0\0\0\0\0\0\0\0\0\0\0\0\0\0\x2e\x76\x88\
         \x0d\0\0\0\0\x04\0\0"
+}
+
+/// Writes the first page.
+pub(crate) fn write_first_page<W: Write>(writer: &mut W) -> io::Result<()>
+    ensures { OnOk result (Appends (W.contents writer.old) (W.contents writer.new) first_page) }
+{
+    writer.write_all(&page_head())?;
+    writer.write_all(&[0; REST_OF_PAGE])?;
+    Ok(())
 }
 
 /// What a new farm's file and its log held as they were opened: the first page, and nothing. As of

@@ -384,7 +384,9 @@ fn serve<W: Output, S: Alter>(
     let listener = listen(rt, port).map_err(|_| DeskFault::Read)?;
     print_line(output, port_line(port).as_bytes())?;
     let mut clients = SocketClients::new(rt.alloc(), &listener, max, rt, files);
-    farm_serve::serve(rt.alloc(), keeper, &mut clients, max)?;
+    let ended = farm_serve::serve(rt.alloc(), keeper, &mut clients, max);
+    clients.send_rest();
+    ended?;
     Ok(End::Done)
 }
 

@@ -1,38 +1,30 @@
-//! Connections that wait until their requests are there.
-ghost use Rattle.std.specs.Prelude.{◌≡◌, ◌⊎◌, ◌↔◌, ◌+◌, ◌-◌, ◌^◌, ◌<◌, false, take, is_some};
-ghost use Rattle.std.specs.Prelude.{if◌then◌else◌, IfSome, IsErrAnd, IsOkAnd, IsTrue};
+//! Connections that wait until their requests are there, and those whose answers wait.
+ghost use Rattle.std.specs.Prelude.{◌≡◌, ◌↔◌, ◌+◌, ◌-◌, ◌^◌, ◌<◌, false, is_some};
+ghost use Rattle.std.specs.Prelude.{if◌then◌else◌, IfSome, IsTrue};
 ghost use Rattle.std.specs.Duration.{as_nanos};
-ghost use Rattle.std.specs.IoError.{error_kind};
 ghost use Rattle.std.specs.Option.{option_map};
 ghost use Rattle.std.specs.VecDeque.{deque_items, deque_len};
-ghost use Rattle.std.specs.declared.io.ErrorKind.TheVariants.{WouldBlock};
-ghost use Rattle.farm_desk.specs.Pending.{IsDecided};
 
-use crate::deadline_stream::{ClientStream, is_shorter, limit};
-use farm_http::read_from_memory;
-use farm_types::{LONGEST_BODY, LONGEST_HEAD};
+use crate::deadline_stream::{ClientStream, is_shorter, shorter, time_left};
+use crate::leavers::{Leavers, Leaving};
+use crate::unsent::Unsent;
+use crate::waiting::{LONGEST_REQUEST, Look, Waiting};
 use mio::event::Event;
 use mio::unix::SourceFd;
 use mio::{Events, Interest, Poll, Token};
 use std::alloc::Global;
 use std::collections::VecDeque;
-use std::io::{self, ErrorKind};
+use std::io::ErrorKind;
 use std::net::{Net, TcpListener, TcpStream};
 use std::os::fd::AsRawFd;
+use std::rc::Rc;
 use std::time::{Clock, Duration};
 
-/// The most connections that wait here. Further ones wait in the system's queue.
+/// The most connections that wait here. Where they do, the oldest incomplete one goes for the next.
 const MOST_WAITING: usize = 1_024;
 
 /// The most events that are taken at once.
 const MOST_EVENTS: usize = 256;
-
-/// The most bytes that a request has.
-const LONGEST_REQUEST: usize = LONGEST_HEAD + LONGEST_BODY;
-
-/// A head behind more ends of lines than these isn't waited for, since each of them costs a look at
-/// all that came before it.
-const MOST_EMPTY: usize = 256;
 
 /// How long nobody is accepted after the system has refused to, in milliseconds.
 const PAUSE_MILLISECONDS: u64 = 100;
@@ -40,34 +32,28 @@ const PAUSE_MILLISECONDS: u64 = 100;
 /// The listener's token. A connection's is its number, in the order of arrival.
 const LISTENER: Token = Token(usize::MAX);
 
-/// A connection, its number, and when it was accepted.
-#[derive(Drop)]
-struct Waiting {
-    number: usize,
-    stream: TcpStream,
-    since: Duration,
-}
-
 /// The connections of a listener, from their accept until their requests are there, or the time is
-/// over. Those that wait cost the others nothing: the bytes of a request wait in the system's
-/// buffer, which holds the longest one, and are looked at when some came. Among those whose
-/// requests are complete the first that came is the next.
+/// over; and those that were served, until their answers are taken. Those that wait cost the others
+/// nothing: the bytes of a request wait in the system's buffer, which holds the longest one, and are
+/// looked at when some came. Among those whose requests are complete the first that came is the
+/// next.
 ///
 /// There is a place for each that may wait from the start, so a place takes no memory later, and
-/// whoever is accepted is served. The `incomplete` ones, whose requests aren't there, are
-/// registered; both rows are in the order of arrival.
+/// whoever is accepted is served, unless so many wait that the oldest incomplete one goes. The
+/// `incomplete` ones, whose requests aren't there, and the `leavers` are registered; all rows are in
+/// the order of their numbers.
 ///
 /// Each connection costs two binary searches in its row, one shift of the shorter side of each, and
 /// a look at the bytes of its request for each time that some came.
 #[derive(Drop)]
 pub(crate) struct Pending {
-    alloc: Global,
     poll: Poll,
     events: Events,
     bytes: Vec<u8>,
     incomplete: VecDeque<Waiting>,
     ready: VecDeque<Waiting>,
-    accepted: usize,
+    leavers: Leavers,
+    numbered: usize,
     to_accept: u64,
     has_arrivals: bool,
     refused: u64,
@@ -75,9 +61,9 @@ pub(crate) struct Pending {
 }
 
 impl Pending {
-    ghost use Rattle.farm_desk.specs.Waiting.{limit_left, outstanding, pause_left, shorter, time_of};
+    ghost use Rattle.farm_desk.specs.Waiting.{leaver_left, limit_left, outstanding, pause_left, shorter, time_of};
     ghost use Rattle.farm_desk.specs.Waiting.{IsDue, IsOverdue, IsPaused, IsUntouched, LosesNobody};
-    ghost use Rattle.farm_desk.specs.Waiting.{TakesNext};
+    ghost use Rattle.farm_desk.specs.Waiting.{TakesNext, LetsOldestGo, MakesPlace, Refuses, Stay};
 
     /// The first `max` connections of a listener, none of which was accepted yet; none where the
     /// system or the memory refuses what that takes, and then the listener is as it was.
@@ -91,22 +77,23 @@ impl Pending {
     {
         let poll = Poll::new(net).ok()?;
         let events = Events::with_capacity(alloc, MOST_EVENTS).ok()?;
-        let bytes = Vec::from_elem(alloc, 0u8, LONGEST_REQUEST + 1).ok()?;
+        let bytes = Vec::from_elem(alloc, 0u8, LONGEST_REQUEST).ok()?;
         let incomplete = VecDeque::with_capacity(alloc, MOST_WAITING).ok()?;
         let ready = VecDeque::with_capacity(alloc, MOST_WAITING).ok()?;
+        let leavers = Leavers::new(alloc)?;
         let fd = listener.as_raw_fd();
         poll.registry()
             .register(&mut SourceFd(&fd), LISTENER, Interest::READABLE)
             .ok()?;
         listener.set_nonblocking(true).ok()?;
         Some(Pending {
-            alloc,
             poll,
             events,
             bytes,
             incomplete,
             ready,
-            accepted: 0,
+            leavers,
+            numbered: 0,
             to_accept: max,
             has_arrivals: true,
             refused: 0,
@@ -115,7 +102,7 @@ impl Pending {
     }
 
     /// The next connection whose request is there, or whose time is over; none for one that the
-    /// system refused. It waits until there is one.
+    /// system refused, or that went for others. It waits until there is one.
     pub(crate) fn next_client<C: Clock>(
         &mut self,
         listener: &TcpListener,
@@ -126,9 +113,10 @@ impl Pending {
     {
         let mut now = clock.monotonic().ok();
         for _ in 0..u64::MAX {
+            self.leavers.cut_overdue(now);
             self.accept_all(listener, now);
             // Who waits is looked at before whoever came now, also while there is always one ready.
-            if self.has_next(now) && !self.incomplete.is_empty() {
+            if self.has_next(now) && self.has_registered() {
                 self.poll_events(Some(Duration::ZERO));
             }
             if self.has_next(now) {
@@ -139,6 +127,11 @@ impl Pending {
             now = clock.monotonic().ok();
         }
         self.take_next(now)
+    }
+
+    /// Whether somebody beside the listener is registered.
+    fn has_registered(&self) -> bool {
+        !self.incomplete.is_empty() || !self.leavers.is_empty()
     }
 
     /// Whether nothing is to be waited for: somebody is ready, or timed out, or was refused, or
@@ -159,7 +152,7 @@ impl Pending {
     {
         if !self.has_first_timed_out(now) {
             if let Some(waiting) = self.ready.pop_front() {
-                return Some(ClientStream::new(waiting.stream, true));
+                return Some(ClientStream::new(waiting.stream, false));
             }
             if self.refused > 0 {
                 self.refused -= 1;
@@ -174,7 +167,7 @@ impl Pending {
         Some(ClientStream::new(waiting.stream, false))
     }
 
-    /// Accepts those that came, as far as there is room.
+    /// Accepts those that came, as far as there is room beside those that are ready.
     fn accept_all(&mut self, listener: &TcpListener, now: Option<Duration>)
         // Nobody is accepted for a while once the system has refused to.
         ensures paused { IsPaused now self.old.paused_until → self.new ≡ self.old }
@@ -184,49 +177,90 @@ impl Pending {
         if times.is_some_and(|(until, now)| is_shorter(now, until)) {
             return;
         }
+        let mut may_go = true;
         for _ in 0..MOST_WAITING {
-            let waiting = self.incomplete.len().saturating_add(self.ready.len());
-            if !self.has_arrivals || self.to_accept == 0 || waiting >= MOST_WAITING {
+            if !self.has_arrivals || self.to_accept == 0 || self.ready.len() >= MOST_WAITING {
                 return;
             }
             match listener.accept() {
                 Ok((stream, _)) => {
-                    self.to_accept -= 1;
-                    if self.add(stream, now).is_none() {
-                        self.refused = self.refused.saturating_add(1);
-                    }
+                    may_go = true;
+                    self.take_in(stream, now);
                 }
                 Err(error) if error.kind() == ErrorKind::WouldBlock => self.has_arrivals = false,
                 Err(_) => {
-                    self.to_accept -= 1;
-                    self.refused = self.refused.saturating_add(1);
-                    let pause = Duration::from_millis(PAUSE_MILLISECONDS);
-                    self.paused_until = now.map(|now| now.saturating_add(pause));
-                    return;
+                    if self.refuse(now, may_go) {
+                        return;
+                    }
+                    may_go = false;
                 }
             }
         }
     }
 
+    /// Takes in a connection that was accepted; where all places are taken the oldest incomplete
+    /// one goes for it.
+    fn take_in(&mut self, stream: TcpStream, now: Option<Duration>)
+        requires { 0 < self.old.to_accept }
+        ensures all { LosesNobody self.old self.new }
+        ensures place { MakesPlace self.old self.new }
+        ensures arrivals { self.new.has_arrivals ≡ self.old.has_arrivals }
+    {
+        self.to_accept -= 1;
+        if self.incomplete.len().saturating_add(self.ready.len()) >= MOST_WAITING {
+            self.let_oldest_go();
+        }
+        if self.add(stream, now).is_none() {
+            self.refused = self.refused.saturating_add(1);
+        }
+    }
+
+    /// Counts a connection that the system refused to accept. Where it wants what another has, as a
+    /// descriptor, the oldest incomplete one goes if it may; else nobody is accepted for a while,
+    /// and that is returned.
+    fn refuse(&mut self, now: Option<Duration>, may_go: bool) -> bool
+        requires { 0 < self.old.to_accept }
+        ensures { Refuses now may_go self.old self.new result }
+    {
+        self.to_accept -= 1;
+        self.refused = self.refused.saturating_add(1);
+        if may_go && self.let_oldest_go() {
+            return false;
+        }
+        let pause = Duration::from_millis(PAUSE_MILLISECONDS);
+        self.paused_until = now.map(|now| now.saturating_add(pause));
+        true
+    }
+
+    /// Closes the oldest incomplete connection, and counts it as refused; none where there is none.
+    fn let_oldest_go(&mut self) -> bool
+        ensures { LetsOldestGo self.old self.new result }
+    {
+        if self.incomplete.is_empty() {
+            return false;
+        }
+        let _ = self.incomplete.pop_front();
+        self.refused = self.refused.saturating_add(1);
+        true
+    }
+
     /// Adds a connection, to the ready ones where its request is complete; none where the system
-    /// refuses.
+    /// refuses, or where it sent too many empty lines.
     fn add(&mut self, stream: TcpStream, now: Option<Duration>) -> Option<()>
         ensures one { outstanding self.new
             ≡ outstanding self.old + (if is_some result then 1 else 0) }
-        ensures number { IfSome result (λ _. self.old.accepted + 1 < 2 ^ 64
-            → self.new.accepted ≡ self.old.accepted + 1) }
+        ensures number { IfSome result (λ _. self.old.numbered + 1 < 2 ^ 64
+            → self.new.numbered ≡ self.old.numbered + 1) }
+        ensures others { Stay (deque_items self.old.incomplete) (deque_items self.new.incomplete) }
         ensures arrivals { self.new.has_arrivals ≡ self.old.has_arrivals }
     {
         stream.set_nonblocking(true).ok()?;
-        let number = self.accepted;
-        self.accepted = number.wrapping_add(1);
-        let waiting = Waiting {
-            number,
-            stream,
-            since: now.unwrap_or(Duration::ZERO),
-        };
-        if is_complete(self.alloc, &waiting.stream, self.bytes.as_mut_slice()) {
-            return self.ready.push_back(waiting).ok();
+        let number = self.next_number();
+        let mut waiting = Waiting::new(number, stream, now.unwrap_or(Duration::ZERO));
+        match waiting.look(self.bytes.as_mut_slice()) {
+            Look::Done => return self.ready.push_back(waiting).ok(),
+            Look::Empty => return None,
+            Look::Open => {}
         }
         let fd = waiting.stream.as_raw_fd();
         self.poll
@@ -236,18 +270,74 @@ impl Pending {
         self.incomplete.push_back(waiting).ok()
     }
 
+    /// The next number.
+    fn next_number(&mut self) -> usize
+        ensures number { self.old.numbered + 1 < 2 ^ 64
+            → self.new.numbered ≡ self.old.numbered + 1 }
+        ensures all { outstanding self.new ≡ outstanding self.old }
+        ensures incomplete { self.new.incomplete ≡ self.old.incomplete }
+        ensures arrivals { self.new.has_arrivals ≡ self.old.has_arrivals }
+        ensures result { result ≡ self.old.numbered }
+    {
+        let number = self.numbered;
+        self.numbered = number.wrapping_add(1);
+        number
+    }
+
+    /// Lets the rest of a client's answer wait aside, where the system lets it.
+    pub(crate) fn put_aside(
+        &mut self,
+        client: Rc<ClientStream>,
+        unsent: Unsent,
+        since: Option<Duration>,
+    )
+        ensures { outstanding self.new ≡ outstanding self.old }
+    {
+        let number = self.next_number();
+        let fd = client.stream.as_raw_fd();
+        let registry = self.poll.registry();
+        let _ = registry.deregister(&mut SourceFd(&fd));
+        let registered = registry.register(&mut SourceFd(&fd), Token(number), Interest::WRITABLE);
+        if registered.is_ok() {
+            self.leavers.add(Leaving {
+                number,
+                client,
+                unsent,
+                since: since.unwrap_or(Duration::ZERO),
+            });
+        }
+    }
+
+    /// Waits until those whose answers wait aside took them, or their time is over.
+    pub(crate) fn send_rest<C: Clock>(&mut self, clock: &C) {
+        for _ in 0..u64::MAX {
+            if self.leavers.is_empty() {
+                return;
+            }
+            let now = clock.monotonic().ok();
+            self.leavers.cut_overdue(now);
+            let until = self.leavers.limit_left(now.unwrap_or(Duration::ZERO));
+            if self.poll.poll(&mut self.events, until).is_err() {
+                return;
+            }
+            for event in self.events.iter() {
+                self.leavers.send(event.token().0);
+            }
+        }
+    }
+
     /// Whether the time of the first incomplete connection is over, or the clock can't be read.
     fn has_first_timed_out(&self, now: Option<Duration>) -> bool
         ensures { IsTrue result ↔ IsOverdue now (deque_items self.now.incomplete) }
     {
-        match (self.incomplete.front(), now) {
-            (Some(first), Some(now)) => is_shorter(limit(), now.saturating_sub(first.since)),
-            (first, _) => first.is_some(),
+        match self.incomplete.front() {
+            Some(first) => first.has_timed_out(now),
+            None => false,
         }
     }
 
-    /// Waits so long at most until bytes or connections came, and moves those whose requests are
-    /// complete to the ready ones.
+    /// Waits so long at most until bytes, room for bytes or connections came, moves those whose
+    /// requests are complete to the ready ones, and sends what waits aside.
     fn poll_events(&mut self, until: Option<Duration>)
         ensures { LosesNobody self.old self.new }
     {
@@ -256,8 +346,11 @@ impl Pending {
         }
         for event in self.events.iter() {
             self.has_arrivals |= event.token() == LISTENER;
+            if event.is_writable() {
+                self.leavers.send(event.token().0);
+            }
             let (bytes, incomplete) = (self.bytes.as_mut_slice(), &mut self.incomplete);
-            let lost = move_complete(self.alloc, event, bytes, incomplete, &mut self.ready);
+            let lost = move_complete(event, bytes, incomplete, &mut self.ready);
             self.refused = self.refused.saturating_add(lost);
         }
     }
@@ -265,30 +358,34 @@ impl Pending {
     /// How long to wait at most.
     fn time_left(&self, now: Option<Duration>) -> Option<Duration>
         ensures { option_map as_nanos result ≡ shorter (pause_left (time_of now) self.now.paused_until)
-            (limit_left (time_of now) (deque_items self.now.incomplete)) }
+            (shorter (limit_left (time_of now) (deque_items self.now.incomplete))
+            (leaver_left (time_of now) (deque_items self.now.leavers.row))) }
     {
         let now = now.unwrap_or(Duration::ZERO);
         let pause = match self.paused_until {
             Some(until) if is_shorter(now, until) => Some(until.saturating_sub(now)),
             _ => None,
         };
-        let Some(first) = self.incomplete.front() else {
-            return pause;
-        };
-        // A millisecond beyond the limit the time is over.
-        let limit = limit().saturating_add(Duration::from_millis(1));
-        let left = first.since.saturating_add(limit).saturating_sub(now);
-        match pause {
-            Some(pause) if is_shorter(pause, left) => Some(pause),
-            _ => Some(left),
-        }
+        shorter(
+            pause,
+            shorter(self.limit_left(now), self.leavers.limit_left(now)),
+        )
+    }
+
+    /// How long until the time of the first incomplete connection is over.
+    fn limit_left(&self, now: Duration) -> Option<Duration>
+        ensures { option_map as_nanos result
+            ≡ limit_left (as_nanos now) (deque_items self.now.incomplete) }
+    {
+        let first = self.incomplete.front()?;
+        Some(time_left(first.since, now))
     }
 }
 
 /// Moves the connection that an event names to the ready ones, in the order of arrival, where its
-/// request is complete. Returns how many were lost for want of memory: none or that one.
+/// request is complete. Returns how many were lost, for want of memory or since they sent too many
+/// empty lines: none or that one.
 fn move_complete(
-    alloc: Global,
     event: &Event,
     bytes: &mut [u8],
     incomplete: &mut VecDeque<Waiting>,
@@ -298,63 +395,21 @@ fn move_complete(
         ≡ deque_len incomplete.old + deque_len ready.old }
 {
     let number = event.token().0;
-    let place = incomplete.partition_point(|it| it.number < number);
     let is_over = event.is_read_closed() || event.is_error();
-    if let Some(waiting) = incomplete.get(place)
-        && waiting.number == number
-        && (is_over || is_complete(alloc, &waiting.stream, bytes))
-        && let Some(waiting) = incomplete.remove(place)
-    {
-        let place = ready.partition_point(|it| it.number < number);
-        return u64::from(ready.insert(place, waiting).is_err());
-    }
-    0
-}
-
-/// Whether no further byte is wanted of a connection: a whole request came, or what is none, or as
-/// much as a request may have, or its end. `bytes` has room for a byte more than a request.
-fn is_complete(alloc: Global, stream: &TcpStream, bytes: &mut [u8]) -> bool {
-    let Some(room) = bytes.get_mut(..LONGEST_REQUEST) else {
-        return true;
+    let place = incomplete.partition_point(|it| it.number < number);
+    let look = match incomplete.get_mut(place) {
+        Some(waiting) if waiting.number == number => waiting.look(bytes),
+        _ => return 0,
     };
-    let peeked = stream.peek(room);
-    is_enough(alloc, bytes, &peeked)
-}
-
-/// Whether no further byte is wanted after a look at the first ones.
-fn is_enough(alloc: Global, bytes: &mut [u8], peeked: &io::Result<usize>) -> bool
-    ensures none { IsErrAnd peeked.now (λ error. error_kind error ≡ WouldBlock) → result ≡ false }
-    ensures some { result ≡ false → IsErrAnd peeked.now (λ error. error_kind error ≡ WouldBlock)
-        ⊎ IsOkAnd peeked.now (λ count. IsDecided (take count bytes.old) false) }
-{
-    match peeked {
-        Ok(count) => is_decided(alloc, bytes, *count).unwrap_or(true),
-        Err(error) => error.kind() != ErrorKind::WouldBlock,
+    if look == Look::Open && !is_over {
+        return 0;
     }
-}
-
-/// Whether the first bytes decide what a request is: it is read from them, and one more stands
-/// behind them that a request which goes on would take. Nothing is read of no bytes, of as many as
-/// a request may have, of those behind too many ends of lines, and without memory for it.
-fn is_decided(alloc: Global, bytes: &mut [u8], count: usize) -> Option<bool>
-    ensures { IfSome result (IsDecided (take count bytes.old)) }
-{
-    if count == 0 || count >= LONGEST_REQUEST || count >= bytes.len() {
-        return None;
+    let Some(waiting) = incomplete.remove(place) else {
+        return 0;
+    };
+    if look == Look::Empty {
+        return 1;
     }
-    bytes[count] = b'x';
-    let empty = bytes
-        .iter()
-        .take_while(|byte| matches!(**byte, b'\r' | b'\n'))
-        .count();
-    if empty > MOST_EMPTY {
-        return None;
-    }
-    let mut rest = &bytes[..=count];
-    // Without memory for it nothing is taken.
-    let _ = read_from_memory(alloc, &mut rest);
-    if rest.len() > count {
-        return None;
-    }
-    Some(!rest.is_empty())
+    let place = ready.partition_point(|it| it.number < number);
+    u64::from(ready.insert(place, waiting).is_err())
 }

@@ -13,10 +13,10 @@ ghost use Rattle.farm_desk.specs.Preflight.{HasBytes, HasNoTable, HasPage, IsEmp
 ghost use Rattle.farm_desk.specs.Preflight.{IsNoLog, MayBeNew, log_path_of};
 ghost use Rattle.farm_desk.specs.declared.preflight.PathState.TheVariants.{Database, Empty, Nothing};
 
-use crate::new_file::{REST_OF_PAGE, page_head};
-use os::{RangeLock, try_lock_range};
+use crate::new_file::write_first_page;
+use os::{RangeLock, errno, try_lock_range};
 use std::fs::{self, File, Metadata, OpenOptions};
-use std::io::{self, ErrorKind, Read, Write};
+use std::io::{self, ErrorKind, Read};
 use std::os::fd::AsRawFd;
 use std::os::unix::fs::OpenOptionsExt;
 
@@ -29,6 +29,9 @@ const MODE: u32 = 0o644;
 /// The place of the bytes on which SQLite's programs lock a file that they have open, and how many
 /// these are.
 const LOCKED: (u64, u64) = (1 << 30, 512);
+
+/// The system's error where another program holds a lock.
+const HELD: i32 = 11;
 
 /// The head of a log and that of its first page, up to its two salts.
 const LOG_HEADS: usize = 48;
@@ -119,7 +122,8 @@ impl<'a> Preflight<'a> {
 
     /// Takes away what this order made of a store that is closed again: a log that wasn't there
     /// before and has no page, and the file that was made for a new farm, where it has no table.
-    /// Both stay where another program has the file open; it is locked meanwhile.
+    /// Both stay where another program has the file open; it is locked meanwhile. Where nothing can
+    /// be locked, what was made for a new farm goes all the same.
     pub(crate) fn clean_up(&self, rt: &HostRuntime) {
         let Ok(mut file) = OpenOptions::new()
             .read(true)
@@ -128,14 +132,16 @@ impl<'a> Preflight<'a> {
         else {
             return;
         };
-        if try_lock_range(file.as_raw_fd(), RangeLock::Exclusive, LOCKED.0, LOCKED.1) != 0 {
+        let is_new = self.file_state == PathState::Nothing;
+        if try_lock_range(file.as_raw_fd(), RangeLock::Exclusive, LOCKED.0, LOCKED.1) != 0
+            && (!is_new || errno() == HELD)
+        {
             return;
         }
         let log = self.log.as_str();
         if self.log_state == PathState::Nothing && matches!(has_no_page(rt, log), Ok(true)) {
             let _ = fs::remove_file(rt, log);
         }
-        let is_new = self.file_state == PathState::Nothing;
         let is_alone = state_at(rt, log) == PathState::Nothing;
         if is_new && is_alone && matches!(has_no_table(&mut file), Ok(true)) {
             let _ = fs::remove_file(rt, self.file);
@@ -260,15 +266,14 @@ fn new_file_options() -> OpenOptions
 /// Makes a file with its first page where there is nothing. That is on the disk before a store is
 /// opened there, since an open takes the log beside a file without a byte for no log.
 fn make_new_file(rt: &HostRuntime, path: &str) -> io::Result<()> {
-    let written = write_first_page(&mut make_file(rt, path)?);
+    let written = write_to_disk(&mut make_file(rt, path)?);
     if written.is_err() {
         let _ = fs::remove_file(rt, path);
     }
     written
 }
 
-fn write_first_page(file: &mut File) -> io::Result<()> {
-    file.write_all(&page_head())?;
-    file.write_all(&[0; REST_OF_PAGE])?;
+fn write_to_disk(file: &mut File) -> io::Result<()> {
+    write_first_page(file)?;
     file.sync_all()
 }

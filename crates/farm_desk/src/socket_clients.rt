@@ -1,13 +1,15 @@
 //! The clients that a listener accepts: their streams have deadlines, and of what they send and
 //! take nothing is known.
-ghost use Rattle.std.specs.Prelude.{◌≡◌, ◌≤◌, ◌↔◌, false, None, ⊤, Err, Result};
+ghost use Rattle.std.specs.Prelude.{◌≡◌, ◌≤◌, ◌↔◌, ◌/◌, ◌^◌, false, None, ⊤, Err, Result};
+ghost use Rattle.std.specs.Duration.{as_nanos};
 ghost use Rattle.sqlite.specs.Held.{state};
 ghost use Rattle.sqlite_trees.specs.View.{doubt};
 ghost use Rattle.farm_serve.specs.Serving.{ServesUntil};
 
-use crate::deadline_stream::{ClientStream, DeadlineStream};
+use crate::deadline_stream::{ClientEnd, ClientStream, DeadlineStream};
 use crate::open_files::OpenFiles;
 use crate::pending::Pending;
+use crate::unsent::PatientWriter;
 use farm_keep::{KeepFault, Keeper};
 use farm_serve::{Client, Clients, DeskFault, serve};
 use farm_wire::{no_memory_answer, store_answer};
@@ -16,7 +18,7 @@ use std::alloc::Global;
 use std::io::BufReader;
 use std::net::{Net, TcpListener};
 use std::rc::Rc;
-use std::time::{Clock, SystemTime, UNIX_EPOCH};
+use std::time::{Clock, Duration, SystemTime, UNIX_EPOCH};
 
 /// The room of the buffer before a stream: a usual head and a short body. It is made anew for each
 /// client, and all of it is zeroed, so a larger one costs every request more.
@@ -55,12 +57,25 @@ impl<'a, 'c, C: Clock + Net> SocketClients<'a, 'c, C> {
             files,
         }
     }
+
+    /// Waits until the clients that were served took their answers, or their time is over.
+    pub(crate) fn send_rest(&mut self) {
+        if let Some(pending) = &mut self.pending {
+            pending.send_rest(self.clock);
+        }
+    }
 }
 
-impl<'c, C: Clock> Clients for SocketClients<'_, 'c, C> {
-    type Reader = BufReader<DeadlineStream<'c, C>>;
+/// What a client's request is read from.
+type SocketReader<'c, C> = BufReader<DeadlineStream<'c, C, ClientEnd>>;
 
-    type Writer = DeadlineStream<'c, C>;
+/// What a client's answer is written to.
+type SocketWriter<'c, C> = DeadlineStream<'c, C, PatientWriter<ClientEnd>>;
+
+impl<'c, C: Clock> Clients for SocketClients<'_, 'c, C> {
+    type Reader = SocketReader<'c, C>;
+
+    type Writer = SocketWriter<'c, C>;
 
     ghost client_list = { λ _. None };
 
@@ -76,7 +91,7 @@ impl<'c, C: Clock> Clients for SocketClients<'_, 'c, C> {
     /// The next connection whose request is complete. Its stream is buffered, so that a usual head
     /// costs one read; without memory for the buffer the client is answered that, and without the
     /// files that the store failed.
-    fn next(&mut self) -> Option<Client<BufReader<DeadlineStream<'c, C>>, DeadlineStream<'c, C>>> {
+    fn next(&mut self) -> Option<Client<SocketReader<'c, C>, SocketWriter<'c, C>>> {
         let client = match &mut self.pending {
             Some(pending) => pending.next_client(self.listener, self.clock)?,
             None => {
@@ -86,7 +101,7 @@ impl<'c, C: Clock> Clients for SocketClients<'_, 'c, C> {
             }
         };
         let since = SystemTime::now(self.clock).ok()?.duration_since(UNIX_EPOCH);
-        let now = since.ok()?.as_secs();
+        let now = moment_of(since.ok()?);
         if self.files.is_some_and(|files| !files.are_present()) {
             client.refuse(store_answer());
             return None;
@@ -94,10 +109,14 @@ impl<'c, C: Clock> Clients for SocketClients<'_, 'c, C> {
         let client = Rc::new(self.alloc, client)
             .map_err(|failed| failed.value.refuse(no_memory_answer()))
             .ok()?;
-        let source = DeadlineStream::new(client.clone().ok()?, self.clock);
-        let writer = DeadlineStream::new(client, self.clock);
+        let end = ClientEnd {
+            client: client.clone().ok()?,
+        };
+        let writer = PatientWriter::new(self.alloc, ClientEnd { client });
+        let source = DeadlineStream::new(end, self.clock);
+        let writer = DeadlineStream::new(writer, self.clock);
         let reader = BufReader::with_capacity(self.alloc, BUFFER, source)
-            .map_err(|_| writer.client.refuse(no_memory_answer()))
+            .map_err(|_| writer.stream.writer.client.refuse(no_memory_answer()))
             .ok()?;
         Some(Client {
             now,
@@ -106,9 +125,24 @@ impl<'c, C: Clock> Clients for SocketClients<'_, 'c, C> {
         })
     }
 
-    fn close(&mut self, _reader: BufReader<DeadlineStream<'c, C>>, writer: DeadlineStream<'c, C>) {
-        writer.client.shut_down();
+    /// Closes a client that took its answer; what another hasn't taken yet waits aside.
+    fn close(&mut self, _reader: SocketReader<'c, C>, writer: SocketWriter<'c, C>) {
+        let since = writer.since;
+        let PatientWriter { writer, unsent } = writer.stream;
+        match &mut self.pending {
+            Some(pending) if !unsent.is_empty() => {
+                pending.put_aside(writer.client, unsent, since);
+            }
+            _ => writer.client.shut_down(),
+        }
     }
+}
+
+/// The moment of a time since 1970-01-01 00:00:00 UTC: its whole seconds.
+fn moment_of(since: Duration) -> u64
+    ensures { result ≡ as_nanos since / 10 ^ 9 }
+{
+    since.as_secs()
 }
 
 /// Takes that many connections in turn; of each it reads one request, answers it as `converse`
@@ -118,10 +152,11 @@ impl<'c, C: Clock> Clients for SocketClients<'_, 'c, C> {
 ///
 /// Connections are served one at a time, those first whose requests are complete, in the order in
 /// which they came. Up to 1,024 wait aside until all bytes of their requests came, for
-/// `LIMIT_SECONDS` at most, and keep nobody waiting. A client that takes nothing of its answer
-/// keeps the others waiting for `STALL_SECONDS`, one that takes a part of it now and then for as
-/// much more as the limit. The network of the clock's runtime is asked which connections are ready,
-/// and for nothing else.
+/// `LIMIT_SECONDS` at most, and keep nobody waiting; where all places are taken the oldest of them
+/// goes for the next. What a client doesn't take of its answer at once waits aside as long, up to
+/// 256 answers and 64 MB, beyond which the oldest is cut; the serving ends once these were taken, or
+/// their time is over. The network of the clock's runtime is asked which connections are ready, and
+/// for nothing else.
 ///
 /// The clauses say what becomes of the farm and of its store. That anybody was served they don't
 /// say: nothing can be said of what a socket sends and takes. `serve` says it of scripted clients.
@@ -145,6 +180,7 @@ pub fn serve_on<S: Alter, C: Clock + Net>(
 {
     let mut clients = SocketClients::new(alloc, listener, max, clock, None);
     let ended = serve(alloc, keeper, &mut clients, max);
+    clients.send_rest();
     let _ = listener.set_nonblocking(false);
     ended
 }

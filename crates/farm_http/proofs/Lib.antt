@@ -1,4 +1,5 @@
 pub mod HeadLemmas
+pub mod FrontLemmas
 pub mod SliceReads
 pub mod Held
 pub mod Room

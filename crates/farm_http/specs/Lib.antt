@@ -1,4 +1,5 @@
 pub mod Fields
+pub mod Fronts
 pub mod Request
 pub mod Heads
 pub mod Requests

@@ -9,8 +9,9 @@
 //! A reader is an `Input` and a writer an `Output`, which say what `Read` and `Write` don't: that
 //! bytes in memory never fail, and that a vector takes what it has room for.
 //!
-//! Read `specs/` in the order Fields, Request, Heads, Requests, Counts, Turns, Room, Faults: what a
-//! head says, when bytes are a request, when they are refused, which room a writer keeps, and what a
+//! Read `specs/` in the order Fields, Request, Heads, Requests, Fronts, Counts, Turns, Room, Faults: what a
+//! head says, when bytes are a request, when they are refused, what the first ones say, which room a
+//! writer keeps, and what a
 //! fault says of them and of the reader.
 #![tactic(auto)]
 
@@ -19,13 +20,15 @@ mod counted_writer;
 mod digits;
 mod fault;
 mod fields;
+mod front;
 mod input;
 mod laws;
 mod output;
 mod request;
 mod taken;
 
-// One request, read from an input.
+// One request, read from an input, and what its first bytes say of it.
+pub use front::{Front, front_of};
 pub use request::{read_request, read_request_counted};
 pub use taken::Taken;
 

@@ -226,7 +226,11 @@ fn spans_of(bytes: &[u8], headers: &mut [HeaderSpan]) -> Result<Option<RequestSp
 }
 
 /// How long the body is that follows a head with these parts.
-fn length_after(head: &[u8], headers: &[HeaderSpan], spans: RequestSpans) -> Result<usize, Refusal>
+pub(crate) fn length_after(
+    head: &[u8],
+    headers: &[HeaderSpan],
+    spans: RequestSpans,
+) -> Result<usize, Refusal>
     requires { AreSpansOf head.now headers.now spans }
     ensures length { (h : RequestHead) → IsHead head.now h → refusal_by_number result ≡ body_length h }
     ensures small { IfOk result (λ n. n ≤ longest_body) }

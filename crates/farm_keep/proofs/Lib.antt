@@ -2,4 +2,4 @@ pub mod KeptLemmas
 pub mod LifeLemmas
 pub mod RestartLemmas
 pub mod RunLemmas
-pub mod MigrateLemmas
+mod MigrateLemmas

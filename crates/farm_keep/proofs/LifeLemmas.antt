@@ -19,8 +19,8 @@ use Rattle.farm_store.specs.Holds.{Holds, Stands}
 use Rattle.farm_keep.specs.Faults.{IsFindFault}
 use Rattle.farm_keep.specs.Headline.{GivesNoKeeper, LeavesRun}
 use Rattle.farm_keep.specs.KeeperState.{KeeperState, KeepsOwnFarm}
-use Rattle.farm_keep.specs.Lives.{AreLived, GivesFarm, LeavesDone, IsLived, IsRestart, Life}
-use Rattle.farm_keep.specs.Restarts.{Restart, calls_of_restarts}
+use Rattle.farm_keep.specs.Lives.{AreLived, GivesFarm, IsLived, IsRestart, IsStoppedEarly, IsStoppedLate, LeavesDone, Life, OpensOn}
+use Rattle.farm_keep.specs.Restarts.{Restart, calls_of_restarts, done_calls}
 use Rattle.farm_keep.specs.declared.keeper.run.RunEnd.{RunEnd}
 use Rattle.farm_keep.specs.declared.fault.KeepFault.{KeepFault}
 
@@ -69,18 +69,44 @@ left_run g k end F calls db leaves clean may = elim (leaves clean db may) [
 abbrev pub StandsOpened : {S : Type 0} → Ghosts S → Type 0
 StandsOpened g = (h : Held _) → Opens (state g h) → IsLive (state g h) → (T : TableRows) → Holds (state g h).committed.trees T → Stands (state g h) T
 
-one_life : {S : Type 0} (g : Ghosts S) → StandsOpened g → (life : Life S) (first last : Trees) (F : Farm)
-    → IsSound F → Holds first (rows_of F) → IsLived g life first last → LeftRun last F life.end life.calls
-one_life g stands life first last F sound holds it =
-    let here : Holds (state g life.conn).committed.trees (rows_of F) = subst (λ (t : Trees). Holds t (rows_of F)) (sym it.opens.on) holds in
-    let at = stands life.conn it.opens.opens it.opens.live (rows_of F) here in
+at_opening : {S : Type 0} (g : Ghosts S) → StandsOpened g → (opened : Held S) (first : Trees) (F : Farm)
+    → Holds first (rows_of F) → OpensOn (state g opened) first → Stands (state g opened) (rows_of F)
+at_opening g stands opened first F holds opens =
+    stands opened opens.opens opens.live (rows_of F) (subst (λ (t : Trees). Holds t (rows_of F)) (sym opens.on) holds)
+
+-- a life that only read leaves the farm that it was opened on
+early_life : {S : Type 0} (g : Ghosts S) → StandsOpened g → (opened conn : Held S) (first last : Trees) (F : Farm)
+    → Holds first (rows_of F) → IsStoppedEarly g opened conn first last → Holds last (rows_of F)
+early_life g stands opened conn first last F holds it =
+    (at_opening g stands opened first F holds it.opens).left last (it.reads.left it.clean last it.left)
+
+late_life : {S : Type 0} (g : Ghosts S) → StandsOpened g → (opened : Held S) (keeper : KeeperState S) (end : RunEnd) (calls : List Call) (first last : Trees) (F : Farm)
+    → IsSound F → Holds first (rows_of F) → IsStoppedLate g opened keeper end calls first last → LeftRun last F end calls
+late_life g stands opened keeper end calls first last F sound holds it =
+    let at = at_opening g stands opened first F holds it.opens in
     let k = it.resumes.adopted in
     let made = it.resumes.adopts in
     let early : HasCleanDisk (state g k.conn) = omega (arith, it.resumes.runs.clean, it.clean) in
     let is = made.exact early F sound at in
     let keeps : KeepsOwnFarm g k = λ clean. subst (Stands (state g k.conn)) (sym (made.rows clean (rows_of F) at)) (made.stands clean (rows_of F) at) in
-    let leaves : LeavesRun g life.keeper life.end F life.calls = subst (λ G. LeavesRun g life.keeper life.end G life.calls) is (it.resumes.runs.left keeps) in
-    left_run g life.keeper life.end F life.calls last leaves it.clean it.left
+    let leaves : LeavesRun g keeper end F calls = subst (λ G. LeavesRun g keeper end G calls) is (it.resumes.runs.left keeps) in
+    left_run g keeper end F calls last leaves it.clean it.left
+
+pub record LeftLife {S : Type 0} (db : Trees) (F : Farm) (life : Life S) : Type 0 where
+  pub restart : Restart
+  pub each : IsRestart life restart
+  pub holds : Holds db (rows_of (run F (done_calls restart)))
+
+one_life : {S : Type 0} (g : Ghosts S) → StandsOpened g → (life : Life S) (first last : Trees) (F : Farm)
+    → IsSound F → Holds first (rows_of F) → IsLived g life first last → LeftLife last F life
+one_life g stands (Life.Looked opened conn) first last F sound holds it = record {
+  restart = record { calls = []; done = 0 };
+  each = (refl, refl);
+  holds = early_life g stands opened conn first last F holds it;
+}
+one_life g stands (Life.Ran opened keeper end calls) first last F sound holds it =
+    let one = late_life g stands opened keeper end calls first last F sound holds it in
+    record { restart = record { calls = calls; done = one.done }; each = (refl, one.counts); holds = one.holds }
 
 pub record LeftLives {S : Type 0} (db : Trees) (F : Farm) (lives : List (Life S)) : Type 0 where
   pub restarts : List Restart
@@ -94,13 +120,12 @@ all_lives g stands [] first last F sound holds lived =
     record { restarts = []; each = tt; sound = sound; holds = subst (λ (t : Trees). Holds t (rows_of F)) lived holds }
 all_lives g stands (life ∷ lives) first last F sound holds lived =
     let one = one_life g stands life first lived.0 F sound holds lived.1 in
-    let done = take one.done life.calls in
+    let done = done_calls one.restart in
     let rest = all_lives g stands lives lived.0 last (run F done) (IsSound-run done F sound) one.holds lived.2 in
-    let restart : Restart = record { calls = life.calls; done = one.done } in
-    let same : run (run F done) (calls_of_restarts rest.restarts) ≡ run F (calls_of_restarts (restart ∷ rest.restarts)) = sym (fold-append step F done (calls_of_restarts rest.restarts)) in
+    let same : run (run F done) (calls_of_restarts rest.restarts) ≡ run F (calls_of_restarts (one.restart ∷ rest.restarts)) = sym (fold-append step F done (calls_of_restarts rest.restarts)) in
     record {
-      restarts = restart ∷ rest.restarts;
-      each = (record { calls = refl; done = one.counts }, rest.each);
+      restarts = one.restart ∷ rest.restarts;
+      each = (one.each, rest.each);
       sound = subst IsSound same rest.sound;
       holds = subst (λ H. Holds last (rows_of H)) same rest.holds;
     }

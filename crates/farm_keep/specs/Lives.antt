@@ -1,4 +1,5 @@
--- Lives of a store: each opens it on what the last stop left, resumes the farm, and is stopped.
+-- Lives of a store: each opens it on what the last stop left, and is stopped while it looks for the
+-- farm, or once it resumed the farm.
 use Rattle.std.specs.Prelude.{◌≡◌, ◌⊎◌, ◌+◌, ℕ, List, [], ◌∷◌, Some, Result, IfOk, IfErr, take}
 use Rattle.std.specs.List.{AllZip}
 use Rattle.sqlite.specs.Held.{Held, state}
@@ -9,6 +10,7 @@ use Rattle.farm_core.specs.Shown.{Shown}
 use Rattle.farm_types.specs.Farm.{Farm}
 use Rattle.farm_types.specs.Machine.{run}
 use Rattle.farm_types.specs.declared.calls.Call.{Call}
+use Rattle.farm_store.specs.Holds.{ReadsOnly}
 use Rattle.farm_keep.specs.Faults.{IsOwnFault}
 use Rattle.farm_keep.specs.KeeperState.{KeeperState}
 use Rattle.farm_keep.specs.Headline.{Resumes}
@@ -39,19 +41,34 @@ pub record GivesRun (result : Result Shown KeepFault) (F : Farm) (end : RunEnd) 
   pub counts : LeavesDone end done
   pub gives : GivesFarm result (run F (take done calls))
 
--- one life: the connection, the keeper that it ends with, how its run ended, and its calls
-pub record Life (S : Type 0) : Type 0 where
-  pub conn : Held S
-  pub keeper : KeeperState S
-  pub end : RunEnd
-  pub calls : List Call
+-- one life: it was stopped while it looked for the farm, with the connection as it was opened and as
+-- it was then; or after it had run calls, with the connection, the keeper that it ended with, how
+-- its run ended, and the calls
+pub data Life (S : Type 0) : Type 0 where
+  Looked : (opened conn : Held S) → Life S
+  Ran : (opened : Held S) (keeper : KeeperState S) (end : RunEnd) (calls : List Call) → Life S
+
+-- it was opened on the first trees, had then only read, found a farm or not, and its stop left the
+-- other trees
+pub record IsStoppedEarly {S : Type 0} (g : Ghosts S) (opened conn : Held S) (first last : Trees)
+    : Type 0 where
+  pub opens : OpensOn (state g opened) first
+  pub reads : ReadsOnly (state g opened) (state g conn)
+  pub clean : HasCleanDisk (state g conn)
+  pub left : (state g conn).may_leave last
 
 -- it was opened on the first trees, resumed and ran its calls, and its stop left the other trees
-pub record IsLived {S : Type 0} (g : Ghosts S) (life : Life S) (first last : Trees) : Type 0 where
-  pub opens : OpensOn (state g life.conn) first
-  pub resumes : Resumes g life.conn life.keeper life.end life.calls
-  pub clean : HasCleanDisk (state g life.keeper.conn)
-  pub left : (state g life.keeper.conn).may_leave last
+pub record IsStoppedLate {S : Type 0} (g : Ghosts S) (opened : Held S) (keeper : KeeperState S)
+    (end : RunEnd) (calls : List Call) (first last : Trees) : Type 0 where
+  pub opens : OpensOn (state g opened) first
+  pub resumes : Resumes g opened keeper end calls
+  pub clean : HasCleanDisk (state g keeper.conn)
+  pub left : (state g keeper.conn).may_leave last
+
+abbrev pub IsLived : {S : Type 0} → Ghosts S → Life S → Trees → Trees → Type 0
+IsLived g (Life.Looked opened conn) first last = IsStoppedEarly g opened conn first last
+IsLived g (Life.Ran opened keeper end calls) first last =
+    IsStoppedLate g opened keeper end calls first last
 
 -- lives one after another
 abbrev pub AreLived : {S : Type 0} → Ghosts S → List (Life S) → Trees → Trees → Type 0
@@ -59,10 +76,11 @@ AreLived g [] first last = first ≡ last
 AreLived g (life ∷ lives) first last = (db : Trees) × IsLived g life first db
     × AreLived g lives db last
 
--- a life as a restart of the machine
-pub record IsRestart {S : Type 0} (life : Life S) (restart : Restart) : Type 0 where
-  pub calls : restart.calls ≡ life.calls
-  pub done : LeavesDone life.end restart.done
+-- a life as a restart of the machine: one that was stopped early did no call
+abbrev pub IsRestart : {S : Type 0} → Life S → Restart → Type 0
+IsRestart (Life.Looked opened conn) restart = (restart.calls ≡ []) × (restart.done ≡ 0)
+IsRestart (Life.Ran opened keeper end calls) restart = (restart.calls ≡ calls)
+    × LeavesDone end restart.done
 
 -- the farm after the calls that were done in all lives, one after another
 pub record GivesRestarts {S : Type 0} (result : Result Shown KeepFault) (F : Farm)

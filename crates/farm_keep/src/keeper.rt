@@ -1,21 +1,16 @@
 //! A farm and the store that keeps it.
 ghost use Rattle.std.specs.Prelude.{◌≡◌, ◌≤◌, ◌↔◌, true, false, Err, OnOk, IfOk, IfErr};
 ghost use Rattle.std.specs.Prelude.{MatchOption};
-ghost use Rattle.std.specs.Result.{result_err};
 ghost use Rattle.sqlite.specs.Held.{state};
 ghost use Rattle.sqlite.specs.State.{HasCleanDisk};
 ghost use Rattle.sqlite_trees.specs.View.{doubt};
-ghost use Rattle.farm_types.specs.Farm.{empty_farm};
 ghost use Rattle.farm_types.specs.Machine.{answer, step};
 ghost use Rattle.farm_types.specs.Sound.{IsSound};
 ghost use Rattle.farm_core.specs.Answers.{answer_of, IsChange, ChangesLead};
-ghost use Rattle.farm_store.specs.Columns.{TableRows, rows_of};
-ghost use Rattle.farm_store.specs.Holds.{LeavesEither, Stands, StandsFor};
-ghost use Rattle.farm_store.specs.Schema.{no_schema};
-ghost use Rattle.farm_keep.specs.Faults.{IsActFault, IsFindFault, IsOwnFault};
+ghost use Rattle.farm_store.specs.Columns.{rows_of};
+ghost use Rattle.farm_store.specs.Holds.{LeavesEither, StandsFor};
+ghost use Rattle.farm_keep.specs.Faults.{IsActFault, IsOwnFault};
 ghost use Rattle.farm_keep.specs.KeeperState.{KeepsOwnFarm, KeepsEither, IfNoChange};
-ghost use Rattle.farm_keep.specs.Headline.{Adopts, GivesNoKeeper, IsAlwaysClean};
-ghost use Rattle.farm_keep.specs.Versions.{LooksForFarm};
 
 mod opening;
 mod run;
@@ -24,6 +19,7 @@ use crate::fault::KeepFault;
 use farm_core::Farm;
 use farm_store::put;
 use farm_types::{Answer, Call};
+pub use opening::{Unkept, upgrade};
 pub use run::RunEnd;
 use sqlite::{Alter, Connection};
 use std::alloc::Global;
@@ -49,48 +45,6 @@ impl<S: Alter> Model for Keeper<S> {
     ghost view = { λ k. record { conn = k.conn; farm = k.farm; is_open = k.is_open } };
 
     ghost invariant = { λ k. KeeperInvariant k.conn k.farm k.is_open };
-}
-
-impl<S: Alter + Drop> Keeper<S> {
-    /// A keeper of the empty farm, in a store without tables; a store that stands for tables is
-    /// refused as a fault of the store. At a fault the connection is given up, and stands for its
-    /// tables as before: `farm_store::create`, which is lent it, says what it leaves.
-    pub fn fresh(alloc: Global, conn: Connection<S>) -> Result<Keeper<S>, KeepFault>
-        requires { conn.in_transaction ≡ false }
-        ensures opened { IfOk result (λ k. (k.is_open ≡ true) × (k.farm.farm ≡ empty_farm)) }
-        ensures keeps { IfOk result (λ k. (state S.Store conn).now.schema ≡ no_schema
-            → KeepsOwnFarm S.Store k) }
-        ensures refused { IfOk result (λ k. HasCleanDisk (state S.Store k.conn) → (T : TableRows)
-            → ¬ Stands (state S.Store conn) T) }
-        ensures bare { OnOk result ((state S.Store conn).now.schema ≡ no_schema) }
-        ensures clean { IfOk result (λ k. doubt (state S.Store conn).is_clean ≤ doubt
-            (state S.Store k.conn).is_clean) }
-        ensures fault { IfErr result (λ fault. fault ≡ KeepFault.Store) }
-    {
-        match opening::make(alloc, conn) {
-            Ok(keeper) => Ok(keeper),
-            Err(_) => Err(KeepFault::Store),
-        }
-    }
-
-    /// A keeper of the farm whose tables the store holds. At a fault the connection is given up.
-    /// Over a store that always returns what was written, as one in memory does, bad store is the
-    /// answer only where no sound farm stands there, and old schema only where tables of the first
-    /// edition do; over any store `found`, which is lent the connection, says so, and what the fault
-    /// leaves.
-    pub fn adopt(alloc: Global, conn: Connection<S>) -> Result<Keeper<S>, KeepFault>
-        requires { conn.in_transaction ≡ false }
-        ensures adopted { IfOk result (λ k. Adopts S.Store conn k) }
-        ensures refused { IsAlwaysClean S.Store → IfErr result (GivesNoKeeper (state S.Store conn)) }
-        ensures version { IsAlwaysClean S.Store
-            → LooksForFarm (result_err result) (state S.Store conn).now }
-        ensures fault { IfErr result IsFindFault }
-    {
-        match opening::find(alloc, conn) {
-            Ok(keeper) => Ok(keeper),
-            Err(unkept) => Err(unkept.fault),
-        }
-    }
 }
 
 impl<S: Alter> Keeper<S> {

@@ -73,9 +73,9 @@ pub fn found_after_stop<S: Alter>(
 }
 
 /// The crash prefix over any list of lives: each opens the store on what the stop before it left,
-/// resumes, runs its calls and is stopped. What the last one left is found again as exactly the
-/// farm after the calls that were done, life by life; `acts_once` speaks of the same list of
-/// restarts.
+/// and is stopped while it looks for the farm, or resumes, runs its calls and is stopped. What the
+/// last one left is found again as exactly the farm after the calls that were done, life by life;
+/// `acts_once` speaks of the same list of restarts.
 pub fn restarts_find_a_prefix<S: Alter>(
     alloc: Global,
     conn: &mut Connection<S>,

@@ -4,8 +4,8 @@
 //! has committed what it changed, so a keeper that is made again from the store finds every command
 //! that was answered.
 //!
-//! Read `specs/` in the order KeeperState, Runs, Headline, Restarts, Lives; Found has what a look
-//! for a farm reports, First the farms of the first edition, Faults the faults' numbers.
+//! Read `specs/` in the order KeeperState, UnkeptState, Runs, Headline, Restarts, Lives; Found has
+//! what a look for a farm reports, First the farms of the first edition, Faults the faults' numbers.
 #![tactic(auto)]
 
 mod fault;
@@ -13,11 +13,12 @@ mod keeper;
 mod laws;
 mod reading;
 
-// A farm and its store: a command's answer comes after its commit.
-pub use keeper::{Keeper, RunEnd};
+// A farm and its store: a command's answer comes after its commit. A connection that wasn't taken.
+pub use keeper::{Keeper, RunEnd, Unkept};
 
 // The farm that a store holds, looked at without keeping it; a store of the first edition brought to
-// the second.
+// the second, lent or given up.
+pub use keeper::upgrade;
 pub use reading::{found, migrate};
 
 // Why a command, or a store, wasn't taken.

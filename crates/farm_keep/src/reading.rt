@@ -18,9 +18,8 @@ use std::alloc::Global;
 
 /// The farm whose tables the connection shows; `BadStore` where they are those of no sound farm, as
 /// where the store has a column, a table, an index or a view that the farm's schema lacks. It
-/// changes nothing. `Keeper::adopt` is this call and a keeper of what it gives: this one lends the
-/// connection, so that its clauses can say what a fault leaves. Each table is read once, in order
-/// of its key, and n rows are tested in O(n log n).
+/// changes nothing. `Keeper::adopt` is this call, and a keeper of what it gives. Each table is read
+/// once, in order of its key, and n rows are tested in O(n log n).
 pub fn found<S: Alter>(alloc: Global, conn: &mut Connection<S>) -> Result<Farm, KeepFault>
     requires { conn.old.in_transaction ≡ false }
     ensures only { ReadsOnly (state S.Store conn.old) (state S.Store conn.new) }

@@ -41,7 +41,7 @@ impl<S: Alter + Drop> Desk<S> {
         }
         match Keeper::adopt(alloc, conn) {
             Ok(keeper) => Ok(Desk { keeper }),
-            Err(fault) => Err(fault),
+            Err(unkept) => Err(unkept.fault()),
         }
     }
 

@@ -6,3 +6,5 @@ mod PrefixLemmas
 mod ServingLemmas
 mod ConnectionLemmas
 mod ImportLemmas
+pub mod StopLemmas
+mod DeskLifeLemmas

@@ -1,6 +1,7 @@
 -- What conversations do to the farm and its store, however they end.
 use Rattle.std.proofs.Common.{◌≡◌, ◌⊎◌, ℕ, Bool, true, false, List, [], ◌∷◌, ◌++◌, refl, sym, ap, ◌∙◌, subst, inl, inr}
 use Rattle.std.specs.Prelude.{Result, Ok, Err}
+use Rattle.std.specs.Io.KnownBytes.{Appends}
 use Rattle.std.proofs.lemmas.List.Sums.{fold-append}
 use Rattle.sqlite_trees.specs.declared.store.Store.{Ghosts}
 use Rattle.sqlite.specs.Held.{state}
@@ -13,16 +14,18 @@ use Rattle.farm_keep.specs.KeeperState.{KeeperState, KeepsOwnFarm, KeepsFarm, Ke
 use Rattle.farm_keep.specs.declared.fault.KeepFault.{KeepFault}
 use Rattle.farm_wire.specs.Reading.{Denial}
 use Rattle.farm_wire.specs.declared.ask.Ask.{Ask}
+use Rattle.farm_wire.specs.declared.answers.Out.{Out}
+use Rattle.farm_serve.specs.Answers.{Encodes}
 use Rattle.farm_serve.specs.Received.{Receives}
 use Rattle.farm_serve.specs.Response.{IsResponse, IsResponseTo, UnchangedOrDone, IsCause}
 use Rattle.farm_serve.specs.Serving.{Reaches}
-use Rattle.farm_serve.specs.Conversations.{Desk, Converses, Conversation, ConverseInTurn, call_asked, AsksCalls, IsDoneOf, LeavesOpen, LeavesBy, IsClosing, OpenKeepsDone, ClosedKeepsPrefix}
+use Rattle.farm_serve.specs.Conversations.{Desk, Converses, Conversation, ConverseInTurn, call_asked, AsksCalls, DoesAsked, IsMachineAnswer, LeavesOpen, LeavesBy, IsClosing, OpenKeepsDone, ClosedKeepsPrefix}
 use Rattle.farm_serve.specs.declared.fault.DeskFault.{DeskFault}
 use Rattle.farm_serve.proofs.ConversationLemmas.{HasResponse, has_response, reached, reaches_nothing, reaches_on}
 
 -- ---- open or closed
 
-both_ways : {A : Type 0} (b : Bool) → b ≡ true → b ≡ false → A
+pub both_ways : {A : Type 0} (b : Bool) → b ≡ true → b ≡ false → A
 both_ways b opened closed = absurd (let same : true ≡ false = sym opened ∙ closed in cc)
 
 -- the keeper stays as open as it was, or is closed
@@ -58,85 +61,90 @@ all_closed g (conversation ∷ conversations) old new h closed =
 
 -- ---- a conversation that leaves the keeper open
 
-none_of : (end : Result ℕ DeskFault) → IsDoneOf end [] []
-none_of (Ok status) = refl
-none_of (Err fault) = inl refl
-
-all_of : (end : Result ℕ DeskFault) (calls : List Call) → IsDoneOf end calls calls
-all_of (Ok status) calls = refl
-all_of (Err fault) calls = inr refl
-
--- without an answer none need be done
-lost_none : (end : Result ℕ DeskFault) (fault : DeskFault) (calls : List Call) → (end ≡ Err fault) ⊎ (end ≡ Err DeskFault.Write) → IsDoneOf end calls []
-lost_none (Ok status) fault calls (inl e) = absurd (let no : Ok status ≡ Err fault = e in cc)
-lost_none (Ok status) fault calls (inr e) = absurd (let no : Ok status ≡ Err DeskFault.Write = e in cc)
-lost_none (Err other) fault calls e = inl refl
-
--- calls that were done, with what was asked
+-- the calls that were done, and what was asked
 pub record IsPart {S : Type 0} (g : Ghosts S) (old new : Desk S) (now : ℕ) (end : Result ℕ DeskFault) : Type 0 where
   pub done : List Call
-  pub asked : List Call
-  pub asks : AsksCalls old.input new.input now asked
-  pub done_of : IsDoneOf end asked done
+  pub does : DoesAsked old.input new.input now end done
   pub reaches : Reaches g old.keeper new.keeper done
 
-nothing_done : {S : Type 0} (g : Ghosts S) (old new : Desk S) (now : ℕ) (end : Result ℕ DeskFault) → new.keeper ≡ old.keeper → IsPart g old new now end
-nothing_done g old new now end unchanged =
-    record { done = []; asked = []; asks = inr refl; done_of = none_of end; reaches = reaches_nothing g old.keeper new.keeper unchanged }
+nothing_done : {S : Type 0} (g : Ghosts S) (old new : Desk S) (now : ℕ) (fault : DeskFault) → new.keeper ≡ old.keeper → IsPart g old new now (Err fault)
+nothing_done g old new now fault unchanged = record { done = []; does = inl refl; reaches = reaches_nothing g old.keeper new.keeper unchanged }
 
-out_of_memory : {S : Type 0} (g : Ghosts S) (old new : Desk S) (now : ℕ) (end : Result ℕ DeskFault) (asked : Result Ask Denial)
-    → (end ≡ Err DeskFault.NoMemory) ⊎ (end ≡ Err DeskFault.Write) → Receives old.input new.input now asked
-    → new.keeper.is_open ≡ old.keeper.is_open → UnchangedOrDone g old.keeper new.keeper asked → IsPart g old new now end
-out_of_memory g old new now end (Ok (Ask.Call call)) lost receives same (inl unchanged) =
-    record {
-      done = [];
-      asked = call ∷ [];
-      asks = inl (Ok (Ask.Call call), receives, refl);
-      done_of = lost_none end DeskFault.NoMemory (call ∷ []) lost;
-      reaches = reaches_nothing g old.keeper new.keeper unchanged;
-    }
-out_of_memory g old new now end (Ok (Ask.Call call)) lost receives same (inr d) =
+out_of_memory : {S : Type 0} (g : Ghosts S) (old new : Desk S) (now : ℕ) (fault : DeskFault) (asked : Result Ask Denial)
+    → Receives old.input new.input now asked → new.keeper.is_open ≡ old.keeper.is_open → UnchangedOrDone g old.keeper new.keeper asked → IsPart g old new now (Err fault)
+out_of_memory g old new now fault (Ok (Ask.Call call)) receives same (inl unchanged) = nothing_done g old new now fault unchanged
+out_of_memory g old new now fault (Ok (Ask.Call call)) receives same (inr d) =
     record {
       done = call ∷ [];
-      asked = call ∷ [];
-      asks = inl (Ok (Ask.Call call), receives, refl);
-      done_of = all_of end (call ∷ []);
+      does = inr (record { asked = Ok (Ask.Call call); receives = receives; spelt = refl });
       reaches = record { opened = same; farm = d.farm; keeps = d.keeps };
     }
-out_of_memory g old new now end (Ok view) lost receives same unchanged = nothing_done g old new now end unchanged
-out_of_memory g old new now end (Err why) lost receives same unchanged = nothing_done g old new now end unchanged
+out_of_memory g old new now fault (Ok view) receives same unchanged = nothing_done g old new now fault unchanged
+out_of_memory g old new now fault (Err why) receives same unchanged = nothing_done g old new now fault unchanged
 
-asked_part : {S : Type 0} (g : Ghosts S) (old new : Desk S) (now : ℕ) (end response_end : Result ℕ DeskFault) (asked : Result Ask Denial) (bytes : List ℕ)
-    → (end ≡ response_end) ⊎ (end ≡ Err DeskFault.Write) → new.keeper.is_open ≡ true → Receives old.input new.input now asked
-    → IsResponseTo g old.keeper new.keeper asked bytes response_end → IsPart g old new now end
-asked_part g old new now end (Ok status) asked bytes same opened receives response =
+asked_part : {S : Type 0} (g : Ghosts S) (old new : Desk S) (now : ℕ) (fault : DeskFault) (asked : Result Ask Denial) (bytes : List ℕ) (end : Result ℕ DeskFault)
+    → new.keeper.is_open ≡ true → Receives old.input new.input now asked → IsResponseTo g old.keeper new.keeper asked bytes end → IsPart g old new now (Err fault)
+asked_part g old new now fault asked bytes (Ok status) opened receives response =
     record {
       done = call_asked asked;
-      asked = call_asked asked;
-      asks = inl (asked, receives, refl);
-      done_of = all_of end (call_asked asked);
+      does = inr (record { asked = asked; receives = receives; spelt = refl });
       reaches = (reached g old.keeper new.keeper asked bytes status response).reaches;
     }
-asked_part g old new now end (Err DeskFault.NoMemory) asked bytes same opened receives response =
-    out_of_memory g old new now end asked same receives response.stays_open response.farm
-asked_part g old new now end (Err (DeskFault.Keep fault)) (Ok what) bytes same opened receives response = both_ways new.keeper.is_open opened response.is_closed
-asked_part g old new now end response_end asked bytes same opened receives response = absurd response
+asked_part g old new now fault asked bytes (Err DeskFault.NoMemory) opened receives response =
+    out_of_memory g old new now fault asked receives response.stays_open response.farm
+asked_part g old new now fault (Ok what) bytes (Err (DeskFault.Keep other)) opened receives response = both_ways new.keeper.is_open opened response.is_closed
+asked_part g old new now fault asked bytes end opened receives response = absurd response
+
+-- without an answer
+pub lost_part : {S : Type 0} (g : Ghosts S) (old new : Desk S) (now : ℕ) (fault : DeskFault) → new.keeper.is_open ≡ true → Converses g old new now (Err fault) → IsPart g old new now (Err fault)
+lost_part g old new now fault opened h = by (has_response g old new now (Err fault) h)
+  where
+    response_part : (bytes : List ℕ) (end : Result ℕ DeskFault) → IsResponse g old.keeper new.keeper old.input new.input now bytes end → IsPart g old new now (Err fault)
+    response_part bytes end (inl response) = asked_part g old new now fault response.what bytes end opened response.receives response.response
+    response_part bytes end (inr short) = nothing_done g old new now fault short.unchanged
+
+    by : (new.keeper ≡ old.keeper) ⊎ HasResponse g old new now (Err fault) → IsPart g old new now (Err fault)
+    by (inl unchanged) = nothing_done g old new now fault unchanged
+    by (inr l) = response_part l.bytes l.response_end l.response
+
+-- with one: what it is the answer to, and the machine's
+pub record IsWholePart {S : Type 0} (g : Ghosts S) (old new : Desk S) (now status : ℕ) : Type 0 where
+  pub asked : Result Ask Denial
+  pub receives : Receives old.input new.input now asked
+  pub out : Out
+  pub machine : IsMachineAnswer old.keeper.farm.farm asked out
+  pub bytes : List ℕ
+  pub encodes : Encodes out bytes status
+  pub written : Appends old.output new.output bytes
+  pub reaches : Reaches g old.keeper new.keeper (call_asked asked)
+
+pub whole_part : {S : Type 0} (g : Ghosts S) (old new : Desk S) (now status : ℕ) → Converses g old new now (Ok status) → IsWholePart g old new now status
+whole_part g old new now status h = let a = h.answered tt in by a.bytes a.written a.response
+  where
+    by : (bytes : List ℕ) → Appends old.output new.output bytes → IsResponse g old.keeper new.keeper old.input new.input now bytes (Ok status) → IsWholePart g old new now status
+    by bytes written (inl response) =
+        let r = reached g old.keeper new.keeper response.what bytes status response.response in
+        record {
+          asked = response.what;
+          receives = response.receives;
+          out = r.out;
+          machine = r.machine;
+          bytes = bytes;
+          encodes = r.encodes;
+          written = written;
+          reaches = r.reaches;
+        }
+    by bytes written (inr short) = absurd (let no = short.fault in cc)
 
 part : {S : Type 0} (g : Ghosts S) (old new : Desk S) (now : ℕ) (end : Result ℕ DeskFault) → new.keeper.is_open ≡ true → Converses g old new now end → IsPart g old new now end
-part g old new now end opened h = by (has_response g old new now end h)
-  where
-    response_part : (bytes : List ℕ) (response_end : Result ℕ DeskFault) → (end ≡ response_end) ⊎ (end ≡ Err DeskFault.Write)
-        → IsResponse g old.keeper new.keeper old.input new.input now bytes response_end → IsPart g old new now end
-    response_part bytes response_end same (inl response) = asked_part g old new now end response_end response.what bytes same opened response.receives response.response
-    response_part bytes response_end same (inr short) = nothing_done g old new now end short.unchanged
-
-    by : (new.keeper ≡ old.keeper) ⊎ HasResponse g old new now end → IsPart g old new now end
-    by (inl unchanged) = nothing_done g old new now end unchanged
-    by (inr l) = response_part l.bytes l.response_end l.same l.response
+part g old new now (Ok status) opened h =
+    let whole = whole_part g old new now status h in
+    record { done = call_asked whole.asked; does = record { asked = whole.asked; receives = whole.receives; spelt = refl }; reaches = whole.reaches }
+part g old new now (Err fault) opened h = lost_part g old new now fault opened h
 
 leaves_open : {S : Type 0} (g : Ghosts S) (old new : Desk S) (conversation : Conversation) → new.keeper.is_open ≡ true → (p : IsPart g old new conversation.now conversation.end) → LeavesOpen g old new conversation p.done
 leaves_open g old new conversation opened p =
-    record { asked = p.asked; asks = p.asks; done_of = p.done_of; is_open = opened; farm = p.reaches.farm; keeps = p.reaches.keeps }
+    record { does = p.does; is_open = opened; farm = p.reaches.farm; keeps = p.reaches.keeps }
 
 -- the end of a list is open only where each place before it is
 was_open : {S : Type 0} (g : Ghosts S) (conversations : List Conversation) (next new : Desk S) → ConverseInTurn g conversations next new → new.keeper.is_open ≡ true → next.keeper.is_open ≡ true
@@ -178,7 +186,7 @@ cut_by g old new now end (Ask.Call call) KeepFault.NoMemory opened same receives
     λ keeps. subst (λ conn. StandsFor (state g conn) old.keeper.farm.farm) (sym cause.store) keeps in
     record {
       call = call;
-      asks = inl (Ok (Ask.Call call), receives, refl);
+      asks = record { asked = Ok (Ask.Call call); receives = receives; spelt = refl };
       change = cause.change;
       closing = (elim same as (λ s. IsClosing end) [ inl e ↦ subst (λ r. IsClosing r) (sym e) tt | inr e ↦ subst (λ r. IsClosing r) (sym e) tt ]);
       leaves = λ keeps.
@@ -191,7 +199,7 @@ cut_by g old new now end (Ask.Call call) KeepFault.NoMemory opened same receives
 cut_by g old new now end (Ask.Call call) KeepFault.Store opened same receives cause =
     record {
       call = call;
-      asks = inl (Ok (Ask.Call call), receives, refl);
+      asks = record { asked = Ok (Ask.Call call); receives = receives; spelt = refl };
       change = cause.change;
       closing = (elim same as (λ s. IsClosing end) [ inl e ↦ subst (λ r. IsClosing r) (sym e) tt | inr e ↦ subst (λ r. IsClosing r) (sym e) tt ]);
       leaves = λ keeps.
@@ -212,7 +220,7 @@ asked_cut g old new now end (Err DeskFault.NoMemory) asked bytes opened closed s
 asked_cut g old new now end (Err (DeskFault.Keep fault)) (Ok what) bytes opened closed same receives response = cut_by g old new now end what fault opened same receives response.cause
 asked_cut g old new now end response_end asked bytes opened closed same receives response = absurd response
 
-cut : {S : Type 0} (g : Ghosts S) (old new : Desk S) (now : ℕ) (end : Result ℕ DeskFault) → old.keeper.is_open ≡ true → new.keeper.is_open ≡ false → Converses g old new now end → IsCut g old new now end
+pub cut : {S : Type 0} (g : Ghosts S) (old new : Desk S) (now : ℕ) (end : Result ℕ DeskFault) → old.keeper.is_open ≡ true → new.keeper.is_open ≡ false → Converses g old new now end → IsCut g old new now end
 cut g old new now end opened closed h = by (has_response g old new now end h)
   where
     shut : {A : Type 0} → new.keeper ≡ old.keeper → A

@@ -190,23 +190,22 @@ IsAnsweredAgain = (F : Farm) (before between after : List Exchange) (first secon
 
 -- ---- however they end
 
--- the bytes that left the reader ask these calls, or nothing was understood
-abbrev pub AsksCalls : Option (List ℕ) → Option (List ℕ) → ℕ → List Call → Type 0
-AsksCalls input rest now calls =
-    ((asked : Result Ask Denial) × Receives input rest now asked × (calls ≡ call_asked asked))
-    ⊎ (calls ≡ [])
+-- the bytes that left the reader ask these calls: one, or none
+pub record AsksCalls (input rest : Option (List ℕ)) (now : ℕ) (calls : List Call) : Type 0 where
+  pub asked : Result Ask Denial
+  pub receives : Receives input rest now asked
+  pub spelt : calls ≡ call_asked asked
 
--- a call that was answered is done; one whose answer was not is done or not
-abbrev pub IsDoneOf : Result ℕ DeskFault → List Call → List Call → Type 0
-IsDoneOf (Ok status) asked done = done ≡ asked
-IsDoneOf (Err fault) asked done = (done ≡ []) ⊎ (done ≡ asked)
+-- a conversation that was answered did the calls that its bytes ask; another did these, or none
+abbrev pub DoesAsked : Option (List ℕ) → Option (List ℕ) → ℕ → Result ℕ DeskFault → List Call
+    → Type 0
+DoesAsked input rest now (Ok status) done = AsksCalls input rest now done
+DoesAsked input rest now (Err fault) done = (done ≡ []) ⊎ AsksCalls input rest now done
 
 -- a conversation does these calls and leaves the keeper open
 pub record LeavesOpen {S : Type 0} (g : Ghosts S) (old new : Desk S) (conversation : Conversation)
     (done : List Call) : Type 0 where
-  pub asked : List Call
-  pub asks : AsksCalls old.input new.input conversation.now asked
-  pub done_of : IsDoneOf conversation.end asked done
+  pub does : DoesAsked old.input new.input conversation.now conversation.end done
   pub is_open : new.keeper.is_open ≡ true
   pub farm : new.keeper.farm.farm ≡ run old.keeper.farm.farm done
   pub keeps : KeepsOwnFarm g old.keeper → KeepsOwnFarm g new.keeper

@@ -10,3 +10,5 @@ pub mod Clients
 pub mod Connections
 pub mod Scripts
 pub mod Imports
+pub mod Stops
+pub mod DeskLives

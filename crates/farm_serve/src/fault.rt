@@ -3,8 +3,9 @@ ghost use Rattle.std.specs.Prelude.{◌≡◌};
 ghost use Rattle.farm_serve.specs.Faults.{desk_fault_code};
 
 use farm_jobfile::FileFault;
-use farm_keep::KeepFault;
+use farm_keep::{KeepFault, Unkept};
 use farm_types::{NO_MEMORY, READ, Refusal, WRITE};
+use sqlite::Alter;
 use thiserror::Error;
 
 /// Why a conversation or an import ended without an answer of the farm. The texts are those of the
@@ -35,6 +36,16 @@ impl From<KeepFault> for DeskFault {
 
     fn from(fault: KeepFault) -> DeskFault {
         DeskFault::Keep(fault)
+    }
+}
+
+impl<S: Alter + Drop> From<Unkept<S>> for DeskFault {
+    ghost use Rattle.farm_serve.specs.declared.fault.DeskFault.TheVariants.{Keep};
+
+    ghost from_gives = { λ unkept e. e ≡ Keep unkept.fault };
+
+    fn from(unkept: Unkept<S>) -> DeskFault {
+        DeskFault::Keep(unkept.fault())
     }
 }
 

@@ -1,8 +1,13 @@
 //! Conversations one after another, and the laws over them.
 ghost use Rattle.std.specs.Prelude.{◌≡◌, ◌≢◌, ◌≤◌, ◌+◌, ◌++◌, ◌↔◌, List, length, Some, Err, IsOk};
-ghost use Rattle.std.specs.Prelude.{OnOk, IfErr, vec_capacity, false, ⊤};
+ghost use Rattle.std.specs.Prelude.{OnOk, IfErr, vec_capacity, false, ⊤, ℕ, Result};
 ghost use Rattle.sqlite.specs.Held.{state};
+ghost use Rattle.sqlite.specs.State.{HasCleanDisk};
+ghost use Rattle.sqlite.specs.Tree.{Trees};
 ghost use Rattle.sqlite_trees.specs.View.{doubt};
+ghost use Rattle.farm_types.specs.Sound.{IsSound};
+ghost use Rattle.farm_keep.specs.KeeperState.{KeeperState, KeepsOwnFarm};
+ghost use Rattle.farm_keep.specs.Lives.{GivesFarm, OpensOn};
 ghost use Rattle.farm_serve.specs.Conversations.{Desk, Conversation, ConverseInTurn, desk};
 ghost use Rattle.farm_serve.specs.Conversations.{AnswersAll, StopsAt, AnsweredActAsRun};
 ghost use Rattle.farm_serve.specs.Conversations.{ConverseApart, IsAnsweredAgain};
@@ -10,16 +15,27 @@ ghost use Rattle.farm_serve.specs.Conversations.{OpenKeepsDone, ClosedKeepsPrefi
 ghost use Rattle.farm_serve.specs.Ends.{IsAnswered, IsUnwritten, EndsWritten, HasNoRoom};
 ghost use Rattle.farm_serve.specs.Scripts.{client_list_of};
 ghost use Rattle.farm_serve.specs.Response.{IsResponse};
-ghost use Rattle.farm_serve.specs.Connections.{ServesInTurn};
+ghost use Rattle.farm_serve.specs.Connections.{AreServedInTurn, Connection as Link, ServesInTurn};
 ghost use Rattle.farm_serve.specs.Serving.{ServesUntil};
+ghost use Rattle.farm_store.specs.Columns.{rows_of};
+ghost use Rattle.farm_store.specs.Holds.{Holds};
+ghost use Rattle.farm_types.specs.Farm.{Farm as Plain};
+ghost use Rattle.farm_serve.specs.DeskLives.{AreDeskLives, DeskLife, all_connections};
+ghost use Rattle.farm_serve.specs.Imports.{IsImport};
+ghost use Rattle.farm_serve.specs.Stops.{GivesImported, GivesServed, GivesSome};
+ghost use Rattle.farm_serve.specs.declared.fault.DeskFault.{DeskFault};
+ghost use Rattle.farm_serve.specs.declared.lab_import.ImportEnd.{ImportEnd};
 
+use crate::clients::Clients;
 use crate::conversation::converse;
 use crate::fault::DeskFault;
 use crate::scripted_clients::ScriptedClients;
 use crate::serving::serve;
+use farm_core::Farm;
 use farm_http::{Input, Output};
-use farm_keep::{KeepFault, Keeper};
-use sqlite::Alter;
+use farm_keep::{KeepFault, Keeper, found};
+use farm_store::opened_stands;
+use sqlite::{Alter, Connection};
 use std::alloc::Global;
 
 /// Converses once at each moment, one conversation after another over one reader and one writer,
@@ -118,3 +134,85 @@ pub fn conversations_keep_a_prefix<S: Alter>()
     ensures opened { OpenKeepsDone S.Store }
     ensures closed { ClosedKeepsPrefix S.Store }
 {}
+
+/// The crash prefix of what the program does: after any clients were served, by whatever ended it,
+/// what a stop leaves is found again as exactly the farm after calls that the clients' bytes ask,
+/// in their order, with every one that was answered whole. `AreServedInTurn` is what `serve`
+/// ensures of its clients, and holds of each front of them too: so a stop between two of them is
+/// meant as well. It is `found`, on a store that was opened on what was left.
+pub fn found_after_serving<S: Alter, K: Clients>(
+    alloc: Global,
+    conn: &mut Connection<S>,
+) -> Result<Farm, KeepFault>
+    requires { conn.old.in_transaction ≡ false }
+    ensures { HasCleanDisk (state S.Store conn.new)
+        → (connections : List Link) (old new : KeeperState S)
+        → IsSound old.farm.farm → KeepsOwnFarm S.Store old
+        → AreServedInTurn S.Store K.Reader.never_fails connections old new
+        → HasCleanDisk (state S.Store new.conn)
+        → (left : Trees) → (state S.Store new.conn).may_leave left
+        → OpensOn (state S.Store conn.old) left
+        → GivesServed result old.farm.farm connections }
+{
+    opened_stands(conn);
+    found(alloc, conn)
+}
+
+/// The same of clients of whom nothing is known, as those of a listener: `ServesUntil` is what
+/// `serve` ensures of any, and farm_desk's `serve_on` too.
+pub fn found_after_any_clients<S: Alter>(
+    alloc: Global,
+    conn: &mut Connection<S>,
+) -> Result<Farm, KeepFault>
+    requires { conn.old.in_transaction ≡ false }
+    ensures { HasCleanDisk (state S.Store conn.new)
+        → (old new : KeeperState S) (max : ℕ) (end : Result ⊤ DeskFault)
+        → IsSound old.farm.farm → KeepsOwnFarm S.Store old
+        → ServesUntil S.Store old new max end → HasCleanDisk (state S.Store new.conn)
+        → (left : Trees) → (state S.Store new.conn).may_leave left
+        → OpensOn (state S.Store conn.old) left
+        → GivesSome result old.farm.farm max }
+{
+    opened_stands(conn);
+    found(alloc, conn)
+}
+
+/// The crash prefix of an import: what a stop leaves after one, however it ended, is found again as
+/// exactly the farm after the calls of the text that were done or, where a fault of the store ended
+/// it, perhaps after one call more. `IsImport` is what `import` ensures.
+pub fn found_after_import<S: Alter>(
+    alloc: Global,
+    conn: &mut Connection<S>,
+) -> Result<Farm, KeepFault>
+    requires { conn.old.in_transaction ≡ false }
+    ensures { HasCleanDisk (state S.Store conn.new)
+        → (old new : KeeperState S) (text : List ℕ) (now : ℕ) (end : ImportEnd)
+        → IsSound old.farm.farm → KeepsOwnFarm S.Store old
+        → IsImport S.Store old new text now end → HasCleanDisk (state S.Store new.conn)
+        → (left : Trees) → (state S.Store new.conn).may_leave left
+        → OpensOn (state S.Store conn.old) left
+        → GivesImported (GivesFarm result) old.farm.farm text now end end.fault }
+{
+    opened_stands(conn);
+    found(alloc, conn)
+}
+
+/// The crash prefix over any list of lives of the desk: each opens the store on what the stop
+/// before it left, and is stopped while it looks for the farm, or adopts it, serves clients and is
+/// stopped. What the last one left is found again as exactly the farm after calls that the clients
+/// of all lives asked, in their order, with every one that was answered whole.
+pub fn desk_lives_keep_what_was_answered<S: Alter, K: Clients>(
+    alloc: Global,
+    conn: &mut Connection<S>,
+) -> Result<Farm, KeepFault>
+    requires { conn.old.in_transaction ≡ false }
+    ensures { HasCleanDisk (state S.Store conn.new)
+        → (F : Plain) (lives : List (DeskLife S)) (first last : Trees)
+        → IsSound F → Holds first (rows_of F)
+        → AreDeskLives S.Store K.Reader.never_fails lives first last
+        → OpensOn (state S.Store conn.old) last
+        → GivesServed result F (all_connections lives) }
+{
+    opened_stands(conn);
+    found(alloc, conn)
+}

@@ -8,7 +8,7 @@
 //! Read `src/` in the order fault, answer, conversation; lab_import; clients, serving,
 //! scripted_clients; laws. Read `specs/` in the order Faults, Received, Answers, Encoding, Response,
 //! Ends, which say what a conversation is; Serving, Conversations, Clients, Scripts, Connections, what
-//! several are; Imports, what an import is.
+//! several are; Imports, what an import is; Stops, DeskLives, what is found again after a stop.
 #![tactic(auto)]
 
 mod answer;
@@ -38,5 +38,6 @@ pub use fault::DeskFault;
 // What is proved of conversations: functions that only proofs read.
 pub use laws::{
     answered_act_as_run, conversations_join, conversations_keep_a_prefix, converse_in_memory,
-    converse_in_turn, request_answered_again, serve_in_memory,
+    converse_in_turn, desk_lives_keep_what_was_answered, found_after_any_clients,
+    found_after_import, found_after_serving, request_answered_again, serve_in_memory,
 };

@@ -1,7 +1,10 @@
 //! Laws over the machine.
 ghost use Rattle.std.specs.Prelude.{◌≡◌, ℕ, List, [], Some, Ok};
 ghost use Rattle.farm_types.specs.Agreed.{RefusalsAgree};
-ghost use Rattle.farm_types.specs.Words.{IsTags};
+ghost use Rattle.farm_types.specs.Words.{IsTags, is_word, word_or};
+ghost use Rattle.farm_types.specs.Reads.{OrNoMemory, refused_code};
+ghost use Rattle.farm_types.specs.Limits.{longest_key, longest_name};
+ghost use Rattle.farm_types.specs.Refusals.{bad_key, bad_name};
 ghost use Rattle.farm_types.specs.Tags.{tags_read, tags_text};
 ghost use Rattle.farm_types.specs.Codes.{health_code, health_with, state_code, state_with};
 ghost use Rattle.farm_types.specs.Codes.{job_state_code, job_state_with, outcome_code};
@@ -13,6 +16,10 @@ ghost use Rattle.farm_types.specs.declared.rows.Outcome.{Outcome};
 ghost use Rattle.farm_types.specs.declared.rows.ResState.{ResState};
 ghost use Rattle.farm_types.specs.Farm.{Farm};
 ghost use Rattle.farm_types.specs.Machine.{run};
+
+use crate::fault::WordFault;
+use crate::words::{Key, Name};
+use std::alloc::Global;
 
 /// A run of no calls stays.
 pub fn nothing_runs()
@@ -39,3 +46,19 @@ pub fn tags_read_back()
     ensures only { (tags : List (List ℕ)) (text : List ℕ) → tags_read text ≡ Ok tags
         → tags_text tags ≡ text }
 {}
+
+/// A name is a word up to the limit of names, and any other text is refused as no name.
+pub fn names_are_parsed(alloc: Global, text: &[u8]) -> Result<Name, WordFault>
+    ensures { OrNoMemory refused_code (λ name. name) result
+        (word_or (is_word longest_name text.now) text.now bad_name) }
+{
+    Name::parse(alloc, text)
+}
+
+/// A key is a word up to the limit of keys, and any other text is refused as no key.
+pub fn keys_are_parsed(alloc: Global, text: &[u8]) -> Result<Key, WordFault>
+    ensures { OrNoMemory refused_code (λ key. key) result
+        (word_or (is_word longest_key text.now) text.now bad_key) }
+{
+    Key::parse(alloc, text)
+}

@@ -76,5 +76,8 @@ pub use limits::{
 };
 
 // What is proved of the definitions and of the numbers here: functions that only proofs read.
-pub use laws::{codes_read_back, nothing_runs, refusals_agree, tags_read_back};
+pub use laws::{
+    codes_read_back, keys_are_parsed, names_are_parsed, nothing_runs, refusals_agree,
+    tags_read_back,
+};
 pub use limits::limits_agree;

@@ -82,7 +82,7 @@ class Hold:
         meanwhile is raised once it is done. `fault` is why it ends, if it isn't over by itself; a
         board that can't be given back is raised only where there is no such reason. A child of the
         process that reserved it gives nothing back."""
-        if self._process != os.getpid():
+        if not self.is_own():
             return
         until = time.monotonic() + GIVES_UP
         key = fresh_key()
@@ -102,6 +102,10 @@ class Hold:
         OPEN.discard(self)
         if came is not None:
             raise came
+
+    def is_own(self) -> bool:
+        """Whether this process reserved it."""
+        return self._process == os.getpid()
 
     def _give_back(self, key: str, until: float, is_refused: bool) -> None:
         """Cancels the reservation, so that its board is free, and tries so until a moment. One
@@ -131,9 +135,14 @@ class Hold:
 
 @atexit.register
 def end_all() -> None:
-    """Gives back what a `with` that was cut off in its midst left."""
-    for it in list(OPEN):
+    """Gives back what a `with` that was cut off in its midst left. The program ends, so that it is
+    interrupted meanwhile is no news to anybody."""
+    for _ in range(MOST_INTERRUPTS):
         try:
-            it.end()
+            for it in [it for it in OPEN if it.is_own()]:
+                it.end()
+            return
         except FizgrukError as fault:
             LOG.error("%s", fault)
+        except BaseException:  # pylint: disable=broad-except
+            continue

@@ -11,6 +11,7 @@ from typing import Iterator, List, Optional, Union
 
 import pytest
 
+from fizgruk import holding
 from fizgruk.client import Client
 from fizgruk.errors import FizgrukError
 from fizgruk.models import Board
@@ -65,6 +66,7 @@ def pytest_configure(config: pytest.Config) -> None:
 
 
 def pytest_unconfigure() -> None:
+    holding.end_all()  # where signals kept pytest from it, before the next one ends the process
     if threading.current_thread() is threading.main_thread():
         for number in SIGNALS:
             if signal.getsignal(number) is end:
@@ -116,3 +118,4 @@ def tell(config: pytest.Config, text: str) -> None:
     with capture.global_and_fixture_disabled() if capture else contextlib.nullcontext():
         reporter.ensure_newline()
         reporter.write_line(f"farm: {text}")
+        reporter.flush()  # a log of a pipeline says at once why it waits

@@ -61,7 +61,7 @@ def address_of(server: str) -> urllib.parse.SplitResult:
         address = urllib.parse.urlsplit(server)
         if "@" in address.netloc:
             raise BadSettings(NO_LOGIN)
-        if address.scheme in ("http", "https") and address.hostname and (address.port or 1) > 0:
+        if address.scheme in ("http", "https") and address.hostname and address.port != 0:
             return address
     except ValueError:
         pass

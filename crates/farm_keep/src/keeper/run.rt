@@ -1,14 +1,17 @@
 //! One call after another.
-ghost use Rattle.std.specs.Prelude.{◌≡◌, true, false, IfOk, IfErr, [], vec_len};
+ghost use Rattle.std.specs.Prelude.{◌≡◌, true, false, IfOk, IfErr, MatchResult, Some, None, []};
+ghost use Rattle.std.specs.Prelude.{vec_len};
 ghost use Rattle.std.specs.Result.{result_err};
 ghost use Rattle.sqlite.specs.Held.{state};
+ghost use Rattle.sqlite.specs.State.{HasCleanDisk};
 ghost use Rattle.farm_types.specs.Sound.{IsSound};
 ghost use Rattle.farm_keep.specs.Faults.{IsFindFault};
-ghost use Rattle.farm_keep.specs.Headline.{GivesNoKeeper, IsAlwaysClean, Resumes, Runs};
+ghost use Rattle.farm_store.specs.Holds.{ReadsOnly};
+ghost use Rattle.farm_keep.specs.Headline.{GivesNoKeeper, Resumes, Runs};
 ghost use Rattle.farm_keep.specs.Versions.{LooksForFarm};
 
 use crate::fault::KeepFault;
-use crate::keeper::Keeper;
+use crate::keeper::{Keeper, Unkept};
 use farm_types::{Answer, Call};
 use sqlite::{Alter, Connection};
 use std::alloc::Global;
@@ -24,7 +27,7 @@ pub struct RunEnd {
     pub fault: Option<KeepFault>,
 }
 
-impl<S: Alter + Drop> Keeper<S> {
+impl<S: Alter> Keeper<S> {
     /// Adopts the farm whose tables the store holds, then runs: it gives a keeper where `adopt`
     /// gives one, and all that `run` says is true from there on. A fault of the run stands in its
     /// end; a fault of the adoption gives no keeper, and is the one that `adopt` would report.
@@ -32,13 +35,18 @@ impl<S: Alter + Drop> Keeper<S> {
         alloc: Global,
         conn: Connection<S>,
         calls: &[Call],
-    ) -> Result<(Keeper<S>, RunEnd), KeepFault>
+    ) -> Result<(Keeper<S>, RunEnd), Unkept<S>>
         requires autocommit { conn.in_transaction ≡ false }
         ensures resumed { IfOk result (λ r. Resumes S.Store conn r.0 r.1 calls.now) }
-        ensures refused { IsAlwaysClean S.Store → IfErr result (GivesNoKeeper (state S.Store conn)) }
-        ensures version { IsAlwaysClean S.Store
-            → LooksForFarm (result_err result) (state S.Store conn).now }
-        ensures fault { IfErr result IsFindFault }
+        ensures fault { IfErr result (λ u. IsFindFault u.fault) }
+        ensures denied { IfErr result (λ u. HasCleanDisk (state S.Store u.conn)
+            → GivesNoKeeper (state S.Store conn) u.fault) }
+        ensures version { MatchResult result
+            (λ r. HasCleanDisk (state S.Store r.0.conn)
+            → LooksForFarm None (state S.Store conn).now)
+            (λ u. HasCleanDisk (state S.Store u.conn)
+            → LooksForFarm (Some u.fault) (state S.Store conn).now) }
+        ensures only { IfErr result (λ u. ReadsOnly (state S.Store conn) (state S.Store u.conn)) }
     {
         let mut keeper = Keeper::adopt(alloc, conn)?;
         let end = keeper.run(calls);

@@ -7,6 +7,6 @@ use Rattle.farm_desk.proofs.pending.Pending.poll_events.Given as goal
 -- the fields stand one by one while the events are lent: both rows, and those that were refused
 abbrev pub invariant-loop-event : goal.invariant-loop-event
 invariant-loop-event l =
-    let rows = l.self.1.1.1.1.1 in
-    let refused = rows.1.1.1.1.1.0 in
+    let rows = l.self.1.1.1.1 in
+    let refused = rows.1.1.1.1.1.1.0 in
     outstanding l.fn.self < 2 ^ 64 → l.fn.self.to_accept + refused + deque_len rows.0 + deque_len rows.1.0 ≡ outstanding l.fn.self

@@ -1,0 +1,69 @@
+#!/usr/bin/env python3
+"""Times redraws of the status page: python3 bench/page.py bin/farm
+
+256 boards and 3,000 waiting claims are shown in a headless Chromium and drawn anew. Prints the least of several
+of each, in milliseconds of the processor's time at script, styles and layout, so other work of the machine isn't in
+it. On a screen of 60 frames a second a redraw beyond 50 is seen as a stutter: then it ends with status 1.
+"""
+from __future__ import annotations
+
+import os
+import shutil
+import sys
+import tempfile
+import time
+
+sys.path.insert(0, os.path.join(os.path.dirname(os.path.abspath(__file__)), "../tests/shared"))
+from browser import Browser  # noqa: E402
+from pages import HEAD, Lab, full_farm  # noqa: E402
+from served import Farm  # noqa: E402
+
+LONGEST_REDRAW = 50
+ROUNDS = 7
+# What is drawn anew, each with the farm as it was before the first of them.
+REDRAWS = [
+    ("the same again", "makeRows(); draw()"),
+    ("a second later", "draw()"),
+    (
+        "all boards changed",
+        """farm.boards = farm.boards.map(it => ({...it, health: "Unknown",
+          tags: [...it.tags, "new-" + performance.now()]})); makeRows(); draw()""",
+    ),
+    ("two thousand claims gone", "farm.queue = farm.queue.slice(2000); makeRows(); draw()"),
+    ("a search", "choose('user-7')"),
+    ("the search's end", "choose('')"),
+    ("sorted", HEAD.format(table="queue", text="Owner") + ".querySelector('button').click()"),
+]
+
+
+def measure(program: str, folder: str) -> dict[str, float]:
+    """The least cost of each redraw."""
+    browser = Browser(folder)
+    lab = Lab(browser, Farm(program, folder, []), "ann")
+    lab.files.update(full_farm(int(time.time())))
+    opened = lab.opened(before="", wide=1280, high=1000)
+    opened.ask("void (window.kept = {...farm})")
+    least = {name: float("inf") for name, _ in REDRAWS}
+    for _ in range(ROUNDS):
+        for name, what in REDRAWS:
+            least[name] = min(least[name], opened.cost(what))
+        opened.ask("void (farm = {...kept}, makeRows(), draw())")
+    lab.end()
+    browser.end()
+    return least
+
+
+def main() -> None:
+    folder = tempfile.mkdtemp()
+    try:
+        least = measure(os.path.realpath(sys.argv[1]), folder)
+    finally:
+        # (Chromium may still write)
+        shutil.rmtree(folder, ignore_errors=True)
+    for name, cost in least.items():
+        print(f"{name:24} {cost:6.1f} ms")
+    sys.exit(max(least.values()) > LONGEST_REDRAW)
+
+
+if __name__ == "__main__":
+    main()

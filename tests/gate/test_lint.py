@@ -1,0 +1,59 @@
+"""What linters say of the files of the project: nothing."""
+from __future__ import annotations
+
+import pathlib
+import subprocess
+
+import pytest
+from served import TOP
+from wants import wants, wants_python_with
+
+SHELLS = ("#!/bin/sh", "#!/bin/bash", "#!/usr/bin/env bash")
+# What mypy reads at once, by the folder that it is called in.
+TYPED = {"tools": ["farm_tools"], "python/src": ["fizgruk"]}
+
+
+def files_of_the_project() -> list[pathlib.Path]:
+    """The files that git keeps, and new ones that it doesn't ignore; in a copy without git all of them."""
+    words = ["git", "-C", TOP, "ls-files", "-co", "--exclude-standard"]
+    try:
+        listed = subprocess.run(words, capture_output=True, text=True, check=True).stdout.splitlines()
+    except (OSError, subprocess.CalledProcessError):
+        listed = [str(it.relative_to(TOP)) for it in pathlib.Path(TOP).rglob("*") if "out" not in it.parts]
+    return [it for it in (pathlib.Path(TOP, name) for name in listed) if it.is_file()]
+
+
+def first_line(file: pathlib.Path) -> str:
+    with open(file, "rb") as opened:
+        return opened.readline(200).decode(errors="replace").rstrip("\n")
+
+
+def said(*words: object, where: str = ".") -> str:
+    """What a linter prints, where it ends with another status than 0."""
+    ran = subprocess.run(
+        [str(it) for it in words], cwd=pathlib.Path(TOP, where), stdin=subprocess.DEVNULL, stdout=subprocess.PIPE,
+        stderr=subprocess.STDOUT, text=True, check=False,
+    )
+    return ran.stdout if ran.returncode else ""
+
+
+def test_flake8_finds_nothing_in_python() -> None:
+    python = wants_python_with("flake8")
+    files = [it for it in files_of_the_project() if it.suffix == ".py" or "python3" in first_line(it)]
+    assert len(files) > 50
+    assert said(python, "-m", "flake8", *files) == ""
+
+
+def test_shellcheck_finds_nothing_in_shell_scripts() -> None:
+    wants("shellcheck")
+    files = [it for it in files_of_the_project() if it.suffix == ".sh" or first_line(it) in SHELLS]
+    assert len(files) > 10
+    assert said("shellcheck", "--severity=warning", *files) == ""
+
+
+@pytest.mark.slow(20)
+@pytest.mark.parametrize("folder", TYPED)
+def test_mypy_finds_no_wrong_type(folder: str, tmp_path: pathlib.Path) -> None:
+    python = wants_python_with("mypy")
+    found = said(python, "-m", "mypy", "--strict", "--cache-dir", tmp_path, *TYPED[folder], where=folder)
+    assert found == ""

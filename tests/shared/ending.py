@@ -1,0 +1,59 @@
+"""The last lines of a run: what wasn't tried, and 'N passed, M failed, K skipped'."""
+from __future__ import annotations
+
+import os
+from typing import Dict, List, Set
+
+import pytest
+
+ROW = "not tried"  # the property of a test that left out a row of its own, whose value is 'NAME (why)'
+
+
+class Ending:
+    """Counts how tests ended. A test that fails in its teardown alone counts once, as failed; one that
+    leaves out a row of its own says so by the property 'not tried', and the row counts as skipped."""
+
+    def __init__(self, config: pytest.Config):
+        self.is_worker = hasattr(config, "workerinput")
+        self.passed: Set[str] = set()
+        self.failed: Set[str] = set()
+        self.skipped: Dict[str, str] = {}
+        self.rows: List[str] = []
+
+    def pytest_collectreport(self, report: pytest.CollectReport) -> None:
+        if report.failed:
+            self.failed.add(report.nodeid)
+        elif report.skipped:
+            self.skipped[report.nodeid] = why_of(report)
+
+    def pytest_runtest_logreport(self, report: pytest.TestReport) -> None:
+        name = report.nodeid
+        if report.failed:
+            self.failed.add(name)
+            self.passed.discard(name)
+        elif report.skipped:
+            self.skipped[name] = why_of(report)
+        elif report.when == "call" and name not in self.failed:
+            self.passed.add(name)
+        if report.when == "teardown":
+            self.rows += [str(text) for kind, text in report.user_properties if kind == ROW]
+
+    def lines(self) -> List[str]:
+        left = [f"{name.partition('::')[2] or name} ({why})" for name, why in sorted(self.skipped.items())]
+        left += sorted(self.rows)
+        told = [f"not tried: {', '.join(left)}"] if left else []
+        return [*told, f"{len(self.passed)} passed, {len(self.failed)} failed, {len(left)} skipped"]
+
+    def pytest_unconfigure(self) -> None:
+        if not self.is_worker and (self.passed or self.failed or self.skipped):
+            print("\n".join(["", *self.lines()]), flush=True)
+
+
+def why_of(report: pytest.CollectReport | pytest.TestReport) -> str:
+    """Why a test was skipped, in one line."""
+    told = report.longrepr[2] if isinstance(report.longrepr, tuple) else str(report.longrepr)
+    return " ".join(str(told).removeprefix("Skipped: ").split())
+
+
+def is_strict() -> bool:
+    return os.environ.get("FARM_STRICT") == "1"

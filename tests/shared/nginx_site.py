@@ -1,0 +1,156 @@
+"""The site of examples/nginx.conf before a farm: TLS, passwords, who asks, the page, history and logs."""
+from __future__ import annotations
+
+import base64
+import http.client
+import json
+import os
+import shutil
+import ssl
+import subprocess
+import sys
+from typing import Any, Dict, List, Optional, Sequence, Tuple
+
+from served import STARTED, TOOLS, TOP, Farm, environment, free_port, wait_until
+from wants import wants
+
+NEEDED = ("nginx", "openssl", "curl")
+NGINX = shutil.which("nginx") or shutil.which("nginx", path="/usr/sbin:/sbin")
+WORDS = {"ann": "open sesame", "dispatcher": "pass on"}
+AROUND = """\
+user root;
+worker_processes 1;
+error_log {folder}/error.log;
+pid {folder}/nginx.pid;
+events {{}}
+http {{
+    log_format asked '$msec $status $request_method $request_uri $upstream_addr';
+    access_log {folder}/asked.log asked;
+    client_body_temp_path {folder}/body;
+    proxy_temp_path {folder}/proxy;
+    fastcgi_temp_path {folder}/fastcgi;
+    uwsgi_temp_path {folder}/uwsgi;
+    scgi_temp_path {folder}/scgi;
+{site}
+}}
+"""
+
+
+class Site:
+    """The example's site before a served farm, with the passwords of ann and of dispatcher. It skips
+    the test where nginx, openssl or curl is missing."""
+
+    def __init__(self, farm: Farm, folder: str, changes: Sequence[Tuple[str, str]] = ()):
+        """`changes` are texts of the site, each with what stands in its place here."""
+        wants(*NEEDED)
+        self.folder, self.port = folder, free_port()
+        self.server = f"https://localhost:{self.port}"
+        self.certificate = os.path.join(folder, "farm.pem")
+        self.certify()
+        lines = []
+        for name, word in WORDS.items():
+            lines.append(f"{name}:{openssl('passwd', '-apr1', word).strip()}\n")
+            write(folder, name, f"{word}\n", 0o600)
+        write(folder, "farm.htpasswd", "".join(lines), 0o644)
+        write(folder, "nginx.conf", AROUND.format(folder=folder, site=self.text(farm, changes)), 0o644)
+        words = [str(NGINX), "-p", folder, "-c", f"{folder}/nginx.conf", "-g", "daemon off; master_process off;"]
+        self.process = subprocess.Popen(words, stdout=subprocess.DEVNULL, stderr=subprocess.DEVNULL)
+        STARTED.append(self.process)
+        wait_until("nginx listens", lambda: self.curl("-o", "/dev/null", "/") != 7)
+
+    def certify(self) -> None:
+        """Makes a certificate of its own."""
+        name = ["-subj", "/CN=localhost", "-addext", "subjectAltName=DNS:localhost"]
+        key = ["-newkey", "ec", "-pkeyopt", "ec_paramgen_curve:prime256v1", "-nodes"]
+        openssl("req", "-x509", *name, *key, "-keyout", f"{self.folder}/farm.key", "-out", self.certificate)
+
+    def text(self, farm: Farm, changes: Sequence[Tuple[str, str]]) -> str:
+        """The example's site in this folder."""
+        with open(os.path.join(TOP, "examples", "nginx.conf"), encoding="utf-8") as text:
+            site = text.read()
+        for old, new in [
+            ("listen 443 ssl", f"listen 127.0.0.1:{self.port} ssl"),
+            ("http://127.0.0.1:8080", farm.server),
+            ("/etc/ssl/certs/farm.pem", self.certificate),
+            ("/etc/ssl/private/farm.key", f"{self.folder}/farm.key"),
+            ("/etc/nginx/farm.htpasswd", f"{self.folder}/farm.htpasswd"),
+            ("/usr/local/lib/farm-tools", TOOLS),
+            ("/var/cache/farm-views", f"{self.folder}/views"),
+            ("/var/lib/farm-dispatch", f"{self.folder}/dispatch"),
+            *changes,
+        ]:
+            assert old in site, f"the example has no {old}"
+            site = site.replace(old, new)
+        return site
+
+    def asked_of_desk(self, since: float = 0) -> List[str]:
+        """What was asked of the desk since a moment: a list of methods and paths."""
+        with open(f"{self.folder}/asked.log", encoding="utf-8") as lines:
+            rows = [line.split() for line in lines]
+        return [f"{row[2]} {row[3]}" for row in rows if float(row[0]) >= since and row[4] != "-"]
+
+    def connection(self, user: str = "ann") -> Tuple[http.client.HTTPSConnection, Dict[str, str]]:
+        """A connection, and the fields that a user's requests have."""
+        word = base64.b64encode(f"{user}:{WORDS[user]}".encode()).decode()
+        trusted = ssl.create_default_context(cafile=self.certificate)
+        line = http.client.HTTPSConnection("localhost", self.port, timeout=60, context=trusted)
+        return line, {"authorization": f"Basic {word}"}
+
+    def curl(self, *words: str) -> int:
+        """What curl ends with; the last of its words is a path."""
+        return self._curled(words).returncode
+
+    def said(self, *words: str, user: str = "ann") -> Tuple[int, str, Any]:
+        """The status, the kind and the JSON of an answer; the last of curl's words is a path."""
+        ran = self._curled(["-w", "\n%{http_code} %{content_type}", *login(user), *words])
+        body, _, end = ran.stdout.rpartition(b"\n")
+        status, _, kind = end.decode().partition(" ")
+        return int(status), kind, json.loads(body)
+
+    def got(self, path: str, *words: str, user: str = "ann") -> Tuple[int, Dict[str, str], bytes]:
+        """The status, the fields of the head and the body of an answer, whatever the path is."""
+        ran = self._curled(["-i", "--path-as-is", "--http1.1", *words, *login(user), path])
+        head, _, body = ran.stdout.partition(b"\r\n\r\n")
+        lines = head.decode().split("\r\n")
+        fields = dict(line.lower().split(": ", 1) for line in lines[1:])
+        return int(lines[0].split()[1]), fields, body
+
+    def _curled(self, words: Sequence[str]) -> "subprocess.CompletedProcess[bytes]":
+        head = ["curl", "-s", "--cacert", self.certificate, *words[:-1]]
+        return subprocess.run([*head, self.server + words[-1]], capture_output=True, check=False)
+
+    def settings(self, user: str = "ann", prefix: str = "DESK") -> Dict[str, str]:
+        """The settings by which a tool asks here as this user."""
+        return {
+            f"{prefix}_SERVER": self.server,
+            f"{prefix}_USER": user,
+            f"{prefix}_CA_FILE": self.certificate,
+            f"{prefix}_PASSWORD_FILE": os.path.join(self.folder, user),
+        }
+
+    def desk(self, *words: str, given: str = "", **more: str) -> Tuple[int, str, str]:
+        """What the client comes to: its status, output and errors."""
+        ran = subprocess.run(
+            [sys.executable, os.path.join(TOOLS, "desk"), *words],
+            input=given, capture_output=True, text=True, timeout=300, check=False,
+            env=environment(**{**self.settings(), **more}),
+        )
+        return ran.returncode, ran.stdout, ran.stderr
+
+
+def login(user: Optional[str]) -> List[str]:
+    """The words by which curl asks as a user."""
+    return ["-u", f"{user}:{WORDS[user]}"] if user else []
+
+
+def openssl(*words: str) -> str:
+    return subprocess.run(["openssl", *words], capture_output=True, text=True, check=True).stdout
+
+
+def write(folder: str, name: str, text: str, mode: int) -> str:
+    """The path of a new file of this text and mode."""
+    file = os.path.join(folder, name)
+    with open(file, "w", encoding="utf-8") as opened:
+        opened.write(text)
+    os.chmod(file, mode)
+    return file

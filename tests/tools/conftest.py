@@ -1,0 +1,64 @@
+"""A browser, labs with a status page, and the site of the example before a farm."""
+from __future__ import annotations
+
+import time
+from typing import Any, Callable, Iterator, List, Optional, Sequence
+
+import pytest
+
+from browser import Browser, Visit, wants_a_browser
+from nginx_site import Site
+from pages import BOARDS, HOUR, Lab, begin_at
+from served import Board, Farm
+
+
+@pytest.fixture(scope="session")
+def browser(tmp_path_factory: pytest.TempPathFactory) -> Iterator[Browser]:
+    """A Chromium for all tests of a process."""
+    wants_a_browser()
+    started = Browser(str(tmp_path_factory.mktemp("browser")))
+    yield started
+    started.end()
+
+
+@pytest.fixture
+def visit(browser: Browser) -> Iterator[Visit]:
+    """Pages of a browser that keeps no login."""
+    begun = browser.visit()
+    yield begun
+    begun.end()
+
+
+@pytest.fixture
+def make_lab(make_farm: Callable[..., Farm], browser: Browser) -> Iterator[Callable[..., Lab]]:
+    """Makes a lab of these boards, looked at by ann or another user; where `at` is said, its boards are
+    added then, and its farm isn't served yet."""
+    made: List[Lab] = []
+
+    def make(boards: Sequence[Board] = BOARDS, user: Optional[str] = "ann", at: float = 0) -> Lab:
+        made.append(Lab(browser, make_farm([] if at else boards), user))
+        if at:
+            begin_at(made[-1].farm, at, boards)
+        return made[-1]
+
+    yield make
+    for lab in made:
+        lab.end()
+
+
+@pytest.fixture
+def lab(make_lab: Callable[..., Lab]) -> Lab:
+    """A lab of ann's whose clock is an hour ahead, and so stands: no lease of it ends."""
+    made = make_lab(at=time.time() + HOUR)
+    made.farm.start()
+    return made
+
+
+@pytest.fixture
+def make_site(folder: str) -> Callable[..., Site]:
+    """Makes the example's site before a farm, in the test's folder."""
+
+    def make(farm: Farm, *changes: Any) -> Site:
+        return Site(farm, folder, changes)
+
+    return make

@@ -1,0 +1,268 @@
+"""A served farm with a folder for its dispatchers, for the tests of farm-dispatch."""
+from __future__ import annotations
+
+import http.client
+import http.server
+import json
+import os
+import shutil
+import signal
+import subprocess
+import sys
+import threading
+from typing import Any, Callable, Dict, List, Optional, Sequence, Tuple
+
+from served import STARTED, TOOLS, Board, Farm, Tool, environment, read, wait_until
+
+# Runs the line `run = '..'` of a job's text, and notes that it began and ended.
+COMMAND = """#!/bin/sh
+trap : TERM
+echo "begin $FARM_JOB" >> "$RUNS"
+run=$(sed -n "s/^run = '\\(.*\\)'$/\\1/p" "$FARM_JOB_FILE")
+sh -c "${run:-true}"
+status=$?
+echo "end $FARM_JOB" >> "$RUNS"
+exit $status
+"""
+AT_IT = "while true; do sleep 0.1; done"
+BOARDS: List[Board] = [(f"b{place}", "bbb", ["serial"]) for place in range(1, 7)]
+TWO = "job_name = 'two'\nrun = '{}'\n[roles.a]\ndevice_type = 'bbb'\ncount = 2\n"
+CAGES = ("cgroup", "namespace", "none")
+
+
+class Lab:
+    """A served farm, and a folder for its dispatcher."""
+
+    def __init__(self, program: str, folder: str, boards: Sequence[Board] = BOARDS):
+        self.folder = folder
+        self.farm = Farm(program, self.folder, boards)
+        self.command = os.path.join(self.folder, "command")
+        self.runs = os.path.join(self.folder, "runs")
+        self.place = os.path.join(self.folder, "dispatch")
+        replace(self.command, COMMAND)
+        # a name of its own, so that no other test's processes are taken for this one's
+        self.sleep = os.path.join(self.folder, "sleep")
+        os.symlink(shutil.which("sleep") or "", self.sleep)
+
+    def dispatch(
+        self, *words: str, command: Optional[str] = None, every: str = "0.3", server: str = "",
+        place: str = "", **more: str
+    ) -> Tool:
+        """A dispatcher that runs, with more in its environment."""
+        head = ["farm-dispatch", "--server", server or self.farm.server, "--folder", place or self.place]
+        all_words = [*head, "--every", every, *words, command or self.command]
+        return Tool(all_words, self.folder, **{"RUNS": self.runs, **more})
+
+    def patched(self, patch: str, *words: str, server: str = "", every: str = "0.3") -> "subprocess.Popen[bytes]":
+        """A dispatcher of which a few lines were changed, so that a moment lasts."""
+        head = f"import os, signal, sys, time\nsys.path.insert(0, {TOOLS!r})\n{PATCH_HEAD}mark = {self.mark!r}\n"
+        code = f"{head}{patch}\nsys.exit(dispatch.main(sys.argv[1:]))\n"
+        own = ["--server", server or self.farm.server, "--folder", self.place, "--every", every, *words, self.command]
+        with open(os.path.join(self.folder, "patched"), "ab") as told:
+            tool = subprocess.Popen(
+                [sys.executable, "-c", code, *own], stdout=told, stderr=told, stdin=subprocess.DEVNULL,
+                env=environment(RUNS=self.runs),
+            )
+        STARTED.append(tool)
+        return tool
+
+    @property
+    def mark(self) -> str:
+        return os.path.join(self.folder, "mark")
+
+    def marked(self) -> bool:
+        """Whether a patched dispatcher is where it waits, or where it was killed."""
+        return os.path.exists(self.mark)
+
+    def finished(self, number: int, limit: float = 60) -> str:
+        """The result of a job, once it is Finished."""
+        wait_until(f"job {number} is Finished", lambda: self.farm.job(number)["state"] == "Finished", limit)
+        return str(self.farm.job(number)["result"])
+
+    def state(self, number: int) -> str:
+        return str(self.farm.job(number)["state"])
+
+    def work(self, number: int, name: str = "") -> str:
+        """A file in a job's own folder."""
+        return os.path.join(self.place, "jobs", str(number), name)
+
+    def file(self, number: int, name: str) -> str:
+        """A file that the dispatcher notes of a group."""
+        return os.path.join(self.place, "groups", str(number), name)
+
+    def begins(self, number: int) -> int:
+        """How often the command was begun for a job."""
+        return read(self.runs).split("\n").count(f"begin {number}")
+
+    def passes(self) -> int:
+        """How many passes the dispatchers of this lab have counted."""
+        text = read(os.path.join(self.place, "passes.json"))
+        return int(json.loads(text)["count"]) if text else 0
+
+    def begun(self, number: int) -> None:
+        wait_until(f"job {number} is begun", lambda: self.begins(number))
+
+    def first_line(self, dispatcher: Tool) -> str:
+        """A dispatcher's first line, once it is there."""
+        return wait_until("its first line", dispatcher.output)
+
+    def shell(self, run: str) -> "subprocess.Popen[bytes]":
+        """A process of the test's own."""
+        process = subprocess.Popen(run.split(), stdin=subprocess.DEVNULL)
+        STARTED.append(process)
+        return process
+
+    def some_passes(self, count: int = 3) -> None:
+        """Waits until so many more passes were asked for."""
+        before = self.passes()
+        wait_until(f"{count} more passes", lambda: self.passes() >= before + count)
+
+    def until(self, name: str) -> str:
+        """What a job runs that ends once it is let."""
+        return f"while ! test -e {self.folder}/{name}; do sleep 0.05; done"
+
+    def sleeps(self, seconds: int) -> str:
+        """What a job runs that sleeps for so long, in no shell."""
+        return f"exec {self.sleep} {seconds}"
+
+    def script(self, text: str, name: str = "script") -> str:
+        """What a job runs that has quotes or lines."""
+        replace(os.path.join(self.folder, name), f"#!/bin/sh\n{text}\n")
+        return f"sh {self.folder}/{name}"
+
+    def two(self, run: str = "true") -> List[int]:
+        """The numbers of a group of two that is submitted."""
+        first = int(self.farm.tell("ann", "/jobs", TWO.format(run).encode())["number"])
+        return [first, first + 1]
+
+    def let(self, name: str) -> None:
+        with open(os.path.join(self.folder, name), "w", encoding="utf-8"):
+            pass
+
+    def runner(self, number: int, place: str = "") -> Optional[int]:
+        """The process that runs a job's command."""
+        words = f"farm_tools.runner\0{os.path.join(place or self.place, 'groups', str(number))}\0"
+        found = [int(it) for it in os.listdir("/proc") if it.isdigit() and words in read_words(it)]
+        return min(found, default=None)
+
+    def kill_runner(self, number: int, place: str = "") -> None:
+        process = wait_until("its runner is there", lambda: self.runner(number, place))
+        os.kill(process, signal.SIGKILL)
+
+    def sleepers(self, seconds: int) -> List[int]:
+        """The processes of this lab that sleep for so many seconds."""
+        words = f"{self.sleep}\0{seconds}\0"
+        return [int(it) for it in os.listdir("/proc") if it.isdigit() and words in read_words(it)]
+
+    def running(self, seconds: int) -> List[int]:
+        """The same, once there is one: a job's begin is noted before its command starts."""
+        return wait_until(f"sleep {seconds} runs", lambda: self.sleepers(seconds))
+
+    def closes(self, dispatcher: Tool) -> None:
+        dispatcher.send(signal.SIGTERM)
+        assert dispatcher.ends() == 0, "the status after SIGTERM"
+        self.farm.kill()
+
+
+# What the code of `patched` begins with.
+PATCH_HEAD = """
+from farm_tools import dispatch, dispatcher, folders, groups
+D, G = dispatcher.Dispatcher, groups.Group
+def until(test, limit=40):
+    end = time.monotonic() + limit
+    while not test() and time.monotonic() < end:
+        time.sleep(0.02)
+def note(text=""):
+    with open(mark + ".new", "w") as file:
+        file.write(text)
+    os.rename(mark + ".new", mark)
+def die():
+    os.kill(os.getpid(), signal.SIGKILL)
+"""
+
+
+def replace(file: str, text: str) -> None:
+    """Puts an executable file in another's place at once."""
+    with open(f"{file}.new", "w", encoding="utf-8") as script:
+        script.write(text)
+    os.chmod(f"{file}.new", 0o755)
+    os.replace(f"{file}.new", file)
+
+
+def read_words(process: object) -> str:
+    try:
+        with open(f"/proc/{process}/cmdline", encoding="utf-8", errors="replace") as words:
+            return words.read()
+    except OSError:
+        return ""
+
+
+def end_commands(place: str) -> None:
+    """Kills the commands, and what runs them, that a test that fails left."""
+    for name in os.listdir("/proc"):
+        if name.isdigit() and int(name) != os.getpid() and f"{place}/" in read_words(name):
+            try:
+                os.kill(int(name), signal.SIGKILL)
+            except ProcessLookupError:
+                pass
+
+
+Hook = Callable[[str, str, Optional[str]], Optional[Tuple[int, bytes]]]
+
+
+class Proxy:
+    """Stands between a dispatcher and the desk; the hook is given method, path and key, and may wait,
+    do something first, or give an answer of its own."""
+
+    def __init__(self, farm: Farm, hook: Hook = lambda method, path, key: None):
+        class Handler(http.server.BaseHTTPRequestHandler):
+            def log_message(self, format: str, *words: Any) -> None:
+                pass
+
+            def do(self) -> None:
+                body = self.rfile.read(int(self.headers.get("content-length") or 0))
+                said = hook(self.command, self.path, self.headers.get("x-key"))
+                try:
+                    if said is None:
+                        line = http.client.HTTPConnection("127.0.0.1", farm.port, timeout=60)
+                        fields = {it: self.headers[it] for it in ("x-user", "x-key") if it in self.headers}
+                        line.request(self.command, self.path, body or None, fields)
+                        answer = line.getresponse()
+                        said = answer.status, answer.read()
+                    self.send_response(said[0])
+                    self.send_header("content-length", str(len(said[1])))
+                    self.end_headers()
+                    self.wfile.write(said[1])
+                except (OSError, http.client.HTTPException):
+                    pass  # the desk or the dispatcher was killed
+
+            do_GET = do_POST = do
+
+        self.served = http.server.ThreadingHTTPServer(("127.0.0.1", 0), Handler)
+        threading.Thread(target=self.served.serve_forever, daemon=True).start()
+        self.server = f"http://127.0.0.1:{self.served.server_port}"
+
+
+# ---- the history
+
+
+def lines_of(lab: Lab) -> List[Dict[str, Any]]:
+    """The whole lines of a lab's history."""
+    text = read(os.path.join(lab.place, "history.jsonl"))
+    return [json.loads(it) for it in text.split("\n")[:-1]]
+
+
+def jobs_of(lab: Lab) -> List[Dict[str, Any]]:
+    return [it for it in lines_of(lab) if it["kind"] == "job"]
+
+
+def one_line_each(lab: Lab, numbers: Sequence[int], about: str = "") -> None:
+    """Each of these jobs has one line, which says what the desk says."""
+    wait_until(f"the lines of all jobs {about}", lambda: len(jobs_of(lab)) >= len(numbers))
+    rows = jobs_of(lab)
+    assert sorted(it["job"] for it in rows) == sorted(numbers), f"the jobs that have a line {about}"
+    for row in rows:
+        view = lab.farm.job(row["job"])
+        said = (view["group"], view["owner"], [view["board"]], view["type"], view["result"])
+        found = tuple(row[it] for it in ("group", "owner", "boards", "type", "outcome"))
+        assert found == said, f"the line of job {row['job']} {about}"

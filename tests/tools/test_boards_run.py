@@ -1,0 +1,404 @@
+"""farm-dispatch runs jobs on a board that boots, by labgrid and by LAVA's dispatcher.
+
+The board is emulated: qemu, a kernel of Debian's, and an initramfs with busybox's shell. The kernel is
+the newest that may be read in /boot, or the one named by FARM_TEST_KERNEL. lava-run works as root alone,
+and keeps what a job deploys in one folder of the machine, so its tests go one after another.
+"""
+from __future__ import annotations
+
+import glob
+import gzip
+import os
+import shutil
+import signal
+import subprocess
+from typing import Callable, Dict, Iterator, List, NamedTuple, Tuple
+
+import pytest
+
+from served import TOP, Farm, Tool, read, wait_until
+from wants import DEBIANS, lacks, wants
+
+PROMPT = "board:/# "
+# A board's first program: a shell on the console, or the end, by which the kernel panics.
+INIT = f"""#!/bin/busybox sh
+/bin/busybox --install -s /bin
+export PATH=/bin
+mount -t proc proc /proc
+mount -t sysfs sys /sys
+mount -t devtmpfs dev /dev
+exec < /dev/console > /dev/console 2>&1
+grep -q falls /proc/cmdline && exit 1
+echo 'the board is up'
+export PS1='{PROMPT}'
+exec setsid cttyhack sh
+"""
+# labgrid's environment file of the board.
+ENVIRONMENT = f"""\
+targets:
+  main:
+    drivers:
+      QEMUDriver:
+        qemu_bin: qemu
+        machine: q35
+        cpu: max
+        memory: 256M
+        kernel: kernel
+        boot_args: !template "console=ttyS0 quiet $LG_APPEND"
+        extra_args: '-name @NAME@ -net none -initrd @INITRAMFS@'
+      ShellDriver:
+        prompt: '{PROMPT}'
+        login_prompt: 'no login is asked for'
+        username: root
+        login_timeout: 300
+      ShellStrategy: {{}}
+tools:
+  qemu: @QEMU@
+images:
+  kernel: !template $LG_KERNEL
+"""
+LABGRID_BOOTS = """
+def test_boots(strategy, target):
+    strategy.transition("shell")
+    assert target.get_driver("ShellDriver").run_check("uname -s") == ["Linux"]
+"""
+LABGRID_WATCHES = f"""
+def test_boots(target):
+    target.get_driver("PowerProtocol").on()
+    console = target.get_driver("ConsoleProtocol")
+    found, *_ = console.expect(["{PROMPT}", "Kernel panic"], timeout=300)
+    assert found == 0, "the kernel panics"
+"""
+LABGRID_STAYS = LABGRID_BOOTS + "    import time; time.sleep(600)\n"
+# LAVA's device file of the board, and a job.
+DEVICE = """\
+device_info: {}
+available_architectures: [amd64]
+actions:
+  deploy: {methods: {image: {}}}
+  boot:
+    methods:
+      qemu:
+        parameters:
+          command: @QEMU@
+          options: [-name @NAME@, -machine q35, -cpu max, -m 256M, -nographic, -net none]
+constants:
+  boot_retry: 1
+  failure_retry: 1
+  kernel-start-message: 'Linux version [0-9]'
+timeouts: {actions: {}, connections: {}}
+"""
+LAVA = """
+job_name: boots
+context: {arch: amd64}
+timeouts:
+  job: {minutes: 10}
+  action: {minutes: 5}
+  connection: {minutes: 5}
+actions:
+- deploy:
+    to: tmpfs
+    images:
+      kernel:
+        image_arg: -kernel {kernel} -append "console=ttyS0 loglevel=6 @APPEND@"
+        url: file://@KERNEL@
+      initrd:
+        image_arg: -initrd {initrd}
+        url: file://@INITRAMFS@
+- boot:
+    method: qemu
+    prompts: ['@WAITED@']
+"""
+
+
+def write(file: str, text: str, mode: int = 0o644) -> None:
+    with open(file, "w", encoding="utf-8") as opened:
+        opened.write(text)
+    os.chmod(file, mode)
+
+
+def kernel_of_this_machine() -> str:
+    named = os.environ.get("FARM_TEST_KERNEL")
+    found = [named] if named else sorted(glob.glob("/boot/vmlinuz-*"))
+    readable = [it for it in found if os.access(it, os.R_OK)]
+    if not readable:
+        pytest.skip("there is no kernel that may be read, in /boot or named by FARM_TEST_KERNEL")
+    return readable[-1]
+
+
+class Board:
+    """What the emulated board is made of."""
+
+    def __init__(self, folder: str):
+        wants("qemu-system-x86_64", "busybox", "cpio")
+        self.kernel = kernel_of_this_machine()
+        self.initramfs = os.path.join(folder, "initramfs.gz")
+        self.qemu, busybox = (str(shutil.which(it)) for it in ("qemu-system-x86_64", "busybox"))
+        # of its own, by which its processes are found
+        self.name = f"board-{os.getpid()}-{os.path.basename(folder)}"
+        root = os.path.join(folder, "root")
+        for name in ("bin", "proc", "sys", "dev"):
+            os.makedirs(os.path.join(root, name))
+        shutil.copy(busybox, os.path.join(root, "bin", "busybox"))
+        write(os.path.join(root, "init"), INIT, 0o755)
+        names = "".join(f"{it}\n" for it in ("init", "bin", "bin/busybox", "proc", "sys", "dev"))
+        words = ["cpio", "-o", "-H", "newc", "--quiet"]
+        packed = subprocess.run(words, input=names.encode(), cwd=root, check=True, capture_output=True)
+        with gzip.open(self.initramfs, "wb") as file:
+            file.write(packed.stdout)
+
+    def fill(self, text: str) -> str:
+        """A text with the board's files in the places of their names."""
+        text = text.replace("@KERNEL@", self.kernel).replace("@INITRAMFS@", self.initramfs)
+        return text.replace("@QEMU@", self.qemu).replace("@NAME@", self.name)
+
+    def processes(self) -> List[str]:
+        """The emulators that run."""
+        return [it for it in os.listdir("/proc") if it.isdigit() and self.runs_as(it)]
+
+    def runs_as(self, process: str) -> bool:
+        try:
+            with open(f"/proc/{process}/cmdline", "rb") as words:
+                return f"\0-name\0{self.name}\0".encode() in words.read()
+        except OSError:
+            return False
+
+
+@pytest.fixture
+def board(folder: str) -> Iterator[Board]:
+    place = os.path.join(folder, "board")
+    os.mkdir(place)
+    made = Board(place)
+    yield made
+    for process in made.processes():
+        os.kill(int(process), signal.SIGKILL)
+
+
+# ---- ways to drive the board
+
+
+class Job(NamedTuple):
+    """The text of a job, how it ends, and what is then in its log."""
+
+    text: str
+    result: str
+    line: str
+
+
+def labgrid_job(board: Board, test: str, append: str = "", kernel: str = "") -> str:
+    variables = f'{{ LG_KERNEL = "{kernel or board.kernel}", LG_APPEND = "{append}" }}'
+    return f"[labgrid]\nvariables = {variables}\ntest = '''{test}'''\n"
+
+
+def lava_job(board: Board, append: str = "", kernel: str = "", waited: str = PROMPT) -> str:
+    job = LAVA.replace("@APPEND@", append).replace("@WAITED@", waited)
+    job = board.fill(job.replace("@KERNEL@", kernel or board.kernel))
+    return f"[lava]\ndefinition = '''{job}'''\n"
+
+
+def labgrid_jobs(board: Board, gone: str) -> Dict[str, Job]:
+    return {
+        "boots": Job(labgrid_job(board, LABGRID_BOOTS), "Complete", "the board is up"),
+        "panics": Job(labgrid_job(board, LABGRID_WATCHES, "falls"), "Incomplete", "Kernel panic"),
+        "has no image": Job(labgrid_job(board, LABGRID_BOOTS, kernel=gone), "Infra", f"isn't there: {gone}"),
+        "stays": Job(labgrid_job(board, LABGRID_STAYS), "Canceled", ""),
+    }
+
+
+def lava_jobs(board: Board, gone: str) -> Dict[str, Job]:
+    missing = f"Image file '{gone}' does not exist"
+    return {
+        "boots": Job(lava_job(board), "Complete", "the board is up"),
+        "panics": Job(lava_job(board, "falls"), "Incomplete", "Kernel panic"),
+        "has no image": Job(lava_job(board, kernel=gone), "Infra", missing),
+        "stays": Job(lava_job(board, waited="never said"), "Canceled", ""),
+    }
+
+
+class Way(NamedTuple):
+    """A way to drive the board: its file of the board, and its jobs."""
+
+    file: str
+    text: str
+    jobs: Callable[[Board, str], Dict[str, Job]]
+
+
+WAYS = {"labgrid": Way("env.yaml", ENVIRONMENT, labgrid_jobs), "lava": Way("q1.yaml", DEVICE, lava_jobs)}
+BY_LABGRID = pytest.param("labgrid")
+BY_LAVA = pytest.param("lava", marks=pytest.mark.xdist_group("lava"))
+each_way = pytest.mark.parametrize("way", [BY_LABGRID, BY_LAVA])
+
+
+def runs_python(line: str) -> bool:
+    """Whether Debian's Python, which the commands name, runs a line."""
+    words = [DEBIANS, "-c", line]
+    return os.path.exists(DEBIANS) and subprocess.run(words, check=False, capture_output=True).returncode == 0
+
+
+def wants_way(way: str) -> None:
+    """Skips the test unless what drives the board by this way is there."""
+    if way == "labgrid" and not runs_python("import labgrid, tomllib"):
+        pytest.skip("Debian's Python has no labgrid")
+    if way == "lava":
+        wants("lava-run")
+        if os.geteuid() != 0:
+            lacks("no right of root, which lava-run wants")
+
+
+class Lab:
+    """A farm of one board and its dispatcher, which drives the board by a way."""
+
+    def __init__(self, way: str, board: Board, farm: Farm, start_tool: Callable[..., Tool], folder: str):
+        self.board, self.farm, self.folder = board, farm, os.path.join(folder, "dispatch")
+        of_board = os.path.join(folder, "of_board")
+        os.mkdir(of_board)
+        write(os.path.join(of_board, WAYS[way].file), board.fill(WAYS[way].text))
+        words = ["--server", farm.server, "--folder", self.folder, "--every", "1", "--grace", "60"]
+        command = os.path.join(TOP, "examples", f"run-job-{way}")
+        self.dispatcher = start_tool("farm-dispatch", *words, command, of_board)
+
+    def submit(self, text: str) -> None:
+        whole = f"job_name = 'boots'\ndevice_type = 'qemu'\n{text}[timeouts]\njob = '15 minutes'\n"
+        assert self.farm.tell("ann", "/jobs", whole.encode())["number"] == 1
+
+    def said(self, name: str) -> str:
+        """What is in a file of the job."""
+        return read(os.path.join(self.folder, "jobs", "1", name))
+
+    def ends(self) -> str:
+        """The job's result, once it has ended and no emulator runs."""
+        wait_until("the job ends", lambda: bool(self.farm.job(1)["state"] == "Finished"), 900)
+        assert not self.board.processes()
+        return str(self.farm.job(1)["result"])
+
+
+@pytest.fixture
+def lab(
+    way: str, board: Board, make_farm: Callable[..., Farm], start_tool: Callable[..., Tool], folder: str
+) -> Lab:
+    wants_way(way)
+    return Lab(way, board, make_farm([("q1", "qemu", [])]), start_tool, folder)
+
+
+@pytest.mark.slow(40)
+@pytest.mark.timeout(1000)
+@each_way
+@pytest.mark.parametrize("what", ["boots", "panics", "has no image"])
+def test_result(what: str, way: str, lab: Lab, folder: str) -> None:
+    """A prompt is Complete, a panic Incomplete, and an image that isn't there Infra; the log says so,
+    without what a terminal alone reads."""
+    job = WAYS[way].jobs(lab.board, os.path.join(folder, "gone"))[what]
+    lab.submit(job.text)
+    assert lab.ends() == job.result, lab.said("log")
+    assert job.line in lab.said("log")
+    assert "\x1b" not in lab.said("log")
+
+
+@pytest.mark.slow(40)
+@pytest.mark.timeout(1000)
+@each_way
+def test_cancel(way: str, lab: Lab, folder: str) -> None:
+    """A cancel while the board is up ends the emulator, and needs no grace."""
+    lab.submit(WAYS[way].jobs(lab.board, os.path.join(folder, "gone"))["stays"].text)
+    wait_until("the board is up", lambda: "the board is up" in lab.said("console_main") + lab.said("log"), 600)
+    assert len(lab.board.processes()) == 1
+    lab.farm.tell("ann", "/jobs/1/cancel")
+    assert lab.ends() == "Canceled"
+    assert "SIGKILL" not in lab.said("log")
+    lab.dispatcher.send(signal.SIGTERM)
+    assert lab.dispatcher.ends() == 0
+
+
+# ---- the commands without a dispatcher, nor a board that boots
+
+
+def status_of(way: str, folder: str, text: str, boards: str = "q1") -> int:
+    """The status of a command for a text; the folder has the files of the board."""
+    place = os.path.join(folder, "job")
+    os.makedirs(place, exist_ok=True)
+    file = os.path.join(place, "job.toml")
+    write(file, text)
+    ran = subprocess.run(
+        [os.path.join(TOP, "examples", f"run-job-{way}"), folder],
+        env={**os.environ, "FARM_FOLDER": place, "FARM_BOARDS": boards, "FARM_JOB": "1", "FARM_JOB_FILE": file},
+        cwd=place, check=False, capture_output=True, text=True, timeout=300,
+    )
+    assert ran.stderr == ""
+    return ran.returncode
+
+
+@pytest.fixture
+def debians_python() -> None:
+    if not runs_python("import tomllib"):
+        pytest.skip("there is no Python of Debian's with tomllib")
+
+
+@pytest.mark.usefixtures("debians_python")
+@pytest.mark.parametrize("way, table", [("labgrid", "test = ''"), ("lava", "definition = ''")])
+def test_what_isnt_asked(way: str, table: str, folder: str) -> None:
+    """Without a file of the board it is Infra, and a text without a job Incomplete."""
+    text = f"[{way}]\n{table}\n"
+    assert status_of(way, folder, text) == 75
+    write(os.path.join(folder, "q1.yaml"), "")
+    assert status_of(way, folder, text, "q1 q2") == 1
+    other, number = f"[{way}]\nother = 'x'", f"[{way}]\n{table[:-2]}1"
+    bad = ("", "= no TOML", f"{way} = 3", other, number)
+    assert {it: status_of(way, folder, it) for it in bad} == dict.fromkeys(bad, 1)
+
+
+UP = "import pytest\n@pytest.fixture\ndef up():\n    raise {}\ndef test(up): pass\n"
+
+
+@pytest.mark.parametrize("status, test", [
+    (0, "def test(target): pass"),
+    (0, "import os\ndef test(): assert os.environ['LG_PLACE'] == 'q1'"),
+    (1, "def test(): assert False"),
+    (1, "def test(): raise OSError"),
+    (1, "def test(:"),
+    (1, ""),
+    (1, UP.format("ValueError")),
+    (75, UP.format("ConnectionRefusedError")),
+    (75, "def test(target): target.get_driver('ShellDriver')"),
+    (75, "def test(target): target.get_resource('RemotePlace')"),
+    (75, "import pytest\ndef test(): pytest.exit('as labgrid, without its place')"),
+])
+def test_labgrid_status(status: int, test: str, folder: str) -> None:
+    """labgrid's and pytest's ways to end: a failed test is Incomplete, what a board lacks Infra."""
+    wants_way("labgrid")
+    write(os.path.join(folder, "env.yaml"), "targets: {main: {drivers: {}}}\n")
+    assert status_of("labgrid", folder, f'[labgrid]\ntest = """{test}"""\n') == status
+
+
+def test_labgrid_variable(folder: str) -> None:
+    """A job may set no variable but labgrid's."""
+    wants_way("labgrid")
+    write(os.path.join(folder, "env.yaml"), "targets: {main: {drivers: {}}}\n")
+    assert status_of("labgrid", folder, "[labgrid]\nvariables = { OTHER = 'x' }\ntest = ''\n") == 1
+
+
+@pytest.mark.parametrize("file", [
+    "targets: {", "images: {kernel: !template $LG_NONE}", "images: {kernel: gone}",
+])
+def test_labgrid_environment(file: str, folder: str) -> None:
+    """A file of the board that labgrid can't take is Infra."""
+    wants_way("labgrid")
+    write(os.path.join(folder, "env.yaml"), file)
+    assert status_of("labgrid", folder, "[labgrid]\ntest = 'def test(): pass'\n") == 75
+
+
+@pytest.mark.xdist_group("lava")
+@pytest.mark.slow(10)
+@pytest.mark.parametrize("of_device, of_job, status", [
+    (("", ""), ("job_name: boots", "job_name: [boots"), 1),
+    (("", ""), ("actions:", "acts:"), 1),
+    (("", ""), ("- boot:", "- dance:"), 1),
+    (("constants:", "others:"), ("", ""), 75),
+    ((DEVICE, "no: [YAML"), ("", ""), 75),
+])
+def test_lava_status(
+    of_device: Tuple[str, str], of_job: Tuple[str, str], status: int, board: Board, folder: str
+) -> None:
+    """What lava-run finds wrong: a job's error is Incomplete, a device file's Infra."""
+    wants_way("lava")
+    write(os.path.join(folder, "q1.yaml"), board.fill(DEVICE.replace(*of_device)))
+    assert status_of("lava", folder, lava_job(board).replace(*of_job)) == status

@@ -1,0 +1,227 @@
+"""An admin's commands, imports of lab files, completion."""
+from __future__ import annotations
+
+import os
+import re
+import subprocess
+import time
+from typing import Callable, List, Sequence
+
+import pytest
+from desks import BOARDS, DESK, desk, prints, write
+from served import TOP, Farm, environment
+from wants import wants
+
+EXAMPLE = os.path.join(TOP, "examples", "lab.toml")
+COMPLETE = """\
+source "$1"
+COMP_LINE=$2 COMP_POINT=${#2} COMP_WORDS=($2)
+case $2 in *' ') COMP_WORDS+=('') ;; esac
+COMP_CWORD=$((${#COMP_WORDS[@]} - 1))
+_desk
+printf '%s\\n' "${COMPREPLY[@]}"
+"""
+
+
+@pytest.fixture
+def lab(make_farm: Callable[..., Farm]) -> Farm:
+    """A farm that has nothing."""
+    return make_farm()
+
+
+def admin(lab: Farm, *words: str, user: str = "") -> object:
+    """What a command comes to that asks as the admin where nothing names another."""
+    return desk(lab, *words, user=user)
+
+
+def test_types_are_added(lab: Farm) -> None:
+    assert admin(lab, "add-type", "rpi", "--check", "jobs", "--every", "20") == (0, "", "")
+    assert admin(lab, "add-type", "bbb", "--json") == (0, '{"number":0}\n', "")
+    types = [(it["name"], it["check"], it["every"]) for it in lab.look("/types")["types"]]
+    assert types == [("bbb", "none", 0), ("rpi", "jobs", 20)]
+    assert admin(lab, "add-type", "bbb", user="admin") == (3, "", "desk: refused: 11 type exists\n")
+    assert admin(lab, "add-type", "x", user="ann") == (3, "", "desk: refused: 3 forbidden: asked as ann\n")
+
+
+def test_boards_are_added_and_have_tags(lab: Farm) -> None:
+    lab.tell("admin", "/types", {"name": "rpi"})
+    assert admin(lab, "add-board", "r1", "rpi", "hdmi", "serial") == (0, "", "")
+    assert admin(lab, "add-board", "r3", "ccc") == (3, "", "desk: refused: 10 no such type\n")
+    assert lab.board("r1")["tags"] == ["hdmi", "serial"]
+    assert admin(lab, "tags", "r1", "usb", "rack=2") == (0, "", "")
+    assert lab.board("r1")["tags"] == ["rack=2", "usb"]
+    assert admin(lab, "tags", "r1", "--none") == (0, "", "")
+    assert lab.board("r1")["tags"] == []
+
+
+def test_the_health_of_several_boards_is_set_and_those_that_arent_there_are_told(lab: Farm) -> None:
+    lab.tell("admin", "/types", {"name": "rpi"})
+    for name in ("r1", "r2"):
+        lab.tell("admin", "/boards", {"name": name, "type": "rpi"})
+    told = "desk: board r9: refused: 12 no such board\n"
+    assert admin(lab, "health", "r9", "r1", "r2", "good") == (3, "", told)
+    assert [lab.board(it)["health"] for it in ("r1", "r2")] == ["Good", "Good"]
+    assert admin(lab, "health", "r2", "Maintenance") == (0, "", "")
+    assert lab.board("r2")["health"] == "Maintenance"
+    assert admin(lab, "health", "r1", "r2", "Bad", user="ann") == (3, "", "desk: refused: 3 forbidden: asked as ann\n")
+
+
+@pytest.mark.parametrize("name", ["r 1", "r\u00e9", "r/1", "..", "?"])
+def test_the_health_of_an_odd_name_is_refused_by_the_desk(lab: Farm, name: str) -> None:
+    status, _, errors = desk(lab, "health", name, "Good", user="admin")
+    assert (status, errors.count("refused: ")) == (3, 1)
+
+
+@pytest.mark.parametrize("words", [
+    ["health", "r1"],
+    ["health", "r1", "Fine"],
+    ["tags", "r1"],
+    ["tags", "r1", "usb", "--none"],
+    ["add-type", "x", "--check", "hours"],
+    ["add-type", "x", "--every", "3"],
+    ["add-type", "x", "--check", "none", "--every", "3"],
+    ["add-type", "x", "--check", "days", "--every", "3"],
+    ["add-type", "x", "--check", "jobs", "--every", "0"],
+    ["add-type", "x", "--check", "jobs", "--every", "10001"],
+])
+def test_bad_words_of_an_admin(words: Sequence[str]) -> None:
+    assert desk("http://127.0.0.1:1", *words)[0] == 2
+
+
+# ---- imports (tests/unit/test_lab_file.py has the faults of lab files, without a server)
+
+
+def import_by_program(lab: Farm, file: str) -> str:
+    """What `farm import` prints, over a farm that isn't served meanwhile."""
+    lab.kill()
+    words = [lab.program, "import", "--db", lab.db, "--at", str(int(time.time())), file]
+    ran = subprocess.run(words, capture_output=True, text=True, check=False)
+    lab.start()
+    return ran.stdout
+
+
+def test_a_lab_file_is_imported_over_http_as_by_the_program(make_farm: Callable[..., Farm]) -> None:
+    """Each keeps what the other added."""
+    first, second = make_farm(), make_farm()
+    assert admin(first, "import", EXAMPLE) == (0, "accepted 15, kept 0\n", "")
+    assert admin(first, "import", EXAMPLE) == (0, "accepted 0, kept 15\n", "")
+    assert import_by_program(second, EXAMPLE) == "accepted 15, kept 0\n"
+    for view in ("/types", "/boards"):
+        assert first.look(view) == second.look(view)
+    assert import_by_program(first, EXAMPLE) == "accepted 0, kept 15\n"
+    assert admin(second, "import", EXAMPLE, "--json") == (0, '{"accepted":0,"kept":15}\n', "")
+    with open(EXAMPLE, encoding="utf-8") as text:
+        grown = text.read() + '\n[boards."qemu.05"]\ntype = "qemu-aarch64"\n'
+    assert desk(second, "import", "-", given=grown, user="admin") == (0, "accepted 1, kept 15\n", "")
+
+
+def test_a_lab_file_of_toml_1_1_is_read_as_the_program_reads_it(lab: Farm, folder: str) -> None:
+    text = 'types.bbb = {\n  check = "hours",\n  every = 3,\n}\nboards.b1 = {type = "\\x62bb",}\n'
+    assert desk(lab, "import", "-", given=text, user="") == (0, "accepted 2, kept 0\n", "")
+    assert import_by_program(lab, write(folder, "newer.toml", text)) == "accepted 0, kept 2\n"
+
+
+@pytest.mark.parametrize("lines, user, told, left", [
+    (
+        ["[types.bbb]", "", "[boards.b2]", 'type = "bbb"', "", "[boards.b1]", "tags = [", "]", 'type = "x"'], "",
+        "line 6: board b1: 10 no such type; before it: accepted 1, kept 0", ["bbb", "rpi"],
+    ),
+    (
+        ["[types]", "bbb = {}", "rpi = {}"], "",
+        "line 3: type rpi: 11 type exists, and no import added it; before it: accepted 1, kept 0", ["bbb", "rpi"],
+    ),
+    (
+        ["[types.ccc]"], "ann",
+        "line 1: type ccc: 3 forbidden: asked as ann; before it: accepted 0, kept 0", ["rpi"],
+    ),
+    (
+        ["[types.ddd]", "[boards.b1]", 'type = "bbb"', 'tags = ["a b"]'], "",
+        "bad lab file: line 2: board b1: 'a b' isn't a tag: a key, or key=value", ["rpi"],
+    ),
+    (
+        ["[types.ddd]", "[types.x]", 'check = "hours"'], "",
+        "bad lab file: line 2: type x: there is no every", ["rpi"],
+    ),
+    (["types = 1"], "", "bad lab file: types isn't a table", ["rpi"]),
+    (["#" * 1048576], "", "bad lab file: it has more than 1,048,576 bytes", ["rpi"]),
+    # a table that a dotted key opens again, which the program refuses too
+    (
+        ["[types.ddd]", "[types]", "ddd.check = 'none'"], "",
+        None, ["rpi"],
+    ),
+])
+def test_a_lab_file_that_is_refused_is_told_with_its_line(
+    lab: Farm, folder: str, lines: List[str], user: str, told: str, left: List[str]
+) -> None:
+    lab.tell("admin", "/types", {"name": "rpi"})
+    file = write(folder, "refused.toml", "".join(f"{it}\n" for it in lines))
+    status, said, errors = desk(lab, "import", file, user=user)
+    assert (status, said) == (3, "")
+    assert errors == f"desk: {file}: {told}\n" or (told is None and errors.startswith(f"desk: {file}: bad lab file: "))
+    assert [it["name"] for it in lab.look("/types")["types"]] == left
+
+
+def test_what_is_no_lab_file(lab: Farm, folder: str) -> None:
+    assert desk(lab, "import", "-", given="x", user="")[0] == 3
+    told = f"desk: [Errno 2] No such file or directory: '{folder}/none'\n"
+    assert admin(lab, "import", f"{folder}/none") == (4, "", told)
+
+
+# ---- version, completion
+
+
+def test_the_clients_version_is_the_packages(lab: Farm) -> None:
+    with open(os.path.join(TOP, "packaging", "debian", "changelog"), encoding="utf-8") as text:
+        first = re.match(r"fizgruk \(([^-)]*)", text.readline())
+    assert first is not None
+    prints(lab, f"desk {first[1]}\n", "--version")
+
+
+@pytest.mark.parametrize("line, wanted, others", [
+    ("desk ", "queue health tags add-type add-board import with", ""),
+    ("desk --v", "--version", "queue"),
+    ("desk ext", "extend", "queue"),
+    ("desk ", "log history usage resubmit", ""),
+    ("desk usage --by ", "owner board type", ""),
+    ("desk jobs --", "--mine --last --text", "--all"),
+    ("desk --json ad", "add-type add-board", "queue"),
+    ("desk reserve --priority ", "low medium high", "hdmi"),
+    ("desk add-type x --check h", "hours", "jobs"),
+    ("desk --server ", "http://127.0.0.1:8080", "queue"),
+    ("desk --user queue res", "reserve reservations", ""),
+    ("desk with hdmi -- ech", "echo", ""),
+    ("desk with hdmi -- cat PLACE/de", "PLACE/desk", ""),
+    ("desk import PLACE/de", "PLACE/desk", ""),
+])
+def test_bash_completes(folder: str, line: str, wanted: str, others: str) -> None:
+    completes(folder, line.replace("PLACE", folder), wanted.replace("PLACE", folder), others)
+
+
+def test_bash_completes_what_the_desk_has(make_farm: Callable[..., Farm], folder: str) -> None:
+    farm = make_farm(BOARDS)
+    number = farm.submit("true")
+    at = f"desk --server {farm.server}"
+    for words, wanted, others in (
+        ("history ", "b1 c1", "hdmi"),
+        ("health b1 ", "b1 b2 c1 Good Retired", "hdmi"),
+        ("tags ", "b1 b2", "hdmi Good"),
+        ("tags b1 ", "hdmi serial", "b1 name=b1"),
+        ("add-board x ", "bbb ccc", ""),
+        ("reserve ", "hdmi name=b1", ""),
+        *((f"--user ann {it} ", str(number), "b1") for it in ("log", "cancel", "resubmit", "jobs")),
+    ):
+        completes(folder, f"{at} {words}", wanted, others)
+
+
+def completes(folder: str, line: str, wanted: str, others: str) -> None:
+    """Demands that a line is completed by all these words, and by none of the others."""
+    wants("bash")
+    if not os.path.lexists(os.path.join(folder, "desk")):
+        os.symlink(DESK, os.path.join(folder, "desk"))
+        # (a busy machine may need more than the three seconds for which a shell is held up)
+        write(folder, "timeout", '#!/bin/sh\nshift\nexec "$@"\n', 0o755)
+    around = environment(DESK_USER="ann", DESK_SERVER="http://127.0.0.1:1")
+    around["PATH"] = f"{folder}:{around['PATH']}"
+    words = ["bash", "-c", COMPLETE, "bash", f"{DESK}.bash", line]
+    found = set(subprocess.run(words, env=around, capture_output=True, text=True, check=True).stdout.split())
+    assert set(wanted.split()) - found == set() and set(others.split()) & found == set(), line

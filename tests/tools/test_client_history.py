@@ -1,0 +1,303 @@
+"""Jobs that ended, logs, a board's past, what was used, and a job's text once more, from the folder of a dispatcher
+on this machine."""
+from __future__ import annotations
+
+import http.server
+import json
+import os
+import shutil
+import threading
+import time
+from typing import Any, Callable, Dict, List, Sequence
+
+import pytest
+from desks import BOARDS, GROUP, JOB, desk, passes, prints, waiting_tool, write
+from served import Farm, wait_until
+
+NOW = int(time.time())
+HOUR, DAY = 3600, 86400
+Row = Dict[str, Any]
+
+
+@pytest.fixture
+def farm(make_farm: Callable[..., Farm]) -> Farm:
+    return make_farm(BOARDS)
+
+
+def job_line(
+    number: int, owner: str = "ann", boards: Sequence[str] = ("b1",), kind: str = "bbb", name: str = "boot", **more: Any
+) -> Row:
+    """A line of the history, as docs/farm-dispatch.8 has it; times are before now."""
+    waited, held, ago = more.get("waited"), more.get("held", 60), more.get("ago", HOUR)
+    return {
+        "kind": "job", "job": number, "group": more.get("group", number), "owner": owner,
+        "boards": list(boards), "type": kind, "name": name,
+        "submitted": None if waited is None else NOW - ago - held - waited,
+        "began": NOW - ago - held, "ended": NOW - ago,
+        "outcome": more.get("outcome", "Complete"), "reason": more.get("reason", ""),
+    }
+
+
+def health_line(board: str, before: str, after: str, reason: str, ago: int = HOUR) -> Row:
+    return {"kind": "health", "board": board, "from": before, "to": after, "at": NOW - ago, "reason": reason}
+
+
+def past_of(folder: str, *rows: Any, tail: str = "") -> str:
+    """A dispatcher's folder with these lines."""
+    os.makedirs(os.path.join(folder, "logs"), exist_ok=True)
+    write(folder, "history.jsonl", "".join(f"{json.dumps(it)}\n" for it in rows) + tail)
+    return folder
+
+
+def cells(said: str) -> List[List[str]]:
+    """The words of each line that is printed."""
+    return [line.split() for line in said.splitlines()]
+
+
+def ended(farm: Farm, past: str, *words: str) -> List[int]:
+    """The numbers of the jobs that ended, as they are listed."""
+    said = desk(farm, "--history", past, "jobs", *words, "--json")[1]
+    return [it["job"] for it in json.loads(said)["ended"]]
+
+
+# ---- jobs
+
+
+def test_open_jobs_and_those_that_ended_are_listed_the_newest_first(farm: Farm, folder: str) -> None:
+    """Open jobs by the desk, ended ones by the history."""
+    past = past_of(
+        folder,
+        job_line(901, "zoe", ago=2 * DAY),
+        job_line(902, boards=["c1"], kind="ccc", name="x\x1b[31m", outcome="Infra", reason="status 75", held=3723),
+        {"kind": "job"}, [], "text", {"kind": "later", "job": 5},
+        tail='{"kind":"job","job":903,"ow',
+    )
+    farm.submit("true")
+    passes(farm)
+    farm.tell("dispatcher", "/jobs/1/start")
+    prints(farm, "2\n", "submit", "-", given=GROUP)
+    prints(farm, "4\n", "submit", "-", given=JOB.replace("one", "theirs"), user="bob")
+    status, said, errors = desk(farm, "--history", past, "jobs")
+    began = time.strftime("%Y-%m-%d %H:%M", time.localtime(NOW - HOUR - 3723)).split()
+    earlier = time.strftime("%Y-%m-%d %H:%M", time.localtime(NOW - 2 * DAY - 60)).split()
+    assert (status, errors) == (0, "")
+    assert cells(said) == [
+        ["NUMBER", "STATE", "OWNER", "TYPE", "BOARD", "BEGAN", "TOOK", "NAME", "REASON"],
+        ["4", "Submitted", "bob", "bbb", "-", "-", "-", "theirs"],
+        ["2", "Submitted", "ann", "bbb", "-", "-", "-", "two"],
+        ["1", "Running", "ann", "bbb", "b1", "-", "-", "test"],
+        ["902", "Infra", "ann", "ccc", "c1", *began, "1:02:03", "x?[31m", "status", "75"],
+        ["901", "Complete", "zoe", "bbb", "b1", *earlier, "0:01:00", "boot"],
+    ]
+    mine = cells(desk(farm, "--history", past, "jobs", "--mine")[1])
+    assert [it[0] for it in mine[1:]] == ["2", "1", "902"]
+    both = json.loads(desk(farm, "jobs", "--last", "1", "--json", DESK_HISTORY=past)[1])
+    assert both == {"ended": [job_line(
+        902, boards=["c1"], kind="ccc", name="x\x1b[31m", outcome="Infra", reason="status 75", held=3723,
+    )], "open": [farm.job(4), farm.job(2), farm.job(1)]}
+
+
+def test_as_many_jobs_of_a_long_history_as_are_asked_for(farm: Farm, folder: str) -> None:
+    rows = [job_line(place + 1, "zoe" if place % 100 else "ann") for place in range(1000)]
+    numbers = [it["job"] for it in rows][::-1]
+    past = past_of(folder, *rows)
+    assert ended(farm, past, "--mine") == [it["job"] for it in rows if it["owner"] == "ann"][::-1]
+    for count in (1, 50, 200, 300, 2000):
+        assert ended(farm, past, "--last", str(count)) == numbers[:count]
+    assert ended(farm, past) == numbers[:50]
+    # more than what is read of its end, and then changes of healths alone
+    past_of(folder, *rows, *[health_line("b1", "Good", "Bad", "by the admin") for _ in range(5000)])
+    for count in (200, 30):
+        assert ended(farm, past, "--last", str(count)) == numbers[:count]
+
+
+def test_a_desk_that_serves_no_history_is_told_with_where_to_ask(farm: Farm, folder: str) -> None:
+    none = f"52 no such route: {farm.server} serves no history: ask through the proxy "
+    none += "(examples/nginx.conf), or on the dispatcher's machine with --history FOLDER\n"
+    farm.submit("true")
+    status, said, errors = desk(farm, "jobs", "--mine")
+    assert (status, cells(said)[1][0], errors) == (0, "1", f"desk: only open jobs are shown: {none}")
+    for words in (["log", "1"], ["usage"], ["history", "b1"]):
+        assert desk(farm, *words) == (3, "", f"desk: refused: {none}")
+    missing = os.path.join(folder, "nowhere")
+    told = f"desk: {missing} has no history: {missing}/history.jsonl isn't there\n"
+    assert desk(farm, "--history", missing, "usage") == (4, "", told)
+
+
+# ---- logs
+
+
+def test_a_log_is_followed_until_its_job_has_ended_over_a_desk_that_goes_away(farm: Farm, folder: str) -> None:
+    past = {"DESK_HISTORY": past_of(folder)}
+    log = os.path.join(folder, "logs", "1")
+    farm.submit("true")
+    told = "desk: job 1 is Submitted, and has no log yet\n"
+    assert desk(farm, "log", "1", **past) == (3, "", told)
+    tool = waiting_tool(farm, folder, "log", "1", "--follow", "--every", "0.1", **past)
+    wait_until("it waits", lambda: told == tool.errors())
+    passes(farm)
+    farm.tell("dispatcher", "/jobs/1/start")
+    add(log, "first\n")
+    wait_until("its begin", lambda: tool.output() == "first\n")
+    add(log, "a part")
+    wait_until("a part of a line", lambda: tool.output() == "first\na part")
+    farm.kill()
+    wait_until("no answer is told", lambda: "no answer from the desk, which is" in tool.errors())
+    farm.start()
+    add(log, "of it\n")
+    farm.tell("dispatcher", "/jobs/1/finish", {"outcome": "Incomplete"})
+    assert (tool.ends(), tool.output()) == (0, "first\na partof it\n")
+    prints(farm, "first\na partof it\n", "log", "1", **past)
+    prints(farm, "first\na partof it\n", "log", "1", "--follow", **past)
+
+
+def add(file: str, text: str) -> None:
+    with open(file, "a", encoding="utf-8") as opened:
+        opened.write(text)
+
+
+@pytest.mark.parametrize("words", [[], ["--follow"]])
+def test_why_there_is_no_log(farm: Farm, folder: str, words: Sequence[str]) -> None:
+    past = {"DESK_HISTORY": past_of(folder)}
+    assert desk(farm, "log", "77", *words, **past) == (3, "", "desk: there is no job 77\n")
+    farm.submit("true")
+    farm.tell("ann", "/jobs/1/cancel")
+    told = "desk: job 1 has no log: it never began, or its log is too old to be kept\n"
+    assert desk(farm, "log", "1", *words, **past) == (3, "", told)
+
+
+class Proxy(http.server.BaseHTTPRequestHandler):
+    """Serves a job that has ended by the fourth look, and its log; at first it reaches neither."""
+
+    protocol_version = "HTTP/1.1"
+    looks, logs = 0, 0
+
+    def do_GET(self) -> None:
+        if self.path == "/jobs/1":
+            Proxy.looks += 1
+            self.answer(200, {"state": "Running" if Proxy.looks < 4 else "Finished"})
+        elif self.path == "/logs/1":
+            Proxy.logs += 1
+            self.answer(502 if Proxy.logs in (1, 3) else 200, {"log": "all of it"})
+        else:
+            self.answer(404, {})
+
+    def answer(self, status: int, said: object) -> None:
+        body = json.dumps(said).encode()
+        self.send_response(status)
+        self.send_header("content-length", str(len(body)))
+        self.end_headers()
+        self.wfile.write(body)
+
+    def log_message(self, *_: object) -> None:
+        pass
+
+
+def test_a_log_is_followed_over_a_proxy_that_answers_502_each_byte_printed_once() -> None:
+    """The proxy doesn't reach what it serves for a moment, and takes no part of a log's bytes."""
+    server = http.server.ThreadingHTTPServer(("127.0.0.1", 0), Proxy)
+    threading.Thread(target=server.serve_forever, daemon=True).start()
+    found = desk(f"http://127.0.0.1:{server.server_port}", "log", "1", "--follow", "--every", "0.1")
+    server.shutdown()
+    told = "desk: no answer from the desk, which is asked again: 502 Bad Gateway\n"
+    assert found == (0, '{"log": "all of it"}', told)
+
+
+# ---- boards
+
+
+def test_a_boards_jobs_and_changes_of_health_are_shown_with_the_reasons(farm: Farm, folder: str) -> None:
+    past = past_of(
+        folder,
+        job_line(11, ago=5 * HOUR),
+        job_line(12, "zoe", boards=["b2"], ago=4 * HOUR),
+        health_line("b2", "Good", "Unknown", "job 12 ended Infra"),
+        job_line(13, "admin", name="health check", outcome="Incomplete", reason="status 1", ago=2 * HOUR, held=5),
+        health_line("b1", "Good", "Bad", "health check 13 ended Incomplete"),
+    )
+    moments = [time.strftime("%Y-%m-%d %H:%M", time.localtime(NOW - it * HOUR)) for it in (1, 2, 5)]
+    prints(farm, f"""\
+MOMENT           WHAT              OWNER TOOK    ABOUT
+{moments[0]} Good to Bad       -     -       health check 13 ended Incomplete
+{moments[1]} job 13 Incomplete admin 0:00:05 health check: status 1
+{moments[2]} job 11 Complete   ann   0:01:00 boot
+""", "--history", past, "history", "b1")
+    said = desk(farm, "--history", past, "history", "b1", "--last", "1", "--json")[1]
+    assert json.loads(said) == {"history": [health_line("b1", "Good", "Bad", "health check 13 ended Incomplete")]}
+    assert len(cells(desk(farm, "--history", past, "history", "c1")[1])) == 1
+    assert desk(farm, "--history", past, "history", "x9") == (3, "", "desk: there is no board x9\n")
+
+
+# ---- usage
+
+
+def used(folder: str) -> str:
+    """Ten jobs of ann wait 10, 20 .. 100 s; the median by the nearest rank is 50, the ninth of ten 90."""
+    return past_of(
+        folder,
+        job_line(1, held=50 * HOUR, ago=31 * DAY),
+        job_line(2, "zoe", boards=["b2"], held=3 * HOUR, outcome="Incomplete", ago=2 * DAY),
+        job_line(3, "zoe", boards=["c1"], kind="ccc", held=DAY, outcome="Infra", ago=29 * DAY + DAY // 2),
+        *(job_line(10 + it, held=HOUR // 10, waited=10 * it, ago=DAY) for it in range(10, 0, -1)),
+        job_line(30, boards=["b1", "b2"], held=HOUR, outcome="Canceled", ago=DAY),
+        health_line("b1", "Good", "Bad", ""),
+    )
+
+
+def test_usage_by_owner(farm: Farm, folder: str) -> None:
+    said = json.loads(desk(farm, "--history", used(folder), "usage", "--json")[1])
+    assert (said["by"], said["until"] - said["since"]) in (("owner", 30 * DAY), ("owner", 30 * DAY + 1))
+    rows = {it.pop("name"): it for it in said["usage"]}
+    # (the third began before the 30 days, of which it has half a day, less what has gone by meanwhile)
+    assert 14.0 < rows["zoe"].pop("hours") <= 15.0
+    assert rows == {
+        "zoe": {"jobs": 2, "complete": 0, "incomplete": 1, "infra": 1, "canceled": 0, "waited_median": None,
+                "waited_ninth": None},
+        "ann": {"jobs": 11, "complete": 10, "incomplete": 0, "infra": 0, "canceled": 1, "hours": 3.0,
+                "waited_median": 50, "waited_ninth": 90},
+    }
+
+
+def test_usage_by_board_and_by_type(farm: Farm, folder: str) -> None:
+    past = used(folder)
+    prints(farm, """\
+BOARD JOBS COMPLETE INCOMPLETE INFRA CANCELED HOURS WAITED  NINTH
+b2       2        0          1     0        1 4.0   -       -
+b1      11       10          0     0        1 2.0   0:00:50 0:01:30
+""", "--history", past, "usage", "--by", "board", "--since", "3d")
+    types = cells(desk(farm, "--history", past, "usage", "--by", "type", "--since", "2020-01-01")[1])
+    assert [[it[0], it[1], it[6]] for it in types[1:]] == [["bbb", "13", "56.0"], ["ccc", "1", "24.0"]]
+    assert len(cells(desk(farm, "--history", past, "usage", "--since", "1m")[1])) == 1
+
+
+@pytest.mark.parametrize("words", [["--since", "soon"], ["--since", "2026-13-01"], ["--since", "1y"], ["--by", "tag"]])
+def test_bad_words_of_usage(words: Sequence[str]) -> None:
+    assert desk("http://127.0.0.1:1", "usage", *words)[0] == 2
+
+
+def test_usage_of_a_file_that_was_put_aside(farm: Farm, folder: str) -> None:
+    past = used(folder)
+    kept = shutil.copy(os.path.join(past, "history.jsonl"), os.path.join(folder, "older.jsonl"))
+    both = [desk(farm, "--history", it, "usage", "--by", "board", "--since", "2020-01-01") for it in (past, kept)]
+    assert both[0] == both[1] and len(cells(both[0][1])) == 4
+
+
+# ---- resubmitting
+
+
+def test_a_jobs_text_is_submitted_again_by_anybody_of_any_member_of_its_group(farm: Farm) -> None:
+    prints(farm, "1\n", "submit", "-", given=GROUP)
+    prints(farm, "3\n", "resubmit", "2", user="bob")
+    assert (farm.job(3)["text"], farm.job(3)["owner"]) == (GROUP, "bob")
+    prints(farm, "5\n", "resubmit", "3")
+    assert desk(farm, "resubmit", "999") == (3, "", "desk: refused: 20 no such job\n")
+
+
+def test_a_health_check_has_no_text_that_could_be_submitted_again(farm: Farm) -> None:
+    farm.tell("admin", "/types", {"name": "checked", "check": "jobs", "every": 20})
+    farm.tell("admin", "/boards", {"name": "k1", "type": "checked"})
+    farm.tell("admin", "/boards/k1/health", {"health": "Unknown"})
+    passes(farm)
+    check = farm.board("k1")["holder"].split()[1]
+    told = f"desk: job {check} is a health check, which has no text\n"
+    assert desk(farm, "resubmit", check) == (3, "", told)

@@ -1,0 +1,297 @@
+"""What the client tells of clocks, waits, states and its own words, and what signals do to it."""
+from __future__ import annotations
+
+import os
+import re
+import select
+import signal
+import tempfile
+import time
+from typing import Callable, Optional, Sequence
+
+import pytest
+from desks import (
+    BOARDS, GROUP, JOB, at_a_terminal, desk, number_of, passes, prints, tell_at, waiting_tool, waits, write,
+)
+from farm_tools import job_file
+from served import Farm, Tool, wait_until
+
+SIGNALS = (signal.SIGINT, signal.SIGTERM, signal.SIGHUP, signal.SIGQUIT)
+EACH_SIGNAL = pytest.mark.parametrize("number", SIGNALS, ids=[it.name for it in SIGNALS])
+
+
+@pytest.fixture
+def farm(make_farm: Callable[..., Farm]) -> Farm:
+    return make_farm(BOARDS)
+
+
+# ---- the desk's clock (tests/unit/test_clocks.py has more of it, without a server)
+
+
+def test_a_new_farm_had_no_pass_yet(make_farm: Callable[..., Farm]) -> None:
+    told = "desk: no pass yet: is farm-dispatch running?\n"
+    assert desk(make_farm(), "--json", "queue") == (0, '{"queue":[]}\n', told)
+
+
+@pytest.mark.parametrize("view", ["queue", "boards", "reservations"])
+def test_a_clock_that_stands_still_is_a_dispatcher_that_doesnt_pass(make_farm: Callable[..., Farm], view: str) -> None:
+    farm = make_farm()
+    tell_at(farm, time.time() - 3600, "admin", "/types", b'{"name":"bbb"}')
+    told = desk(farm, view)[2]
+    assert re.fullmatch(r"desk: no pass for 1 hour( \d+ minutes?)?: is farm-dispatch running\?\n", told)
+    tell_at(farm, time.time(), "dispatcher", "/pass")
+    prints(farm, '{"queue":[]}\n', "--json", "queue")
+
+
+def test_a_farms_clock_that_is_ahead_is_told_once_a_command(farm: Farm, folder: str) -> None:
+    tell_at(farm, time.time() + 3 * 86400 + 7200, "dispatcher", "/pass")
+    told = "desk: the farm's clock is 3 days 1 hour ahead of this machine's: leases won't end until then\n"
+    assert desk(farm, "--json", "queue") == (0, '{"queue":[]}\n', told)
+    assert desk(farm, "reserve") == (0, "1\n", told)
+    tool = waiting_tool(farm, folder, "wait", "1", "--every", "0.1")
+    place = "reservation 1 is waiting, place 1 of 1 in the queue\n"
+    wait_until("it waits", lambda: place in tool.errors())
+    passes(farm)
+    assert (tool.ends(), tool.errors().count(told)) == (0, 1)
+
+
+# ---- signals
+
+
+def with_hdmi(farm: Farm, folder: str, *command: str) -> Tool:
+    """A `desk with` whose command has begun."""
+    tool = waiting_tool(farm, folder, "with", "hdmi", "--every", "0.1", "--", *command)
+    waits(tool)
+    passes(farm)
+    wait_until("it runs", lambda: "begun" in tool.output())
+    return tool
+
+
+@EACH_SIGNAL
+def test_a_signal_that_ends_the_command_gives_the_board_back(farm: Farm, folder: str, number: signal.Signals) -> None:
+    tool = with_hdmi(farm, folder, "sh", "-c", "ulimit -c 0; echo begun; exec sleep 300")
+    tool.send(number)
+    assert (tool.ends(), farm.board("b1")["holder"]) == (128 + number, "none")
+
+
+@EACH_SIGNAL
+def test_a_signal_reaches_the_command_which_ends_as_it_likes(farm: Farm, folder: str, number: signal.Signals) -> None:
+    loop = "echo begun; while :; do sleep 0.1; done"
+    tool = with_hdmi(farm, folder, "sh", "-c", f"trap 'echo told; exit 9' {number.name[3:]}; {loop}")
+    tool.send(number)
+    assert (tool.ends(), tool.output(), farm.board("b1")["holder"]) == (9, "begun\ntold\n", "none")
+
+
+@EACH_SIGNAL
+def test_a_signal_while_it_waits_leaves_no_reservation(farm: Farm, folder: str, number: signal.Signals) -> None:
+    tool = waiting_tool(farm, folder, "with", "hdmi", "--every", "0.1", "--", "true")
+    waits(tool)
+    tool.send(number)
+    assert (tool.ends(), farm.look("/queue")["queue"]) == (128 + number, [])
+
+
+@pytest.mark.parametrize("key, status", [(b"\x1c", 131), (b"\x03", 130), (None, 129)], ids=["quit", "interrupt", "end"])
+def test_a_terminals_keys_and_its_end_give_the_board_back(farm: Farm, key: Optional[bytes], status: int) -> None:
+    command = ["sh", "-c", "ulimit -c 0; echo begun; exec sleep 300"]
+    process, line = at_a_terminal(farm, "with", "hdmi", "--every", "0.1", "--", *command)
+    read_until(line, b"in the queue")
+    passes(farm)
+    read_until(line, b"begun")
+    press(line, key)
+    assert (process.wait(timeout=60), farm.board("b1")["holder"]) == (status, "none")
+
+
+@pytest.mark.parametrize("words", [["with", "hdmi", "--", "true"], ["reserve", "hdmi", "--wait"]])
+def test_a_terminals_end_ends_what_waits(farm: Farm, words: Sequence[str]) -> None:
+    process, line = at_a_terminal(farm, *words)
+    read_until(line, b"in the queue")
+    press(line, None)
+    assert (process.wait(timeout=60), farm.look("/queue")["queue"]) == (129, [])
+
+
+def read_until(line: int, wanted: bytes) -> None:
+    """Reads what a client writes on its terminal until this is among it."""
+    said = b""
+    while wanted not in said:
+        assert select.select([line], [], [], 60)[0], f"{wanted!r}: not within a minute, only {said!r}"
+        said += os.read(line, 4096)
+
+
+def press(line: int, key: Optional[bytes]) -> None:
+    """Presses a key of a terminal; None ends the terminal."""
+    if key:
+        os.write(line, key)
+    else:
+        os.close(line)
+
+
+def test_an_interrupt_at_the_very_beginning_ends_it_without_a_word(farm: Farm, folder: str) -> None:
+    """Ctrl-C comes while the client still reads its modules: one of them takes its time."""
+    place = tempfile.mkdtemp(dir=folder)
+    mark = os.path.join(place, "here")
+    write(place, "argparse.py", f"open({mark!r}, 'w').close()\nimport time\ntime.sleep(300)\n")
+    tool = waiting_tool(farm, folder, "queue", PYTHONPATH=place)
+    wait_until("the module", lambda: os.path.exists(mark))
+    tool.send(signal.SIGINT)
+    assert (tool.ends(), tool.errors()) == (-signal.SIGINT, "")
+
+
+def test_a_wait_for_a_job_that_is_interrupted_says_that_the_job_goes_on(farm: Farm, folder: str) -> None:
+    tool = waiting_tool(farm, folder, "submit", write(folder, "one.toml", JOB), "--wait", "--every", "0.1")
+    number = number_of(tool)
+    again = waiting_tool(farm, folder, "wait", str(number), "--every", "0.1")
+    for each in (tool, again):
+        waits(each)
+        each.send(signal.SIGINT)
+        assert each.ends() == 130
+        assert each.errors().endswith(f"desk: job {number} goes on; desk cancel {number} ends it\n")
+    assert farm.job(number)["state"] == "Submitted"
+
+
+# ---- why it waits (tests/unit/test_wants.py has more reasons, without a server)
+
+
+def says(tool: Tool, text: str) -> None:
+    """Waits until a client that waits at the head of the queue says why."""
+    begin = f"reservation {number_of(tool)} is waiting, place 1 of "
+    told = re.compile(rf"^{begin}\d in the queue: {re.escape(text)}$", re.MULTILINE)
+    wait_until(text, lambda: told.search(tool.errors()))
+
+
+def test_why_no_board_comes_that_has_a_name(farm: Farm, folder: str) -> None:
+    farm.tell("admin", "/boards/b2/health", {"health": "Maintenance"})
+    tool = waiting_tool(farm, folder, "reserve", "name=b2", "--wait", "--every", "0.1")
+    says(tool, "1 board fits, in Maintenance; none can come")
+    farm.tell("admin", "/boards/b2/health", {"health": "Bad"})
+    says(tool, "1 board fits, Bad; none can come")
+    other = farm.tell("bob", "/reservations", {"tags": ["name=b2"], "priority": "high"})["number"]
+    farm.tell("admin", "/boards/b2/health", {"health": "Good"})
+    passes(farm)
+    says(tool, f"1 board fits, held by reservation {other} of bob")
+    farm.tell("bob", f"/reservations/{other}/cancel")
+    passes(farm)
+    assert tool.ends() == 0
+
+
+def test_why_none_of_several_boards_comes(farm: Farm, folder: str) -> None:
+    job = farm.submit("true", user="cat")
+    passes(farm)
+    farm.tell("admin", "/boards/b2/health", {"health": "Maintenance"})
+    tool = waiting_tool(farm, folder, "reserve", "serial", "--wait", "--every", "0.1")
+    says(tool, f"2 boards fit: 1 held (job {job} of cat), 1 in Maintenance")
+    farm.tell("cat", f"/jobs/{job}/cancel")
+    passes(farm)
+    assert tool.ends() == 0
+
+
+def test_what_goes_over_several_lines_of_a_terminal_is_erased_whole(farm: Farm) -> None:
+    farm.tell("admin", "/boards/b2/health", {"health": "Maintenance"})
+    process, line = at_a_terminal(farm, "reserve", "name=b2", "--wait", "--every", "0.2", width=40)
+    # reservation 1 is waiting, place 1 of 1 in the queue: 1 board fits, in Maintenance; none can
+    # come (0 s): more than 80 letters, up to 120
+    read_until(line, b" s)")
+    read_until(line, b"\r\x1b[2A\x1b[J")
+    press(line, b"\x03")
+    assert process.wait(timeout=60) == 130
+
+
+def test_a_board_that_is_to_be_checked_first_is_told(make_farm: Callable[..., Farm], folder: str) -> None:
+    farm = make_farm()
+    farm.tell("admin", "/types", {"name": "rpi", "check": "jobs", "every": 20})
+    farm.tell("admin", "/boards", {"name": "r1", "type": "rpi"})
+    farm.tell("admin", "/boards/r1/health", {"health": "Unknown"})
+    tool = waiting_tool(farm, folder, "reserve", "--wait", "--every", "0.1")
+    says(tool, "1 board fits, Unknown until it is checked")
+    tool.send(signal.SIGTERM)
+    assert tool.ends() == 143
+
+
+def test_claims_that_no_boards_can_come_for_are_marked_in_the_queue_and_in_waits(farm: Farm, folder: str) -> None:
+    farm.tell("admin", "/boards/b2/health", {"health": "Maintenance"})
+    tool = waiting_tool(farm, folder, "submit", write(folder, "pair.toml", GROUP), "--wait", "--every", "0.1")
+    lack = "of 2 boards (bbb) only 1 can come: b2 is in Maintenance"
+    wait_until("why it waits", lambda: f"job 1 is Submitted, place 1 of 1 in the queue: {lack}\n" in tool.errors())
+    passes(farm)
+    wait_until("why it collects", lambda: f"job 1 is Scheduling, place 1 of 1 in the queue: {lack}\n" in tool.errors())
+    prints(farm, "3\n", "reserve", "name=b2")
+    prints(farm, "4\n", "reserve", "name=c1", "--priority", "low")
+    prints(farm, f"""\
+PLACE NUMBER KIND        PRIORITY BOARDS OWNER NOTE
+    1      1 group             50      2 ann   collects boards; {lack}
+    2      3 reservation       50      1 ann   no board with name=b2 can come: b2 is in Maintenance
+    3      4 reservation        0      1 ann
+""", "queue")
+    prints(farm, "", "cancel-reservation", "3")
+    farm.tell("admin", "/boards/b2/health", {"health": "Good"})
+    passes(farm)
+    wait_until("its end of waiting", lambda: "job 1 is Scheduled\n" in tool.errors())
+
+
+# ---- refusals
+
+ONE, MANY = "job_name = 'x'\n", "job_name = 'x'\n[roles.a]\n"
+KIND = "device_type = 'bbb'\n"
+PRIORITIES = "is none of low, medium, high and 0 to 100"
+
+
+@pytest.mark.parametrize("text, code, why", [
+    ("x", 70, "no TOML"),
+    (KIND, 70, "there is no job_name, or it is empty"),
+    (f"job_name = 1\n{KIND}", 70, "job_name isn't a text"),
+    (ONE, 70, "it has neither device_type nor roles"),
+    (f"{ONE}{KIND}[roles.a]", 70, "it has both device_type and roles"),
+    (f"{ONE}device_type = 'b b'", 5, "device_type 'b b' isn't a name of 1 to 48 letters, digits, '-', '_', '.'"),
+    (f"{ONE}{KIND}tags = 'hdmi'", 70, "tags isn't an array of texts"),
+    (f"{ONE}{KIND}tags = ['=x']", 6, "'=x' isn't a tag"),
+    (f"{ONE}{KIND}tags = {['a'] * 17}", 7, "there are 17 tags, and 16 at most are taken"),
+    (f"{ONE}{KIND}priority = 101", 23, f"priority 101 {PRIORITIES}"),
+    (f"{ONE}{KIND}priority = 'urgent'", 23, f"priority 'urgent' {PRIORITIES}"),
+    (f"{ONE}{KIND}priority = []", 70, "priority is neither a whole number nor a text"),
+    (f"{ONE}tags = []\n[roles.a]", 70, "tags stand beside roles, and belong into each role"),
+    (f"{MANY}{KIND}", 70, "role a: there is no count"),
+    (f"{MANY}count = 1", 70, "role a: there is no device_type"),
+    (f"{MANY}{KIND}count = 5", 7, "role a: count is 5, and is 1 to 4"),
+    (f"{MANY}{KIND}count = 3\n[roles.b]\n{KIND}count = 2", 7, "its roles want 5 boards"),
+    (f"{ONE}roles = {{}}", 7, "its roles want 0 boards"),
+    (f"{ONE}{KIND}[a.b]\nx = 1\n[a]\nb.c = 2\n", 70, "no TOML"),
+])
+def test_what_is_wrong_with_a_job_file_that_the_desk_refuses_is_told(
+    farm: Farm, text: str, code: int, why: str
+) -> None:
+    status, output, errors = desk(farm, "submit", "-", given=text)
+    assert (status, output, errors.count("\n")) == (3, "", 1)
+    assert re.match(rf"desk: refused: {code} bad [a-z ]+: {re.escape(why)}", errors)
+
+
+@pytest.mark.parametrize("text", [JOB, GROUP, JOB.replace("bbb", "ccc") + "priority = 0\ntags = []\n"])
+def test_no_fault_is_found_in_a_job_file_that_the_desk_takes(farm: Farm, text: str) -> None:
+    prints(farm, "1\n", "submit", "-", given=text)
+    assert job_file.fault_of(text.encode()) is None
+
+
+def test_a_command_in_the_wrong_state_says_which_and_a_forbidden_one_who_asked(farm: Farm) -> None:
+    prints(farm, "1\n", "submit", "-", given=JOB)
+    assert desk(farm, "cancel", "1", user="bob") == (3, "", "desk: refused: 3 forbidden: asked as bob\n")
+    prints(farm, "", "cancel", "1")
+    told = "desk: refused: 21 wrong job state: job 1 is Finished (Canceled)\n"
+    assert desk(farm, "cancel", "1") == (3, "", told)
+    prints(farm, "2\n", "reserve", "hdmi")
+    told = "desk: refused: 32 wrong reservation state: reservation 2 is waiting\n"
+    assert desk(farm, "release", "2") == (3, "", told)
+
+
+def test_of_several_jobs_those_that_are_there_are_shown_and_the_others_told(farm: Farm) -> None:
+    prints(farm, "1\n", "submit", "-", given=JOB)
+    rows = desk(farm, "jobs", "1")[1]
+    told = "desk: job 99999: refused: 20 no such job\n"
+    assert desk(farm, "jobs", "99999", "1") == (3, rows, told)
+    assert desk(farm, "jobs", "--text", "1", "99999") == (3, JOB, told)
+
+
+def test_a_desk_that_gives_no_answer_at_first_is_told_before_it_answers(farm: Farm, folder: str) -> None:
+    passes(farm)
+    farm.kill()
+    tool = waiting_tool(farm, folder, "--json", "queue")
+    wait_until("what it tells", lambda: tool.errors().startswith(f"desk: waiting for the desk at {farm.server}: "))
+    farm.start()
+    assert (tool.ends(), tool.output(), tool.errors().count("\n")) == (0, '{"queue":[]}\n', 1)

@@ -1,0 +1,951 @@
+"""What farm-dispatch does with jobs of a served farm: how each way to end is told, groups, health checks,
+cancels, lost processes, dispatchers and desks that are killed, commands that can't be started, time limits,
+misspelt settings and wrong clocks. test_dispatch_once.py has what must never happen twice."""
+from __future__ import annotations
+
+import argparse
+import contextlib
+import errno
+import io
+import json
+import os
+import pathlib
+import random
+import signal
+import sqlite3
+import subprocess
+import sys
+import tempfile
+import time
+from typing import Any, Callable, Dict, Iterator, List, Tuple, cast
+
+import pytest
+from dispatch_lab import AT_IT, BOARDS, COMMAND, Lab, end_commands, jobs_of, one_line_each, read_words, replace
+from farm_tools import cages, folders, groups, limits, runner
+from farm_tools import clocks as clocks_module
+from farm_tools.clocks import Clocks
+from farm_tools.dispatcher import Dispatcher
+from served import TOOLS, TOP, Tool, read, wait_until
+from wants import wants
+
+MakeLab = Callable[..., Lab]
+
+
+@pytest.fixture
+def make_lab(program: str, tmp_path: pathlib.Path) -> Iterator[MakeLab]:
+    yield lambda boards=BOARDS: Lab(program, tempfile.mkdtemp(dir=tmp_path), boards)
+    end_commands(str(tmp_path))
+
+
+@pytest.fixture
+def lab(make_lab: MakeLab) -> Lab:
+    return make_lab()
+
+
+def test_ways_to_end(lab: Lab) -> None:
+    """0 is Complete, 3 Incomplete, 75 and a signal Infra; text, boards and log are there."""
+    jobs = {
+        "Complete": lab.farm.submit("echo said; echo told >&2; env; cat boards boards.json"),
+        "Incomplete": lab.farm.submit("exit 3"),
+        "Infra": lab.farm.submit("exit 75"),
+    }
+    killed = lab.farm.submit("kill -9 $PPID")
+    dispatcher = lab.dispatch()
+    for result, number in jobs.items():
+        assert lab.finished(number) == result, f"the result of job {number}"
+    assert lab.finished(killed) == "Infra", "the result of one whose command is killed"
+    number = jobs["Complete"]
+    assert read(lab.file(number, "job.toml")) == lab.farm.job(number)["text"], "the job's text"
+    log = read(lab.file(number, "log"))
+    name = lab.farm.job(number)["board"]
+    folder = os.path.join(lab.place, "jobs", str(number))
+    wanted = [
+        "said",
+        "told",
+        f"{name} bbb - {number}",
+        f"FARM_JOB={number}",
+        "FARM_KIND=ordinary",
+        "FARM_OWNER=ann",
+        "FARM_PRIORITY=50",
+        f"FARM_BOARD={name}",
+        f"FARM_BOARDS={name}",
+        "FARM_TYPES=bbb",
+        "FARM_ROLES=-",
+        f"FARM_JOB_FILE={folder}/job.toml",
+        f"FARM_BOARDS_FILE={folder}/boards",
+        f"FARM_FOLDER={folder}",
+        f"PWD={folder}",
+    ]
+    assert [it for it in wanted if it not in log.split("\n")] == [], "lines that the log lacks"
+    with open(lab.file(number, "boards.json"), encoding="utf-8") as file:
+        row = json.load(file)[0]
+    assert (row["name"], row["tags"], row["job"]) == (name, ["serial"], number), "a board's row"
+    lab.closes(dispatcher)
+
+
+def test_a_job_isnt_told_how_the_desk_is_reached(lab: Lab) -> None:
+    """Whatever settings the dispatcher has in its environment, a job's has none of them."""
+    dispatcher = lab.dispatch(DISPATCH_USER="dispatcher", DISPATCH_KEEP_LOGS="2 days")
+    number = lab.farm.submit("env")
+    assert lab.finished(number) == "Complete"
+    log = read(lab.file(number, "log"))
+    assert f"FARM_JOB={number}\n" in log
+    assert "DISPATCH_" not in log
+    lab.closes(dispatcher)
+
+
+def test_passes_after_a_finish(make_lab: MakeLab) -> None:
+    """Four jobs of one board run one after another, each after the pass at an end."""
+    lab = make_lab(BOARDS[:1])
+    numbers = [lab.farm.submit("true") for _ in range(4)]
+    dispatcher = lab.dispatch(every="1000")
+    for number in numbers:
+        assert lab.finished(number) == "Complete", f"the result of job {number}"
+    children = f"/proc/{dispatcher.process.pid}/task/{dispatcher.process.pid}/children"
+    wait_until("one process is left at most", lambda: len(read(children).split()) <= 1)
+    wait_until("the passes: the first, and one after each end", lambda: lab.passes() == 5)
+    assert os.stat(f"{lab.place}/passes.json").st_mode & 0o777 == 0o644, "the rights of their count"
+    lab.closes(dispatcher)
+
+
+def test_group(make_lab: MakeLab) -> None:
+    """A group of three runs as one process, and each member is finished."""
+    lab = make_lab([("a1", "aaa", []), *BOARDS])
+    text = b"""job_name = 'group'
+run = 'echo $FARM_BOARDS $FARM_TYPES $FARM_ROLES'
+[roles.client]
+device_type = 'bbb'
+count = 2
+[roles.server]
+device_type = 'aaa'
+count = 1
+"""
+    number = lab.farm.tell("ann", "/jobs", text)["number"]
+    dispatcher = lab.dispatch()
+    for member in range(number, number + 3):
+        assert lab.finished(member) == "Complete", f"the result of {member}"
+    assert read(lab.file(number, "log")) == "b1 b2 a1 bbb bbb aaa client client server\n", "its log"
+    assert lab.begins(number) == 1, "how often it was begun"
+    lab.closes(dispatcher)
+
+
+def test_health_checks(lab: Lab) -> None:
+    """Health checks run their command: Complete makes a board Good, Incomplete Bad."""
+    lab.farm.tell("admin", "/types", {"name": "checked", "check": "jobs", "every": 20})
+    for name in ("c1", "c2"):
+        lab.farm.tell("admin", "/boards", {"name": name, "type": "checked"})
+        lab.farm.tell("admin", f"/boards/{name}/health", {"health": "Unknown"})
+    check = "sh -c 'echo $FARM_KIND $FARM_TYPES; test $FARM_BOARD = c1'"
+    dispatcher = lab.dispatch("--check", check)
+    wait_until("c1 is Good", lambda: lab.farm.board("c1")["health"] == "Good")
+    wait_until("c2 is Bad", lambda: lab.farm.board("c2")["health"] == "Bad")
+    assert read(lab.file(1, "log")) == "check checked\n", "a check's log"
+    lab.closes(dispatcher)
+
+
+def test_cancels(lab: Lab) -> None:
+    """A canceled job's command gets SIGTERM, then SIGKILL, and what it left behind is killed."""
+    quiet = lab.farm.submit(lab.sleeps(100))
+    stubborn = lab.farm.submit(f"trap : TERM; setsid {lab.sleep} 101 & {AT_IT}")
+    dispatcher = lab.dispatch("--grace", "1")
+    for number, seconds in ((quiet, 100), (stubborn, 101)):
+        lab.begun(number)
+        lab.running(seconds)
+        lab.farm.tell("ann", f"/jobs/{number}/cancel")
+    assert lab.finished(quiet) == "Canceled", "the one that ends"
+    assert read(lab.file(quiet, "ended")).strip() == "status 143", "how it ended"
+    assert lab.finished(stubborn) == "Canceled", "the one that doesn't"
+    assert read(lab.file(stubborn, "ended")).strip() == "signal 9", "how it ended"
+    wait_until("what it left is gone", lambda: not lab.sleepers(101))
+    lab.closes(dispatcher)
+
+
+def test_two_at_once(lab: Lab) -> None:
+    """Of two dispatchers on a folder one runs, and the other says so, with status 4. Of two dispatchers that begin
+    at once on a folder one has it, until it is killed."""
+    both = [lab.dispatch(), lab.dispatch()]
+    last = wait_until("one ends", lambda: [it for it in both if it.process.poll() is not None])
+    assert [it.ends() for it in last] == [4], "its status"
+    told = f"farm-dispatch: {lab.place} is in use by another farm-dispatch\n"
+    assert last[0].errors() == told, "what it tells"
+    number = lab.farm.submit(lab.until("open"))
+    lab.begun(number)
+    next(it for it in both if it not in last).kill()
+    dispatcher = lab.dispatch()
+    lab.let("open")
+    assert lab.finished(number) == "Complete", "the next one's job"
+    assert lab.begins(number) == 1, "how often it was begun"
+    lab.closes(dispatcher)
+
+
+def test_cancel_beside_a_clock(lab: Lab) -> None:
+    """A canceled job has its whole grace, also where the machine's clock jumps. A grace isn't cut short by a clock
+    that jumps: by the file's age the command would be killed."""
+    number = lab.farm.submit(f"trap \"touch {lab.folder}/told\" TERM; {lab.until('open')}; exit 3")
+    dispatcher = lab.dispatch("--grace", "100")
+    lab.begun(number)
+    lab.farm.tell("ann", f"/jobs/{number}/cancel")
+    wait_until("it is told", lambda: os.path.exists(f"{lab.folder}/told"))
+    os.utime(lab.file(number, "cancel"), (time.time() - 7200,) * 2)
+    passes = lab.passes()
+    wait_until("three more passes", lambda: lab.passes() >= passes + 3)
+    assert read(lab.file(number, "ended")) == "", "how it ended"
+    lab.let("open")
+    assert lab.finished(number) == "Canceled", "its result"
+    assert read(lab.file(number, "ended")).strip() == "status 3", "its end"
+    lab.closes(dispatcher)
+
+
+def test_no_room_for_the_end(lab: Lab) -> None:
+    """A job that went well is Complete, also where its end can't be noted at first: its process waits until it can."""
+    number = lab.farm.submit(lab.until("open"))
+    dispatcher = lab.dispatch()
+    lab.begun(number)
+    os.mkdir(lab.file(number, "ended.new"))
+    lab.let("open")
+    wait_until("its command's end", lambda: f"end {number}" in read(lab.runs))
+    lab.some_passes()
+    assert lab.state(number) == "Running", "its state"
+    os.rmdir(lab.file(number, "ended.new"))
+    assert lab.finished(number) == "Complete", "its result"
+    lab.closes(dispatcher)
+
+
+def test_lost_processes(lab: Lab) -> None:
+    """A job whose runner was killed is Infra once nothing of it is left; so is one whose folder is lost."""
+    alone, gone = (lab.farm.submit(lab.sleeps(it)) for it in (100, 102))
+    dispatcher = lab.dispatch()
+    for number, seconds in ((alone, 100), (gone, 102)):
+        lab.begun(number)
+        lab.running(seconds)
+    lab.kill_runner(alone)
+    assert lab.finished(alone) == "Infra", "one whose runner was killed"
+    assert lab.sleepers(100) == [], "what it started"
+    dispatcher.kill()
+    for name in ("jobs", "groups"):
+        os.rename(os.path.join(lab.place, name, str(gone)), os.path.join(lab.folder, f"gone-{name}"))
+    dispatcher = lab.dispatch()
+    assert lab.finished(gone) == "Infra", "one whose folder is gone"
+    assert lab.sleepers(102) == [], "what it started"
+    lab.closes(dispatcher)
+
+
+def test_killed_dispatchers(lab: Lab) -> None:
+    """Over many killed dispatchers, and some killed desks, each of 28 groups runs once, and has its line."""
+    seed = random.randrange(10**6)
+    dice = random.Random(seed)
+    numbers = [lab.farm.submit(f"sleep 0.{dice.randrange(4)}") for _ in range(24)]
+    text = "job_name = 'two'\nrun = 'sleep 0.2'\n[roles.a]\ndevice_type = 'bbb'\ncount = 2\n"
+    numbers += [lab.farm.tell("ann", "/jobs", text.encode())["number"] for _ in range(4)]
+    kills = passes = 0
+    dispatcher = lab.dispatch(every="0.1")
+    until = time.monotonic() + 12
+    while time.monotonic() < until and lab.farm.look("/queue")["queue"]:
+        time.sleep(dice.uniform(0.05, 0.5))
+        dispatcher.kill()
+        kills += 1
+        passes, before = lab.passes(), passes
+        assert before <= passes, f"passes that a kill took back (seed {seed})"
+        if kills % 5 == 0:
+            lab.farm.kill()
+            lab.farm.start()
+        dispatcher = lab.dispatch(every="0.1")
+    for number in numbers:
+        assert lab.finished(number, 30) == "Complete", f"job {number} (seed {seed})"
+        assert lab.begins(number) == 1, f"how often job {number} was begun (seed {seed})"
+    wait_until(
+        "no job holds a board",
+        lambda: all(it["holder"] == "none" for it in lab.farm.look("/boards")["boards"]),
+    )
+    members = [it + place for it in numbers[-4:] for place in range(2)]
+    one_line_each(lab, [*numbers[:-4], *members], f"(seed {seed})")
+    # The last one may have come after all was done: it is told to end once it has run a job.
+    assert lab.finished(lab.farm.submit("true")) == "Complete", "a job of the last"
+    counted, others = lab.passes(), len(numbers) + 1
+    commands = lab.farm.look("/status")["count"]
+    assert passes < counted <= commands - others, "passes are counted, and no other command"
+    lab.closes(dispatcher)
+
+
+def test_others_jobs(lab: Lab) -> None:
+    """A job that others started is left alone; one that others finished is ended."""
+    theirs = lab.farm.submit("true")
+    lab.farm.tell("admin", "/pass")
+    lab.farm.tell("admin", f"/jobs/{theirs}/start")
+    ours = lab.farm.submit(lab.sleeps(103))
+    dispatcher = lab.dispatch()
+    lab.begun(ours)
+    process = lab.runner(ours)
+    lab.farm.tell("admin", f"/jobs/{ours}/finish", {"outcome": "Complete"})
+    wait_until(
+        "the process is gone",
+        lambda: not os.path.exists(f"/proc/{process}") or not read_words(process),
+    )
+    assert lab.farm.job(theirs)["state"] == "Running", "somebody else's job"
+    assert lab.begins(theirs) == 0, "how often it was begun"
+    lab.closes(dispatcher)
+
+
+def test_earlier_farm(lab: Lab) -> None:
+    """A folder that a job of an earlier farm left under the same number is put aside."""
+    number = lab.farm.submit("true")
+    os.makedirs(os.path.dirname(lab.file(number, "began")))
+    for name in ("began", "ended", "finished"):
+        with open(lab.file(number, name), "w", encoding="utf-8") as file:
+            file.write("status 3\n")
+    dispatcher = lab.dispatch()
+    assert lab.finished(number) == "Complete", "its result"
+    aside = [it for it in os.listdir(os.path.join(lab.place, "groups")) if ".before-" in it]
+    assert len(aside) == 1, "what is put aside"
+    lab.closes(dispatcher)
+
+
+def test_no_room_for_replies(lab: Lab) -> None:
+    """Where no more replies can be kept, jobs are started and finished without keys."""
+    number = lab.farm.submit("sleep 0.5")
+    lab.farm.kill()
+    with sqlite3.connect(lab.farm.db) as file:
+        rows = ((f"k{place}",) for place in range(300_000))
+        file.executemany("INSERT INTO kept VALUES ('zoe', ?, 14, 0, 0, 0)", rows)
+    file.close()
+    lab.farm.start()
+    assert full(lab.farm.ask("dispatcher", "POST", "/pass", key="one-more")) == (409, 4), "a command with a key"
+    dispatcher = lab.dispatch()
+    lab.begun(number)
+    dispatcher.kill()
+    dispatcher = lab.dispatch()
+    assert lab.finished(number) == "Complete", "the job"
+    assert lab.begins(number) == 1, "how often it was begun"
+    lab.closes(dispatcher)
+
+
+def test_many_runners(tmp_path: pathlib.Path) -> None:
+    """Of six processes that are to run one job, and one that comes later, one runs it."""
+    for _ in range(3):
+        place = tempfile.mkdtemp(dir=tmp_path)
+        files = folders.Files(place, 1)
+        for each in (files.state, files.work, os.path.dirname(files.mark)):
+            os.makedirs(each)
+        order = runner.Order(place, cages.NAMESPACE if cages.can_make(cages.NAMESPACE) else cages.NONE, "", 1, 60, 60, 1000, 10**9, "")
+        words = [sys.executable, "-m", "farm_tools.runner", files.state, order.word(), "sh", "-c", "echo ran >> runs"]
+        runners = [subprocess.Popen(words, cwd=TOOLS) for _ in range(6)]
+        assert [it.wait(timeout=60) for it in runners] == [0] * 6, "how they end"
+        assert subprocess.run(words, cwd=TOOLS, check=False).returncode == 0, "how one ends that comes later"
+        assert read(os.path.join(files.work, "runs")) == "ran\n", "how often the command ran"
+        assert read(files.file("ended")) == "status 0\n", "how it ended"
+
+
+OPTIONS = argparse.Namespace(
+    command=["true"],
+    check=["true"],
+    every=1,
+    grace=1,
+    infra=75,
+    keep=1,
+    keep_logs=86400,
+    limit=60,
+    most=60,
+    retry=1,
+    cage=cages.NONE,
+    serves="",
+    log_limit=10**6,
+    folder_limit=10**9,
+)
+
+
+class DeskToCome:
+    """A desk with two boards: the group that collects holds one, and the other a job in a state of
+    which this dispatcher knows nothing."""
+
+    given: List[str] = []
+
+    def look(self, path: str) -> Dict[str, Any]:
+        if path == "/boards":
+            return {"boards": [
+                {"name": "b1", "health": "Good", "holder": "job 1"},
+                {"name": "b2", "health": "Good", "holder": "job 3"},
+            ]}
+        if path == "/status":
+            return {"next": 4}
+        if path == "/jobs/1":
+            return {"number": 1, "group": 1, "state": "Scheduling", "board": "b1"}
+        return {"number": 3, "group": 3, "state": "Reviewing", "board": "b2"}
+
+    def tell(self, path: str, body: Any = None, key: Any = None) -> None:
+        self.given.append(path)
+
+    nudge = tell
+
+
+def test_states_to_come(tmp_path: pathlib.Path) -> None:
+    """A group that collects is left alone; so is a state that isn't known, which is told once."""
+    said = io.StringIO()
+    with contextlib.redirect_stdout(said):
+        dispatcher = Dispatcher(cast(Any, DeskToCome()), tempfile.mkdtemp(dir=tmp_path), OPTIONS)
+        for _ in range(3):
+            dispatcher.round(True)
+    told = "job 3 is Reviewing, which is left to the desk\n"
+    assert said.getvalue() == told, "what it tells"
+    assert DeskToCome.given == ["/pass"] * 3, "what it does"
+
+
+def test_stop_that_is_dropped(tmp_path: pathlib.Path) -> None:
+    """A signal that comes while Python ends an object stops the dispatcher too. Python drops what is raised while
+    it ends an object."""
+    code = """\
+import os, signal
+from farm_tools.dispatch import Stopped, Stops
+class Ends:
+    def __del__(self):
+        os.kill(os.getpid(), signal.SIGTERM)
+        os.getpid()
+stops = Stops()
+Ends()
+try:
+    stops.check()
+except Stopped:
+    print("stopped")
+"""
+    ran = subprocess.run(
+        [sys.executable, "-c", code], cwd=TOOLS, capture_output=True, text=True, check=False
+    )
+    assert "Exception ignored in" in ran.stderr, "what Python tells"
+    assert (ran.returncode, ran.stdout) == (0, "stopped\n"), "what is raised again"
+
+
+def full(answer: Tuple[int, Any]) -> Tuple[int, int]:
+    return answer[0], answer[1]["code"]
+
+
+def test_own_ends(lab: Lab) -> None:
+    """4 for a second one on a folder, 3 for a stranger, 2 for bad words, 0 for a signal."""
+    stranger = Tool(["farm-dispatch", "--server", lab.farm.server, "--user", "ann", "--folder",
+                     os.path.join(lab.folder, "other"), "true"], lab.folder)
+    assert stranger.ends() == 3, "one that isn't the dispatcher"
+    number = lab.farm.submit(lab.until("open"))
+    dispatcher = lab.dispatch()
+    lab.begun(number)
+    second = lab.dispatch()
+    assert second.ends() == 4, "a second dispatcher"
+    assert Tool(["farm-dispatch"], lab.folder).ends() == 2, "one without a command"
+    dispatcher.send(signal.SIGTERM)
+    assert dispatcher.ends() == 0, "one that is told to end"
+    assert lab.farm.job(number)["state"] == "Running", "its job"
+    dispatcher = lab.dispatch()
+    lab.let("open")
+    assert lab.finished(number) == "Complete", "the job, which the next takes up"
+    lab.farm.kill()
+    wait_until(
+        "it tells that no answer comes", lambda: "no answer from the desk" in dispatcher.errors()
+    )
+    lab.farm.start()
+    again = lab.farm.submit("true")
+    assert lab.finished(again) == "Complete", "a job of a desk that came back"
+    lab.closes(dispatcher)
+
+
+# ---- commands that can't be started
+
+
+def test_unstartable_scripts(lab: Lab) -> None:
+    """Scripts that aren't executable finish no job and condemn no board; it is told, status 5. The fault that was
+    seen: boards were condemned while both scripts weren't executable."""
+    check = with_checks(lab)
+    words = ["--check", check, "--retry", "1"]
+    dispatcher = lab.dispatch(*words)
+    assert lab.finished(lab.farm.submit("true")) == "Complete", "a job before"
+    os.chmod(check, 0o644)
+    os.chmod(lab.command, 0o644)
+    for name in ("c1", "c2"):
+        lab.farm.tell("admin", f"/boards/{name}/health", {"health": "Unknown"})
+    jobs = [lab.farm.submit("true") for _ in range(6)]
+    wait_until("it tells it", lambda: "not executable" in dispatcher.errors())
+    count = lab.farm.look("/status")["count"]
+    time.sleep(3)
+    assert lab.farm.look("/status")["count"] == count, "passes while it stands"
+    assert [it for it in jobs if lab.farm.job(it)["result"]] == [], "jobs that are Finished"
+    healths = {it["name"]: it["health"] for it in lab.farm.look("/boards")["boards"]}
+    wanted = {**{it[0]: "Good" for it in BOARDS}, "c1": "Unknown", "c2": "Unknown"}
+    assert healths == wanted, "the boards' health"
+    assert dispatcher.errors().count("not executable") == 1, "how often it is told"
+    dispatcher.send(signal.SIGTERM)
+    assert dispatcher.ends() == 5, "its status while it stands"
+    dispatcher = lab.dispatch(*words)
+    wait_until("the next tells it", lambda: dispatcher.errors().count("not executable") == 2)
+    assert lab.farm.look("/status")["count"] == count, "passes of the next"
+    os.chmod(check, 0o755)
+    os.chmod(lab.command, 0o755)
+    for number in jobs:
+        assert lab.finished(number) == "Complete", f"job {number}, once they are mended"
+        assert lab.begins(number) == 1, "how often it was begun"
+    for name in ("c1", "c2"):
+        wait_until(f"{name} is Good", lambda: is_good(lab, name))
+    wait_until("it tells that it goes on", lambda: "it goes on" in dispatcher.errors())
+    lab.closes(dispatcher)
+
+
+def with_checks(lab: Lab) -> str:
+    """Adds two boards whose health a script checks. Returns the script."""
+    lab.farm.tell("admin", "/types", {"name": "checked", "check": "jobs", "every": 20})
+    for name in ("c1", "c2"):
+        lab.farm.tell("admin", "/boards", {"name": name, "type": "checked"})
+    check = os.path.join(lab.folder, "check")
+    replace(check, "#!/bin/sh\ntrue\n")
+    return check
+
+
+def test_ways_not_to_start(lab: Lab) -> None:
+    """Missing, of a missing interpreter, of none: nothing is finished until it is mended. Each way in which a
+    script can't be started: what it is made, and what is told."""
+    dispatcher = lab.dispatch("--retry", "1")
+    ways = [
+        (None, "no such command"),
+        ("#!/nonexistent/interpreter\n", "its interpreter '/nonexistent/interpreter'"),
+        ("#!/bin/sh\r\n", "its interpreter '/bin/sh\\r'"),
+        ("#!/usr/bin/env nonexistent-command\n", "its interpreter 'nonexistent-command'"),
+        ("no line that names an interpreter\n", "Exec format error"),
+    ]
+    for text, wanted in ways:
+        os.unlink(lab.command)
+        if text is not None:
+            replace(lab.command, text)
+        number = lab.farm.submit("true")
+        wait_until(f"{wanted!r} is told", lambda: wanted in dispatcher.errors())
+        time.sleep(1.5)
+        assert lab.farm.job(number)["result"] == "", f"the job's result ({wanted})"
+        assert [it[0] for it in BOARDS if not is_good(lab, it[0])] == [], "boards that aren't Good"
+        replace(lab.command, COMMAND)
+        assert lab.finished(number) == "Complete", f"the job, once it is mended ({wanted})"
+        assert lab.begins(number) == 1, "how often it was begun"
+    lab.closes(dispatcher)
+
+
+def is_good(lab: Lab, name: str) -> bool:
+    return bool(lab.farm.board(name)["health"] == "Good")
+
+
+def test_not_started_and_told_otherwise(lab: Lab) -> None:
+    """One that couldn't be started is canceled, or begun once, also after killed dispatchers. What becomes of jobs
+    that run for the desk, and whose command couldn't be started: they are canceled, or a dispatcher is killed
+    while it takes back their begin."""
+    replace(lab.command, "no line that names an interpreter\n")
+    numbers = [lab.farm.submit("true") for _ in range(3)]
+    dispatcher = lab.dispatch("--retry", "1")
+    for number in numbers:
+        wait_until(f"{number} is told", lambda: f"job {number} wasn't st" in dispatcher.output())
+    lab.farm.tell("ann", f"/jobs/{numbers[0]}/cancel")
+    assert lab.finished(numbers[0]) == "Canceled", "one that is canceled"
+    assert is_good(lab, lab.farm.job(numbers[0])["board"]), "its board"
+    assert [lab.farm.job(it)["state"] for it in numbers[1:]] == ["Running"] * 2, "the others"
+    dispatcher.kill()
+    wait_until("no runner is left", lambda: not any(map(lab.runner, numbers)))
+    for number, names in ((numbers[1], ["began", "ended"]), (numbers[2], ["ended"])):
+        for name in names:
+            with open(lab.file(number, name), "w", encoding="utf-8") as file:
+                file.write("not started: as a dispatcher that was killed leaves it\n")
+    replace(lab.command, COMMAND)
+    dispatcher = lab.dispatch("--retry", "1")
+    for number in numbers[1:]:
+        assert lab.finished(number) == "Complete", f"job {number}, once it is mended"
+        assert lab.begins(number) == 1, "how often it was begun"
+    assert lab.begins(numbers[0]) == 0, "how often the canceled one was"
+    replace(lab.command, "no line that names an interpreter\n")
+    alone = lab.farm.submit("true")
+    wait_until(f"{alone} is told", lambda: f"job {alone} wasn't st" in dispatcher.output())
+    lab.farm.tell("ann", f"/jobs/{alone}/cancel")
+    assert lab.finished(alone) == "Canceled", "one that waits alone, and is canceled"
+    wait_until("its mark", lambda: os.path.exists(lab.file(alone, "finished")))
+    line = jobs_of(lab)[-1]
+    told = (line["job"], line["outcome"], line["reason"])
+    assert told == (alone, "Canceled", "not begun"), "its line"
+    replace(lab.command, COMMAND)
+    assert lab.finished(lab.farm.submit("true")) == "Complete", "a job after it"
+    lab.closes(dispatcher)
+
+
+def test_mended_and_broken(lab: Lab) -> None:
+    """Each job runs once. Dispatchers that are
+    killed at random moments, while their command is broken and mended."""
+    seed = random.randrange(10**6)
+    dice = random.Random(seed)
+    numbers = [lab.farm.submit(f"sleep 0.{dice.randrange(3)}") for _ in range(24)]
+    # (a shell that was just started may read any of them: all have the same commands)
+    commands = COMMAND.partition("\n")[2]
+    texts = [COMMAND, COMMAND, commands, f"#!/nonexistent/sh\n{commands}"]
+    words, kills = ["--retry", "0.2"], 0
+    dispatcher = lab.dispatch(*words, every="0.1")
+    until = time.monotonic() + 12
+    while time.monotonic() < until and lab.farm.look("/queue")["queue"]:
+        replace(lab.command, dice.choice(texts))
+        time.sleep(dice.uniform(0.05, 0.6))
+        if dice.random() < 0.5:
+            dispatcher.kill()
+            kills += 1
+            dispatcher = lab.dispatch(*words, every="0.1")
+    replace(lab.command, COMMAND)
+    for number in numbers:
+        assert lab.finished(number, 30) == "Complete", f"job {number} (seed {seed})"
+        assert lab.begins(number) == 1, f"how often job {number} was begun (seed {seed})"
+    assert [it[0] for it in BOARDS if not is_good(lab, it[0])] == [], "boards that aren't Good"
+    assert lab.finished(lab.farm.submit("true")) == "Complete", "a job of the last"
+    lab.closes(dispatcher)
+
+
+class DeskOfThree:
+    """A desk with three jobs that wait for their start, which it notes."""
+
+    def __init__(self) -> None:
+        self.given: List[Any] = []
+        self.states = {1: "Scheduled", 2: "Scheduled", 3: "Scheduled"}
+
+    def look(self, path: str) -> Dict[str, Any]:
+        if path == "/status":
+            return {"next": 4}
+        if path == "/boards":
+            held = {it for it, state in self.states.items() if state != "Finished"}
+            return {"boards": [
+                {"name": f"b{it}", "type": "bbb", "health": "Good", "holder": f"job {it}"}
+                for it in sorted(held)
+            ]}
+        number = int(path.rpartition("/")[2])
+        state = self.states[number]
+        return {"number": number, "group": number, "state": state, "kind": "check",
+                "board": f"b{number}", "type": "bbb", "role": "", "text": "", "owner": "admin",
+                "priority": 50, "result": "Complete" if state == "Finished" else ""}
+
+    def tell(self, path: str, body: Any = None, key: Any = None) -> None:
+        number, _, what = path.removeprefix("/jobs/").partition("/")
+        self.given.append((what, int(number), (body or {}).get("outcome")))
+        self.states[int(number)] = "Running" if what == "start" else "Finished"
+
+    def nudge(self, path: str) -> None:
+        self.given.append(path)
+
+
+def test_no_process_left(tmp_path: pathlib.Path, monkeypatch: pytest.MonkeyPatch) -> None:
+    """Without a process for it nothing is finished; one group after another is tried again. A dispatcher that
+    can't make a process, and a runner that doesn't come up."""
+    desk = DeskOfThree()
+    started = groups.subprocess.Popen
+    with contextlib.redirect_stdout(io.StringIO()):  # (what becomes of jobs)
+        dispatcher = Dispatcher(cast(Any, desk), tempfile.mkdtemp(dir=tmp_path), OPTIONS)
+        monkeypatch.setattr(groups.subprocess, "Popen", no_process)
+        try:
+            dispatcher.round(True)
+            told = dispatcher.starts.fault
+            dispatcher.round(True)
+            asked = list(desk.given)
+            monkeypatch.setattr(groups.subprocess, "Popen", lambda words, **more: started(["false"]))
+            tries = [tried(dispatcher) for _ in range(3)]
+        finally:
+            monkeypatch.setattr(groups.subprocess, "Popen", started)
+        assert "Resource temporarily unavailable" in told, "what it tells"
+        assert asked == ["/pass", ("start", 1, None)], "what it asks"
+        assert tries == [1, 2, 3], "which ones are tried, one after another"
+        time.sleep(1.1)
+        faults, until = [], time.monotonic() + 20
+        while "Running" in desk.states.values() and time.monotonic() < until:
+            dispatcher.round(True)
+            faults += [dispatcher.starts.fault] if "Finished" in desk.states.values() else []
+            time.sleep(0.1)
+    assert set(faults) == {""}, "what stands in the way once one has started"
+    ends = [it for it in desk.given if it[0] == "finish"]
+    assert sorted(ends) == [("finish", it, "Complete") for it in (1, 2, 3)], "how they end"
+
+
+def no_process(words: Any, **more: Any) -> None:
+    raise BlockingIOError(errno.EAGAIN, os.strerror(errno.EAGAIN))
+
+
+def tried(dispatcher: Dispatcher) -> int:
+    """Which group a dispatcher tries after its wait, with a runner that ends with status 1."""
+    time.sleep(1.1)
+    dispatcher.round(True)
+    time.sleep(0.3)
+    number = dispatcher.starts.tried
+    dispatcher.round(True)
+    return number
+
+
+# ---- time limits
+
+
+def test_time_limits(make_lab: MakeLab) -> None:
+    """A time limit ends a job by SIGTERM, SIGKILL after the grace; it is Incomplete, as told."""
+    lab = make_lab([(f"b{it}", "bbb", []) for it in range(1, 11)])
+    stubborn = f"trap : TERM; setsid {lab.sleep} 201 & {AT_IT}"
+    polite = f'trap "exit 0" TERM; {AT_IT}'
+    over = "farm-dispatch: the time limit of 3 seconds is over: SIGTERM\n"
+    by_default = "time limit of 4 seconds (the default), status 143"
+    # What each runs, its limit, how it ends, and what its log has.
+    rows = [
+        (lab.sleeps(202), 'job = "3 seconds"', "time limit of 3 seconds, status 143", over),
+        (stubborn, "job = { seconds = 3 }", "time limit of 3 seconds, signal 9", ": SIGKILL\n"),
+        (polite, "job.seconds = 3", "time limit of 3 seconds, status 0", over),
+        (lab.sleeps(203), "", by_default, "of 4 seconds (the default) is over: SIGTERM\n"),
+        (lab.sleeps(204), 'job = "3 days"', "time limit of 5 seconds, status 143", "is 3 days: "),
+        (lab.sleeps(205), 'job = "soon"', by_default, "timeouts.job can't be read: 'soon'"),
+    ]
+    numbers = [submitted(lab, run, limit) for run, limit, _, _ in rows]
+    quick = submitted(lab, "sleep 0.2", 'job = "5 seconds"')
+    two = f"""job_name = 'two'
+run = 'exec {lab.sleep} 206'
+[roles.a]
+device_type = 'bbb'
+count = 2
+[timeouts]
+job = {{ minutes = 0, seconds = 3 }}
+"""
+    first = lab.farm.tell("ann", "/jobs", two.encode())["number"]
+    dispatcher = lab.dispatch("--grace", "1", "--limit", "4", DISPATCH_MOST="5 seconds")
+    rows.append(("", "", "time limit of 3 seconds, status 143", over))
+    for number, (_, _, ended, line) in zip([*numbers, first], rows):
+        assert lab.finished(number) == "Incomplete", f"the result of {number}"
+        assert read(lab.file(number, "ended")).strip() == ended, f"how {number} ended"
+        assert line in read(lab.file(number, "log")), f"the log of {number}"
+        assert not os.path.exists(lab.file(number, "late")), f"that its runner ended {number}"
+    assert lab.finished(first + 1) == "Incomplete", "the group's second member"
+    assert lab.finished(quick) == "Complete", "one that ends in time"
+    assert read(lab.file(quick, "log")) == "", "its log"
+    assert lab.sleepers(201) == [], "what the stubborn one left"
+    lab.closes(dispatcher)
+
+
+def submitted(lab: Lab, run: str, timeout: str) -> int:
+    return lab.farm.submit(run, more=f"[timeouts]\n{timeout}\n" if timeout else "")
+
+
+def test_limits_of_checks(lab: Lab) -> None:
+    """A health check that hangs is ended by the default, and its board is Bad."""
+    lab.farm.tell("admin", "/types", {"name": "checked", "check": "jobs", "every": 20})
+    lab.farm.tell("admin", "/boards", {"name": "c1", "type": "checked"})
+    lab.farm.tell("admin", "/boards/c1/health", {"health": "Unknown"})
+    settings_file = os.path.join(lab.folder, "desk.ini")
+    with open(settings_file, "w", encoding="utf-8") as file:
+        file.write("[dispatch]\nlimit = 3 seconds\n")
+    dispatcher = lab.dispatch("--check", f"{lab.sleep} 207", "--config", settings_file)
+    assert lab.finished(check_of(lab, "c1")) == "Incomplete", "the check"
+    assert lab.farm.board("c1")["health"] == "Bad", "its board"
+    lab.closes(dispatcher)
+
+
+def check_of(lab: Lab, name: str) -> int:
+    """The number of the job that holds a board."""
+    return int(wait_until(f"{name} is held", lambda: lab.farm.board(name)["holder"][len("job ") :]))
+
+
+def test_limits_over_restarts(lab: Lab) -> None:
+    """A limit is measured from the job's begin, over dispatchers that are killed, and a runner that hangs."""
+    number = submitted(lab, lab.sleeps(208), 'job = "8 seconds"')
+    hung = submitted(lab, lab.sleeps(209), 'job = "1 minute"')
+    dispatcher = lab.dispatch("--grace", "1")
+    lab.begun(number)
+    time.sleep(4)
+    dispatcher.kill()
+    dispatcher = lab.dispatch("--grace", "1")
+    assert lab.finished(number) == "Incomplete", "the one that ran over a restart"
+    took = os.stat(lab.file(number, "ended")).st_mtime - os.stat(lab.file(number, "began")).st_mtime
+    assert 8 <= took + 0.1 < 12, f"that its limit began with the job ({took:.1f} s)"
+    lab.running(209)
+    dispatcher.kill()
+    os.kill(lab.runner(hung) or 0, signal.SIGSTOP)
+    began, limit = read(lab.file(hung, "began")).split()
+    assert float(limit) == 60.0, "the limit that is noted"
+    with open(lab.file(hung, "began"), "w", encoding="utf-8") as file:
+        file.write(f"{float(began) - 72} {limit}\n")
+    dispatcher = lab.dispatch("--grace", "1")
+    assert lab.finished(hung) == "Incomplete", "one that nothing looked after"
+    assert "time limit of 1 minute is long over" in read(lab.file(hung, "log")), "its log"
+    assert lab.sleepers(209) == [], "its process"
+    lab.closes(dispatcher)
+
+
+def test_times(tmp_path: pathlib.Path) -> None:
+    """Times are read as LAVA writes them and as texts, and what is none is told."""
+    right = [
+        ("15 minutes", 900), ("1 minute", 60), ("90 seconds", 90), ("1 hour 30 minutes", 5400),
+        ("1 hour, 30 minutes", 5400), ("2 days", 172800), ("1.5 hours", 5400),
+        ({"minutes": 15}, 900), ({"days": 1, "hours": 2, "minutes": 3, "seconds": 4}, 93784),
+    ]
+    for said, seconds in right:
+        assert limits.time_of(said) == seconds, f"the time {said!r}"
+    wrong = [
+        "", "soon", "15", "15 min", "minutes", "-1 minutes", "0 minutes", "15 minutes or so", 15,
+        True, {}, [], {"minutes": "15"}, {"minute": 15}, {"minutes": True}, {"minutes": -1},
+        {"seconds": 0}, {"seconds": float("nan")},
+    ]
+    for said in wrong:
+        with pytest.raises(limits.BadTime):
+            limits.time_of(said)
+    texts = [
+        ("", 3600, ""), ("job_name = 'x'", 3600, ""), ("[timeouts]\njob = '1 minute'", 60, ""),
+        ("[timeouts.job]\nminutes = 2", 120, ""), ("[timeouts]\naction = 3", 3600, "no 'job'"),
+        ("timeouts = 3", 3600, "no table"), ("[timeouts]\njob = 900", 3600, "900 has no unit"),
+        ("[timeouts]\njob = '2 days'", 86400, "2 days: the limit is 1 day"),
+        ("x = " + "[" * 60000, 3600, "can't be read"), ("= no TOML", 3600, "can't be read"),
+    ]
+    for text, seconds, remark in texts:
+        limit = limits.limit_of(text, 3600, 86400)
+        assert limit.seconds == seconds, f"the limit of {text[:40]!r}"
+        assert (len(limit.remarks) == 1) == bool(remark), f"the remarks of {text[:40]!r}"
+        assert remark in "".join(limit.remarks), f"what they say of {text[:40]!r}"
+    words = {90061: "1 day 1 hour", 3600: "1 hour", 61: "1 minute 1 second", 0.5: "0.5 seconds"}
+    for seconds, told in words.items():
+        assert limits.words_of(seconds) == told, f"{seconds} in words"
+
+
+# ---- settings and clocks
+
+
+def test_misspelt_settings(tmp_path: pathlib.Path) -> None:
+    """A setting that there isn't is told with what it may mean, and the status is 2."""
+    folder = tempfile.mkdtemp(dir=tmp_path)
+    file = os.path.join(folder, "desk.ini")
+    runs = [
+        ("[dispatch]\nserber = x\n", {}, "serber in [dispatch] is no setting: is server meant?"),
+        ("[dispach]\nserver = x\n", {}, "[dispach] is no section: is [dispatch] meant?"),
+        ("[dispatch]\npassword-file = x\n", {}, "is password_file meant?"),
+        ("[desk]\nserver = x\n", {"DISPATCH_SEVER": "x"},
+         "DISPATCH_SEVER in the environment is no setting: is DISPATCH_SERVER meant?"),
+        ("", {"DISPATCH_QQ": ""}, "there are DISPATCH_SERVER, DISPATCH_USER"),
+    ]
+    for text, around, wanted in runs:
+        with open(file, "w", encoding="utf-8") as settings_file:
+            settings_file.write(text)
+        own = tempfile.mkdtemp(dir=tmp_path)
+        tool = Tool(["farm-dispatch", "--folder", own, "--config", file, "true"], own, **around)
+        assert tool.ends() == 2, f"the status after {wanted}"
+        assert wanted in tool.errors(), f"what is told: {wanted}"
+    with open(file, "w", encoding="utf-8") as settings_file:
+        settings_file.write("[desk]\nusr = ann\n[dispatch]\nserver = http://127.0.0.1:1\n")
+    for words, around, wanted in (
+        (["desk", "--config", file, "boards"], {}, "usr in [desk] is no setting: is user meant?"),
+        (["desk", "boards"], {"DESK_USR": "ann"}, "is DESK_USER meant?"),
+    ):
+        own = tempfile.mkdtemp(dir=tmp_path)
+        tool = Tool(words, own, **around)
+        assert tool.ends() == 2, f"the status of {words}"
+        assert wanted in tool.errors(), f"what it tells: {wanted}"
+    bad = {"limit": "soon", "most": "0", "retry": "1 min", "clock": "maybe", "keep_logs": "ever"}
+    for name, text in bad.items():
+        own, option = tempfile.mkdtemp(dir=tmp_path), f"--{name.replace('_', '-')}"
+        tool = Tool(["farm-dispatch", "--folder", own, option, text, "true"], own)
+        assert tool.ends() == 4, f"the status of --{name} {text}"
+        assert f"{name}: '{text}'" in tool.errors(), f"what is told of --{name}"
+
+
+def test_first_line(lab: Lab) -> None:
+    """Its first line tells how often it passes, where, and where the jobs are."""
+    dispatcher = lab.dispatch(every="0.5")
+    wait_until("it tells how often it passes", lambda: dispatcher.output())
+    told = f"passes every 0.5 s at {lab.farm.server}, jobs in {os.path.realpath(lab.place)}"
+    assert dispatcher.output().split("\n")[0] == told, "its first line"
+    lab.closes(dispatcher)
+
+
+def test_farm_ahead(lab: Lab) -> None:
+    """A farm's clock that is ahead is told once, and again after an hour. One import with a moment three days
+    ahead."""
+    lab.farm.kill()
+    lab_file = os.path.join(lab.folder, "lab.toml")
+    with open(lab_file, "w", encoding="utf-8") as file:
+        file.write("[types.ddd]\n")
+    at = str(int(time.time()) + 3 * 86400 + 60)
+    words = [lab.farm.program, "import", "--db", lab.farm.db, "--at", at, lab_file]
+    subprocess.run(words, check=True, stdout=subprocess.DEVNULL)
+    lab.farm.start()
+    dispatcher = lab.dispatch()
+    told = "the farm's clock is 3 days ahead of this machine's: leases won't end until then"
+    wait_until("it is told", lambda: told in dispatcher.errors())
+    assert lab.finished(lab.farm.submit("true")) == "Complete", "a job"
+    assert dispatcher.errors().count("ahead of this machine's") == 1, "how often it is told"
+    lab.closes(dispatcher)
+    clocks = Clocks(cast(Any, DeskAhead()), lab.folder, False)
+    said = [warned(clocks, minutes) for minutes in (0, 2, 59, 61, 63, 119, 122)]
+    assert said == [True, False, False, True, False, False, True], "when it is told"
+    DeskAhead.ahead = 5
+    assert not warned(clocks, 200), "a clock that is a little ahead"
+
+
+class DeskAhead:
+    ahead = 86400 + 30
+
+    def look(self, path: str) -> Dict[str, int]:
+        assert path == "/status", "what is looked at"
+        return {"clock": int(time.time()) + DeskAhead.ahead}
+
+
+def warned(clocks: Clocks, minutes: int) -> bool:
+    """Whether a warning comes so many minutes after the beginning."""
+    begin = time.monotonic()
+    with pytest.MonkeyPatch.context() as patch:
+        later = argparse.Namespace(monotonic=lambda: begin + 60 * minutes, time=time.time)
+        patch.setattr(clocks_module, "time", later)
+        return "1 day ahead" in clocks.warning()
+
+
+def test_clock_not_set(lab: Lab) -> None:
+    """Nothing is asked before the clock is set, where that can be told; --clock any asks. A machine whose time
+    service runs and hasn't set the clock, as `timedatectl` says."""
+    said = os.path.join(lab.folder, "said")
+    replace(os.path.join(lab.folder, "timedatectl"), f"#!/bin/sh\ncat {said}\n")
+    own = {"PATH": f"{lab.folder}:{os.environ['PATH']}"}
+    tell(said, "NTP=yes\nNTPSynchronized=no\n")
+    number = lab.farm.submit("true")
+    count = lab.farm.look("/status")["count"]
+    dispatcher = lab.dispatch(**own)
+    wait_until("it is told", lambda: "hasn't set the clock yet" in dispatcher.errors())
+    time.sleep(1)
+    assert lab.farm.look("/status")["count"] == count, "what was asked of the desk"
+    tell(said, "NTP=yes\nNTPSynchronized=yes\n")
+    assert lab.finished(number) == "Complete", "a job, once it is set"
+    tell(said, "NTP=yes\nNTPSynchronized=no\n")
+    assert lab.finished(lab.farm.submit("true")) == "Complete", "one after its servers were lost"
+    dispatcher.send(signal.SIGTERM)
+    assert dispatcher.ends() == 0, "its status"
+    dispatcher = lab.dispatch(**own)
+    assert lab.finished(lab.farm.submit("true")) == "Complete", "one of the next dispatcher"
+    dispatcher.send(signal.SIGTERM)
+    dispatcher.ends()
+    for words, answer in (
+        (["--clock", "any"], "NTP=yes\nNTPSynchronized=no\n"),
+        ([], "NTP=no\nNTPSynchronized=no\n"),
+        ([], "Failed to connect to bus\n"),
+    ):
+        tell(said, answer)
+        forget(os.path.join(lab.place, "synchronized"))
+        dispatcher = lab.dispatch(*words, **own)
+        assert lab.finished(lab.farm.submit("true")) == "Complete", f"a job with {answer!r}"
+        dispatcher.send(signal.SIGTERM)
+        assert dispatcher.ends() == 0, "its status"
+    lab.farm.kill()
+
+
+def tell(file: str, text: str) -> None:
+    with open(file, "w", encoding="utf-8") as opened:
+        opened.write(text)
+
+
+def forget(file: str) -> None:
+    if os.path.exists(file):
+        os.unlink(file)
+
+
+def test_unit(tmp_path: pathlib.Path) -> None:
+    """Systemd finds no fault with the unit, which never gives up, but at 2 and 3. What systemd says of the unit,
+    which then names programs that are there."""
+    with open(os.path.join(TOP, "examples", "farm-dispatch.service"), encoding="utf-8") as file:
+        text = file.read()
+    lines = [it for it in text.split("\n") if it and not it.startswith("#")]
+    wanted = ["StartLimitIntervalSec=0", "KillMode=process", "OOMPolicy=continue",
+              "Restart=always", "RestartPreventExitStatus=2 3", "Delegate=yes"]
+    assert [it for it in wanted if it not in lines] == [], "lines that the unit lacks"
+    wants("systemd-analyze")
+    folder = tempfile.mkdtemp(dir=tmp_path)
+    for name in ("farm", "farm-dispatch"):
+        with open(os.path.join(TOP, "examples", f"{name}.service"), encoding="utf-8") as file:
+            tell(os.path.join(folder, f"{name}.service"),
+                 file.read().replace("/usr/local/bin/", "/bin/true "))
+    words = ["systemd-analyze", "verify", os.path.join(folder, "farm-dispatch.service")]
+    ran = subprocess.run(words, capture_output=True, text=True, check=False)
+    assert (ran.returncode, ran.stderr) == (0, ""), "what systemd says of the unit"

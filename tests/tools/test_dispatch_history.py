@@ -1,0 +1,426 @@
+"""The history that farm-dispatch keeps: a line a job over any kill, a line a change of health, the newest lines,
+and the logs that a proxy serves."""
+from __future__ import annotations
+
+import json
+import os
+import pathlib
+import random
+import signal
+import subprocess
+import sys
+import tempfile
+import time
+from typing import Any, Callable, Dict, Iterator, List, Optional, Set, Tuple, cast
+
+import pytest
+from dispatch_lab import BOARDS, Lab, end_commands, jobs_of, lines_of, one_line_each
+from farm_tools import submissions
+from served import STARTED, TOOLS, Farm, environment, read, wait_until
+
+# Of kills while folders are made so many, and of those at an end one in so many; more with FARM_KILLS=all.
+KILLS = (8, 1) if os.environ.get("FARM_KILLS") == "all" else (3, 2)
+
+
+@pytest.fixture
+def make_lab(program: str, tmp_path: pathlib.Path) -> Iterator[Callable[..., Lab]]:
+    yield lambda boards=BOARDS: Lab(program, tempfile.mkdtemp(dir=tmp_path), boards)
+    end_commands(str(tmp_path))
+
+
+@pytest.fixture
+def lab(make_lab: Callable[..., Lab]) -> Lab:
+    return make_lab()
+
+
+# A dispatcher that kills itself at one of the places at which it writes, renames or gives a
+# command, counted from its start on, from its first `finish`, or from its first line of the
+# history; of what it was to write there, half is written.
+DIES = """\
+import os, signal, sys
+sys.path.insert(0, sys.argv.pop(1))
+phase, left = sys.argv.pop(1), int(sys.argv.pop(1))
+def begins(call, words):
+    if phase == "finish":
+        return call.__name__ == "tell" and words[1].endswith("/finish")
+    return phase == "start" or call.__name__ == "write" and words[1][:7] == b'{"kind"'
+def dying(call):
+    def called(*words, **more):
+        global phase, left
+        if begins(call, words):
+            phase = "start"
+        left -= phase == "start"
+        if left == 0:
+            if call.__name__ == "write":
+                call(words[0], words[1][:len(words[1]) // 2])
+            os.kill(os.getpid(), signal.SIGKILL)
+        return call(*words, **more)
+    return called
+for name in ("write", "fsync", "replace", "rename", "link", "mkdir", "ftruncate", "unlink"):
+    setattr(os, name, dying(getattr(os, name)))
+from farm_tools import calls, dispatch
+for name in ("tell", "nudge"):
+    setattr(calls.Desk, name, dying(getattr(calls.Desk, name)))
+sys.exit(dispatch.main())
+"""
+JOB_FIELDS = [
+    "kind", "job", "group", "owner", "boards", "type", "name", "submitted", "began", "ended",
+    "outcome", "reason",
+]
+
+
+def healths_of(lab: Lab) -> List[Dict[str, Any]]:
+    return [it for it in lines_of(lab) if it["kind"] == "health"]
+
+
+def newest_of(lab: Lab) -> Any:
+    return json.loads(read(os.path.join(lab.place, "history.json")))
+
+
+def are_newest(lab: Lab, kind: str, rows: List[Dict[str, Any]]) -> None:
+    """Waits until these lines are told as the newest, the last of them first."""
+    wait_until(f"the newest {kind}", lambda: newest_of(lab)[kind] == rows[::-1])
+
+
+def dies_at(lab: Lab, phase: str, place: int) -> List[int]:
+    """Runs a dispatcher that kills itself at a place, or is killed where it has done all before.
+    Returns the jobs that it was given: one, and a group of two."""
+    words = [
+        sys.executable, "-c", DIES, TOOLS, phase, str(place), "--server", lab.farm.server,
+        "--folder", lab.place, "--every", "0.1", lab.command,
+    ]
+    process = subprocess.Popen(
+        words, stdout=subprocess.DEVNULL, stderr=subprocess.PIPE, env=environment(RUNS=lab.runs)
+    )
+    STARTED.append(process)
+    numbers = [lab.farm.submit("true"), *lab.two()]
+    wait_until(
+        f"it is dead or done, {phase} {place}",
+        lambda: process.poll() is not None or are_done(lab, numbers),
+    )
+    process.kill()
+    assert process.communicate()[1] == b"", f"what it tells, {phase} {place}"
+    return numbers
+
+
+def are_done(lab: Lab, numbers: List[int]) -> bool:
+    """Whether nothing is left to be done for these jobs."""
+    states = {lab.farm.job(it)["state"] for it in numbers}
+    marks = [os.path.exists(lab.file(it, "finished")) for it in numbers[:2]]
+    return states == {"Finished"} and all(marks)
+
+
+def test_a_line_over_any_kill(lab: Lab) -> None:
+    """Over {len(places)} kills, {between} of them between a job's end and its mark, each of {len(numbers)} jobs
+    has one line. Kills at places at which a dispatcher writes something or gives a command: some while it makes
+    the jobs' folders, and from the first end of a job on every second one by chance, or each one with --full."""
+    seed = random.randrange(10**6)
+    dice, about = random.Random(seed), f"(seed {seed})"
+    places = [("start", it) for it in dice.sample(range(1, 40), KILLS[0])]
+    ends = [("finish", it) for it in range(1, 22)], [("line", it) for it in range(1, 11)]
+    for them in ends:
+        places += dice.sample(them, max(1, len(them) // KILLS[1]))
+    dice.shuffle(places)
+    numbers, between = [], 0
+    for phase, place in places:
+        numbers += dies_at(lab, phase, place)
+        between += bool(unmarked(lab, numbers))
+    assert between >= 3, f"kills between a job's end and its mark, at least three {about}"
+    dispatcher = lab.dispatch(every="0.1")
+    for number in numbers:
+        assert lab.finished(number) == "Complete", f"job {number} {about}"
+    one_line_each(lab, numbers, about)
+    groups = {lab.farm.job(it)["group"] for it in numbers}
+    assert [it for it in groups if lab.begins(it) != 1] == [], f"jobs not begun once {about}"
+    lab.closes(dispatcher)
+
+
+def unmarked(lab: Lab, numbers: List[int]) -> List[int]:
+    """Those of these jobs that the desk has finished, and the dispatcher hasn't marked so."""
+    views = [lab.farm.job(it) for it in numbers]
+    ended = {it["group"] for it in views if it["state"] == "Finished"}
+    return [it for it in ended if not os.path.exists(lab.file(it, "finished"))]
+
+
+def test_what_a_line_says(lab: Lab) -> None:
+    """A line says whose a job was, on which board, when, how it ended and why."""
+    before = int(time.time())
+    dispatcher = lab.dispatch()
+    ends = {
+        "true": ("Complete", ""),
+        "exit 3": ("Incomplete", "status 3"),
+        "exit 75": ("Infra", "status 75"),
+        "kill -9 $PPID": ("Infra", "signal 9"),
+    }
+    numbers = {lab.farm.submit(run): run for run in ends}
+    canceled = lab.farm.submit(lab.sleeps(100))
+    lab.begun(canceled)
+    lab.farm.tell("ann", f"/jobs/{canceled}/cancel")
+    pair = lab.two()
+    one_line_each(lab, [*numbers, canceled, *pair])
+    rows = {it["job"]: it for it in jobs_of(lab)}
+    for number, run in numbers.items():
+        row = rows[number]
+        assert list(row) == JOB_FIELDS, f"the fields of {run}"
+        assert (row["outcome"], row["reason"]) == ends[run], f"how {run} ended"
+        assert row["name"] == "test", f"the name of {run}"
+        times = [before, row["began"], row["ended"], int(time.time())]
+        assert times == sorted(times), f"the moments of {run}, {times}"
+    assert rows[canceled]["outcome"] == "Canceled", "the canceled one"
+    assert [rows[it]["group"] for it in pair] == [pair[0]] * 2, "the group of two"
+    late = lab.farm.submit("sleep 0.5")
+    wait_until("its line", lambda: [it for it in jobs_of(lab) if it["job"] == late])
+    row = jobs_of(lab)[-1]
+    assert before <= row["submitted"] <= row["began"], "when it was submitted"
+    are_newest(lab, "jobs", jobs_of(lab))
+    assert before <= newest_of(lab)["at"] <= time.time(), "its moment"
+    for name in ("history.jsonl", "history.json"):
+        mode = os.stat(os.path.join(lab.place, name)).st_mode & 0o777
+        assert mode == 0o644, f"who may read {name}"
+    lab.closes(dispatcher)
+
+
+def test_torn_lines(lab: Lab) -> None:
+    """A torn last line is cut off or ended; the newest 200 lines are told of more. What a stop, or another hand,
+    leaves at the history's end."""
+    file = os.path.join(lab.place, "history.jsonl")
+    os.makedirs(lab.place)
+    whole = {**dict.fromkeys(JOB_FIELDS), "kind": "job", "job": 900, "boards": [], "began": 5,
+             "owner": "zoe", "name": "old", "outcome": "Complete", "reason": ""}
+    rows = [{**whole, "job": 700 + place} for place in range(250)]
+    text = "".join(f"{json.dumps(it)}\n" for it in rows)
+    for tail, stays in ((json.dumps(whole)[:40], 0), (json.dumps(whole), 1), ("{" * 70_000, 0)):
+        with open(file, "w", encoding="utf-8") as history:
+            history.write(text + tail)
+        dispatcher = lab.dispatch()
+        number = lab.farm.submit("true")
+        assert lab.finished(number) == "Complete", "a job"
+        mark = lab.file(number, "finished")
+        wait_until("all is done", lambda it=mark: os.path.exists(it))
+        found = [it["job"] for it in jobs_of(lab)[len(rows) :]]
+        assert found == [900] * stays + [number], f"the lines behind {tail[:20]!r}"
+        assert jobs_of(lab)[: len(rows)] == rows, "the lines before"
+        are_newest(lab, "jobs", jobs_of(lab)[-200:])
+        dispatcher.send(signal.SIGTERM)
+        dispatcher.ends()
+        assert read(file).endswith('"reason":""}\n'), "the history's end"
+    lab.farm.kill()
+
+
+def test_changes_of_health(lab: Lab) -> None:
+    """Each change of a board's health is told once, with the job that made it."""
+    lab.farm.tell("admin", "/types", {"name": "checked", "check": "jobs", "every": 20})
+    for name in ("c1", "c2"):
+        lab.farm.tell("admin", "/boards", {"name": name, "type": "checked"})
+    check = "sh -c 'test $FARM_BOARD = c1'"
+    dispatcher = lab.dispatch("--check", check)
+    wait_until("the first look", lambda: os.path.exists(os.path.join(lab.place, "healths.json")))
+    assert healths_of(lab) == [], "lines before there is a change"
+    for name in ("c1", "c2"):
+        lab.farm.tell("admin", f"/boards/{name}/health", {"health": "Unknown"})
+    wait_until("c1 is Good", lambda: last_of(lab, "c1") == "Good")
+    wait_until("c2 is Bad", lambda: last_of(lab, "c2") == "Bad")
+    number = lab.farm.submit("exit 75")
+    board = wait_until("its board", lambda: lab.farm.job(number)["board"])
+    wait_until(f"{board} is Unknown", lambda: last_of(lab, board) == "Unknown")
+    reasons = [(it["board"], it["to"], it["reason"]) for it in healths_of(lab)]
+    checks = {it["boards"][0]: it for it in jobs_of(lab) if it["name"] == "health check"}
+    assert [it["owner"] for it in checks.values()] == ["admin"] * 2, "the checks' owners"
+    assert [it["submitted"] for it in checks.values()] == [None] * 2, "when checks were submitted"
+    wanted = [
+        ("c1", "Good", f"health check {checks['c1']['job']} ended Complete"),
+        ("c2", "Bad", f"health check {checks['c2']['job']} ended Incomplete"),
+        (board, "Unknown", f"job {number} ended Infra"),
+    ]
+    assert [it for it in wanted if it not in reasons] == [], "changes that aren't told"
+    # those that come while no dispatcher runs, and the same board again
+    dispatcher.kill()
+    lab.farm.tell("admin", f"/boards/{board}/health", {"health": "Maintenance"})
+    count = len(healths_of(lab))
+    dispatcher = lab.dispatch("--check", check)
+    wait_until("the change is told", lambda: last_of(lab, board) == "Maintenance")
+    dispatcher.kill()
+    dispatcher = lab.dispatch("--check", check)
+    lab.farm.tell("admin", f"/boards/{board}/health", {"health": "Good"})
+    wait_until("the next is told", lambda: last_of(lab, board) == "Good")
+    rows = healths_of(lab)[count:]
+    found = [(it["board"], it["from"], it["to"], it["reason"]) for it in rows]
+    by_admin = "by the admin"
+    assert found == [(board, "Unknown", "Maintenance", by_admin), (board, "Maintenance", "Good", by_admin)], (
+        "what the admin did"
+    )
+    are_newest(lab, "boards", healths_of(lab))
+    lab.closes(dispatcher)
+
+
+def last_of(lab: Lab, board: str) -> str:
+    """The health that the last line of a board tells, or nothing."""
+    return ([it["to"] for it in healths_of(lab) if it["board"] == board] or [""])[-1]
+
+
+def test_room_and_other_farms(lab: Lab) -> None:
+    """A line that can't be written is written later, also beside another farm's same number. A history that can't
+    be written for a while, and one that has another farm's job of the same number."""
+    file = os.path.join(lab.place, "history.jsonl")
+    dispatcher = lab.dispatch()
+    wait_until("it runs", dispatcher.output)
+    os.unlink(file)
+    os.mkdir(file)
+    number = lab.farm.submit("true")
+    assert lab.finished(number) == "Complete", "the job"
+    wait_until("it is told", lambda: f"job {number}: [Errno 21] " in dispatcher.output())
+    assert lab.finished(lab.farm.submit("true")) == "Complete", "a job beside"
+    dispatcher.kill()
+    os.rmdir(file)
+    earlier = {**dict.fromkeys(JOB_FIELDS), "kind": "job", "job": number, "boards": ["b1"],
+               "began": 1_000, "owner": "zoe", "name": "old", "outcome": "Infra", "reason": ""}
+    with open(file, "w", encoding="utf-8") as history:
+        history.write(f"{json.dumps(earlier)}\n")
+    dispatcher = lab.dispatch()
+    wait_until("their lines", lambda: len(jobs_of(lab)) >= 3)
+    assert [it["owner"] for it in jobs_of(lab)] == ["zoe", "ann", "ann"], "their owners"
+    assert lab.finished(lab.farm.submit("true")) == "Complete", "a job after"
+    wait_until("its line", lambda: len(jobs_of(lab)) == 4)
+    lab.closes(dispatcher)
+
+
+class Clock:
+    """A clock that stands until it is set."""
+
+    def __init__(self) -> None:
+        self.now = 1_000_000
+
+    def time(self) -> int:
+        return self.now
+
+
+def test_moments_of_submission(lab: Lab) -> None:
+    """When a job was submitted is known where the desk was looked at before and after. What looks at the number
+    that is given next tell, over restarts and another farm."""
+    lab.farm.kill()
+    os.makedirs(lab.place)
+    clock = Clock()
+    real, submissions.time = submissions.time, cast(Any, clock)
+    try:
+        seen = submissions.Submissions(lab.place)
+        look_at(seen, clock, [(0, 5), (5, 5), (10, 8), (110, 9)])
+        assert moments(seen, 9) == [None] * 4 + [1_000_010] * 3 + [None] * 2, "what it knows"
+        with open(os.path.join(lab.place, "numbers"), "a", encoding="ascii") as file:
+            file.write("12 100")
+        seen = submissions.Submissions(lab.place)
+        look_at(seen, clock, [(120, 9), (125, 10), (170, 11)])
+        wanted = [1_000_010, None, 1_000_125, 1_000_170, None]
+        assert moments(seen, 11)[6:] == wanted, "over a restart"
+        look_at(seen, clock, [(175, 2), (180, 7)])
+        assert moments(seen, 7) == [None] + [1_000_180] * 5 + [None], "of another farm"
+        look_at(seen, clock, [(181 + it, 8 + it) for it in range(submissions.MOST)])
+        with open(os.path.join(lab.place, "numbers"), encoding="ascii") as file:
+            assert len(file.readlines()) <= submissions.MOST, "looks that are kept"
+        assert moments(seen, 7 + submissions.MOST)[-2] == 1_000_180 + submissions.MOST, "the last"
+    finally:
+        submissions.time = real
+
+
+def look_at(seen: submissions.Submissions, clock: Clock, looks: List[Tuple[int, int]]) -> None:
+    """Looks at these moments, which find these numbers to be given next."""
+    for after, following in looks:
+        clock.now = 1_000_000 + after
+        seen.note(following)
+
+
+def moments(seen: submissions.Submissions, last: int) -> List[Optional[int]]:
+    """When each number was given, from 1 on."""
+    return [seen.moment_of(it) for it in range(1, last + 1)]
+
+
+def test_folders_that_lack_it(lab: Lab) -> None:
+    """A job whose folder was lost, or made by an earlier version, has its line. Jobs whose folder is gone, or was
+    made by a version that kept no history; and one that somebody else finished."""
+    gone, old, others = (lab.farm.submit(lab.until("open")) for _ in range(3))
+    dispatcher = lab.dispatch()
+    for number in (gone, old, others):
+        lab.begun(number)
+    dispatcher.kill()
+    os.kill(lab.runner(gone), signal.SIGKILL)
+    os.rename(os.path.dirname(lab.file(gone, "log")), os.path.join(lab.folder, "gone"))
+    os.unlink(lab.file(old, "about.json"))
+    lab.farm.tell("admin", f"/jobs/{others}/finish", {"outcome": "Complete"})
+    lab.let("open")
+    dispatcher = lab.dispatch("--grace", "1")
+    one_line_each(lab, [gone, old, others])
+    rows = {it["job"]: (it["outcome"], it["reason"], it["name"]) for it in jobs_of(lab)}
+    assert rows[gone] == ("Infra", "lost, with its folder", "test"), "the lost one"
+    assert rows[old] == ("Complete", "", "test"), "the old one"
+    assert rows[others][0] == "Complete", "the other's"
+    lab.closes(dispatcher)
+
+
+def test_served_logs(lab: Lab) -> None:
+    """Each job's log has its number in logs/, until it is old and the job has ended."""
+    dispatcher = lab.dispatch("--keep-logs", "1 hour")
+    one = lab.farm.submit("echo said; echo told >&2")
+    pair = lab.two()
+    running = lab.farm.submit(f"echo begun; {lab.until('open')}")
+    for number in (one, *pair):
+        assert lab.finished(number) == "Complete", f"job {number}"
+    assert read(log_of(lab, one)) == "said\ntold\n", "a job's log"
+    assert [read(log_of(lab, it)) for it in pair] == ["", ""], "that of each of two"
+    assert logs_in(lab) == {str(it) for it in (one, *pair, running)}, "those that are there"
+    wait_until("one that goes on", lambda: read(log_of(lab, running)) == "begun\n")
+    assert os.stat(log_of(lab, one)).st_mode & 0o777 == 0o644, "who may read it"
+    assert os.stat(os.path.join(lab.place, "logs")).st_mode & 0o777 == 0o711, "who may list them"
+    wait_until("it is known to have ended", lambda: os.path.exists(lab.file(one, "finished")))
+    dispatcher.kill()
+    for number in (one, running):
+        os.utime(log_of(lab, number), (time.time() - 3700,) * 2)
+    dispatcher = lab.dispatch("--keep-logs", "1 hour")
+    left = {str(it) for it in (*pair, running)}
+    wait_until("old logs are gone", lambda: logs_in(lab) == left)
+    assert read(lab.file(one, "log")) == "said\ntold\n", "the log in the job's folder"
+    lab.let("open")
+    assert lab.finished(running) == "Complete", "the one that went on"
+    lab.closes(dispatcher)
+
+
+def test_cut_off(lab: Lab) -> None:
+    """What a kill left half made is gone. What a kill left of a job that was canceled then."""
+    os.makedirs(os.path.join(lab.place, "jobs", "new-7"))
+    os.makedirs(os.path.join(lab.place, "logs"))
+    for file in (os.path.join("jobs", "new-7", "job.toml"), os.path.join("logs", "7.new")):
+        with open(os.path.join(lab.place, file), "w", encoding="utf-8"):
+            pass
+    dispatcher = lab.dispatch()
+    assert lab.finished(lab.farm.submit("true")) == "Complete", "a job"
+    assert (os.listdir(os.path.join(lab.place, "jobs")), logs_in(lab)) == (["1"], {"1"}), "what is left"
+    lab.closes(dispatcher)
+
+
+def test_another_farm(lab: Lab) -> None:
+    """Another farm's jobs have their own lines and logs under the numbers of the one before. The next farm gives
+    the numbers of the one before again, on the same dispatcher's folder."""
+    dispatcher = lab.dispatch()
+    first, second = lab.farm.submit("echo old"), lab.farm.submit("echo old")
+    for number in (first, second):
+        assert lab.finished(number) == "Complete", f"job {number}"
+    one_line_each(lab, [first, second])
+    before = jobs_of(lab)
+    lab.closes(dispatcher)
+    lab.farm = Farm(lab.farm.program, tempfile.mkdtemp(dir=lab.folder), [("b1", "bbb", [])])
+    lab.farm.tell("admin", "/boards/b1/health", {"health": "Maintenance"})
+    assert lab.farm.submit("echo new") == first, "the next farm's first number"
+    dispatcher = lab.dispatch()
+    wait_until("the log of a number that is still to come is gone", lambda: logs_in(lab) == {"1"})
+    lab.farm.tell("admin", "/boards/b1/health", {"health": "Good"})
+    assert lab.finished(first) == "Complete", "its job"
+    wait_until("its line", lambda: len(jobs_of(lab)) == 3)
+    assert jobs_of(lab)[:2] == before, "the lines before"
+    assert read(log_of(lab, first)) == "new\n", "its log"
+    lab.closes(dispatcher)
+
+
+def log_of(lab: Lab, number: int) -> str:
+    return os.path.join(lab.place, "logs", str(number))
+
+
+def logs_in(lab: Lab) -> Set[str]:
+    return set(os.listdir(os.path.join(lab.place, "logs")))

@@ -1,0 +1,633 @@
+"""The Python package fizgruk over a served farm: as pip installs it, its types by mypy, each view and
+command, kept connections and lost answers, boards that are held by a `with` and given back whatever
+happens."""
+from __future__ import annotations
+
+import http.client
+import json
+import os
+import pathlib
+import re
+import shutil
+import signal
+import subprocess
+import sys
+import threading
+import time
+from typing import Any, Callable, Dict, List, Tuple, Type, cast
+
+import pytest
+
+import fizgruk
+from farm_tools import settings as command_settings
+from farm_tools.version import VERSION
+from fizgruk import holding, settings, waiting
+from nginx_site import Site
+from python_front import BOARDS, JOB, PATH, SOURCES, SRC, Front, Passer, client_of, rows, states
+from served import STARTED, TOP, Farm, environment, read, wait_until
+from wants import wants, wants_python_with
+
+MakeFarm = Callable[..., Farm]
+USED = """\
+from fizgruk import Board, Client, JobView
+def first(client: Client) -> JobView:
+    with client.board("hdmi", power="pdu2", timeout=300) as board:
+        held: Board = board
+        print(held.name, board.reservation + 1)
+    return client.wait_for_job(client.submit("x"))[0]
+client = Client()
+client.set_health("b1", "good")  # type: ignore[arg-type]
+print(client.job(1).state == "Running", client.boards()[0].tags[0].upper())
+"""
+
+
+@pytest.fixture(autouse=True)
+def no_settings(monkeypatch: pytest.MonkeyPatch) -> None:
+    """The tests' own process has no settings, and no home that has some."""
+    for name in [it for it in os.environ if it.startswith("DESK_")]:
+        monkeypatch.delenv(name)
+    for name in ("HOME", "XDG_CONFIG_HOME"):
+        monkeypatch.setenv(name, "/nonexistent")
+
+
+@pytest.fixture
+def farm(make_farm: MakeFarm) -> Farm:
+    """A farm of three boards, of which b1 alone has hdmi."""
+    return make_farm(BOARDS)
+
+
+@pytest.fixture
+def front(farm: Farm) -> Front:
+    """A server that keeps connections, in front of that farm."""
+    return Front(farm)
+
+
+# ---- the package by itself
+
+
+@pytest.mark.slow(15)
+def test_pip_installs_it(folder: str) -> None:
+    """pip installs the package from its folder, with its types, and pytest finds its plugin."""
+    python = wants_python_with("pip", "setuptools", "wheel")
+    copied, to = os.path.join(folder, "python"), os.path.join(folder, "installed")
+    left = shutil.ignore_patterns("__pycache__", "build", "*.egg-info", ".mypy_cache")
+    shutil.copytree(SOURCES, copied, ignore=left)
+    words = ["-m", "pip", "install", "-q", "--no-build-isolation", "--no-index", "--no-deps", "--target", to, copied]
+    subprocess.run([python, *words], check=True, env={**os.environ, "PIP_DISABLE_PIP_VERSION_CHECK": "1"})
+    told = "import fizgruk; print(fizgruk.__version__)"
+    told += "; import importlib.metadata as it; print(it.version('fizgruk'))"
+    around = environment(PYTHONPATH=to)
+    ran = subprocess.run([python, "-c", told], capture_output=True, text=True, check=True, env=around)
+    assert ran.stdout == f"{VERSION}\n{VERSION}\n"
+    files = {it for it in os.listdir(f"{to}/fizgruk") if it != "__pycache__"}
+    assert files == {it for it in os.listdir(f"{SRC}/fizgruk") if it != "__pycache__"}
+    assert "py.typed" in files
+    words = [sys.executable, "-m", "pytest", "--help"]
+    ran = subprocess.run(words, capture_output=True, text=True, check=True, env=around, cwd=folder)
+    assert "\n  --farm=TAGS" in ran.stdout
+
+
+@pytest.mark.slow(20)
+@pytest.mark.parametrize("version", ["3.9", "3.11"])
+def test_types(version: str, folder: str) -> None:
+    """A program that uses the package is typed by it, for the oldest Python that it takes too."""
+    wants("mypy")
+    used = os.path.join(folder, "used.py")
+    with open(used, "w", encoding="utf-8") as text:
+        text.write(USED)
+    ran = subprocess.run(
+        ["mypy", "--strict", "--python-version", version, "--cache-dir", os.path.join(folder, "types"), used],
+        cwd=folder, capture_output=True, text=True, check=False, env={**os.environ, "MYPYPATH": SRC},
+    )
+    assert ran.returncode == 0, ran.stdout
+
+
+def test_codes() -> None:
+    """Its codes are those of docs/API.md."""
+    page = read(os.path.join(TOP, "docs", "API.md"))
+    told = re.findall(r"^\| (\d+) \| \d+ \| ([a-z ]+) \|", page, re.MULTILINE)
+    wanted = {int(code): text.upper().replace(" ", "_") for code, text in told}
+    assert {it.value: it.name for it in fizgruk.Code} == wanted
+
+
+# ---- settings, as docs/TOOLS.md says it of `desk`
+
+
+@pytest.fixture
+def home(tmp_path: pathlib.Path, monkeypatch: pytest.MonkeyPatch) -> pathlib.Path:
+    """A home of the user's, whose desk.ini names a server and a user, and has settings of the command's own."""
+    monkeypatch.setenv("HOME", str(tmp_path))
+    monkeypatch.delenv("XDG_CONFIG_HOME")
+    monkeypatch.setattr(settings, "SYSTEM_FILE", str(tmp_path / "system.ini"))
+    own = tmp_path / ".config" / "farm"
+    own.mkdir(parents=True)
+    (own / "desk.ini").write_text("[desk]\nserver = http://h:1\nuser = bob\nhistory = /h\n[dispatch]\nmost = 1\n")
+    return tmp_path
+
+
+def read_with(**given: str) -> Tuple[str, str]:
+    """The server and the user by what is given."""
+    found = settings.read_settings(given)
+    return found.server, found.user
+
+
+@pytest.mark.usefixtures("home")
+def test_order_of_settings(monkeypatch: pytest.MonkeyPatch) -> None:
+    """What is given goes before the environment, and the file comes last."""
+    assert read_with() == ("http://h:1", "bob")
+    monkeypatch.setenv("DESK_SERVER", "http://g:2")
+    monkeypatch.setenv("DESK_HISTORY", "/h")
+    assert read_with() == ("http://g:2", "bob")
+    assert read_with(server="http://f:3", user="cat") == ("http://f:3", "cat")
+
+
+def test_known_settings() -> None:
+    """They are those of the command, and those that it has besides are known."""
+    assert (*settings.WORDS, *settings.OF_COMMAND) == command_settings.SECTIONS["desk"]
+
+
+@pytest.mark.usefixtures("home")
+def test_misspelt_setting(monkeypatch: pytest.MonkeyPatch) -> None:
+    """A misspelt name in the environment is told, with the one that is meant."""
+    monkeypatch.setenv("DESK_SERVR", "x")
+    told = "^DESK_SERVR in the environment is no setting: is DESK_SERVER meant[?]$"
+    with pytest.raises(fizgruk.BadSettings, match=told):
+        read_with()
+
+
+def secret(home: pathlib.Path, name: str, text: str, mode: int = 0o600) -> str:
+    (home / name).write_text(text)
+    (home / name).chmod(mode)
+    return str(home / name)
+
+
+def test_netrc(home: pathlib.Path) -> None:
+    """~/.netrc names the user of a server."""
+    secret(home, ".netrc", "machine farm.example login ann password x\n")
+    (home / "other.ini").write_text("[desk]\nserver = https://farm.example\n")
+    assert read_with(config=str(home / "other.ini")) == ("https://farm.example", "ann")
+
+
+def test_password_without_tls(home: pathlib.Path) -> None:
+    """A password goes to this machine, or over TLS, alone."""
+    file = secret(home, "word", "secret\n")
+    with pytest.raises(fizgruk.BadSettings, match="^a password isn't sent to http://h:1, which has no TLS$"):
+        read_with(password_file=file)
+
+
+@pytest.mark.usefixtures("home")
+def test_password_in_the_address() -> None:
+    """An address with a password in it is refused, and not told."""
+    with pytest.raises(fizgruk.BadSettings) as fault:
+        read_with(server="https://ann:secret@h")
+    assert str(fault.value) == settings.NO_LOGIN
+
+
+def test_open_password(home: pathlib.Path) -> None:
+    """A file of a password that others may read is refused."""
+    file = secret(home, "word", "secret\n", 0o644)
+    with pytest.raises(fizgruk.BadSettings, match=f"^{file} holds a password, and others may read it: chmod 600$"):
+        read_with(password_file=file)
+
+
+# ---- the wire
+
+
+def test_views_and_commands(make_farm: MakeFarm) -> None:
+    """Each route of docs/openapi.json is asked, and answered by a value that has its type."""
+    own = make_farm()
+    front = Front(own)
+    admin, ann, runner = (client_of(front.url, it) for it in ("admin", "ann", "dispatcher"))
+    admin.add_type("bbb")
+    admin.add_type("rpi", "jobs", 20)
+    admin.add_board("b1", "bbb", ["serial"])
+    admin.set_tags("b1", ["hdmi", "power=pdu2"])
+    admin.set_health("b1", "Good")
+    assert [(it.name, it.check, it.every) for it in ann.types()] == [("bbb", "none", 0), ("rpi", "jobs", 20)]
+    board = ann.boards("hdmi", "name=b1")[0]
+    assert vars(board) == {
+        "name": "b1", "type": "bbb", "tags": ("hdmi", "power=pdu2"), "health": "Good", "state": "Idle",
+        "holder": "none", "jobs_since": 0, "last_check": 0,
+    }
+    assert not ann.boards("vga")
+    number = ann.submit(JOB)
+    assert [vars(it) for it in ann.queue()] == [
+        {"number": number, "kind": "group", "owner": "ann", "priority": 50, "boards": 1}
+    ]
+    assert vars(runner.call_pass()) == {"checks": 0, "expired": 0, "served": 1}
+    assert runner.start_job(number) == number
+    assert runner.finish_job(number, "Complete") == number
+    raw = own.job(number)
+    assert vars(ann.job(number)) == {**raw, "tags": tuple(raw["tags"])}
+    assert [it.result for it in ann.wait_for_job(number)] == ["Complete"]
+    assert ann.submit(JOB.encode()) == ann.cancel_job(number + 1)
+    held = ann.reserve("hdmi", priority="high")
+    ann.refresh(held)
+    runner.call_pass()
+    assert ann.wait_for_board(held, 30).name == "b1"
+    ann.acquire(held)
+    raw = own.reservation(held)
+    assert vars(ann.reservations()[-1]) == {**raw, "tags": ("hdmi",)}
+    ann.release(held)
+    ann.cancel_reservation(held)
+    assert vars(ann.status()) == own.look("/status")
+    demand_all_asked(front, held)
+
+
+def demand_all_asked(front: Front, held: int) -> None:
+    """Each route of docs/openapi.json was asked; each command but two had a key, and none another's."""
+    with open(os.path.join(TOP, "docs", "openapi.json"), encoding="utf-8") as opened:
+        paths = json.load(opened)["paths"]
+    routes = {f"{method.upper()} {path}" for path, it in paths.items() for method in it}
+    assert {re.sub(r"/\d+", "/{n}", it.replace("/b1/", "/{name}/")) for it in front.paths()} == routes
+    commands = [(path, fields.get("x-key")) for method, path, fields in front.asked if method == "POST"]
+    assert {path for path, key in commands if key is None} == {"/pass", f"/reservations/{held}/refresh"}
+    keys = [key for _, key in commands if key is not None]
+    assert len(set(keys)) == len(keys)
+
+
+def test_group(farm: Farm) -> None:
+    """A job's group is all of its members, whichever of them it is asked for, and no other job."""
+    ann = client_of(farm.server)
+    two = "job_name = 'two'\n[roles.a]\ndevice_type = 'bbb'\ncount = 2\n"
+    for text in (JOB, two, JOB):
+        ann.submit(text)
+    assert [[it.number for it in ann.group(number)] for number in (1, 2, 3, 4)] == [[1], [2, 3], [2, 3], [4]]
+    with pytest.raises(fizgruk.Refused, match="20 no such job"):
+        ann.group(9)
+
+
+def test_refusals(farm: Farm) -> None:
+    """What the desk refuses is raised with its code, and its status."""
+    ann = client_of(farm.server)
+    with pytest.raises(fizgruk.Refused) as refusal:
+        ann.reserve("vga")
+    assert (refusal.value.code, refusal.value.text, refusal.value.status) == (22, "no such boards", 409)
+    assert str(refusal.value) == "22 no such boards"
+    with pytest.raises(fizgruk.Refused, match="^3 forbidden: asked as ann$"):
+        ann.add_type("x")
+
+
+def test_silence() -> None:
+    """Where nobody answers that is raised, with the address."""
+    with pytest.raises(fizgruk.Unreachable, match="^http://127.0.0.1:1: "):
+        client_of("http://127.0.0.1:1", patience=0.5).status()
+
+
+def test_connection_is_kept(front: Front) -> None:
+    """Many calls take one connection, and one more after it was closed."""
+    ann = client_of(front.url)
+    for _ in range(20):
+        ann.status()
+    assert front.connections == 1
+    front.trouble("closed")
+    for _ in range(3):
+        ann.status()
+    assert front.connections == 2
+
+
+def test_connection_that_was_closed(front: Front) -> None:
+    """A kept connection that the server closed costs no call, and a command isn't sent twice."""
+    hasty = client_of(front.url, patience=0)
+    hasty.status()
+    front.trouble("closed")
+    hasty.status()
+    hasty.cancel_reservation(hasty.reserve("hdmi"))
+    assert front.paths().count("POST /reservations") == 1
+
+
+def test_close(front: Front) -> None:
+    """After close(), and after a `with`, the next call opens a connection again."""
+    with client_of(front.url) as ann:
+        ann.status()
+    assert ann.status().next == 1
+    assert front.connections == 2
+
+
+def test_desk_that_closes(farm: Farm) -> None:
+    """The desk itself closes each connection."""
+    straight = client_of(farm.server)
+    assert straight.status() == straight.status()
+
+
+FORKS = """\
+import os, sys, fizgruk
+client = fizgruk.Client()
+client.status()
+child = os.fork()
+if child == 0:
+    client.status()
+    client.close()
+    os._exit(0)
+print(os.waitstatus_to_exitcode(os.waitpid(child, 0)[1]), client.status().next)
+"""
+
+
+def test_fork(front: Front, folder: str) -> None:
+    """A child leaves the connections of the process that it came from alone: it opens one of its own,
+    and the other goes on over the one that it kept."""
+    ran = subprocess.run(
+        [sys.executable, "-c", FORKS], capture_output=True, text=True, timeout=300, check=True,
+        env=environment(PYTHONPATH=PATH, DESK_SERVER=front.url, DESK_USER="ann"), cwd=folder,
+    )
+    assert ran.stdout == "0 1\n"
+    assert (front.connections, len(front.asked)) == (2, 3)
+
+
+def test_command_whose_answer_is_lost(farm: Farm, front: Front) -> None:
+    """It is sent again under its key, and done once."""
+    front.trouble("lost", "502", "lost", "503", "lost", "504", path="/jobs")
+    assert client_of(front.url, patience=300).submit(JOB) == 1
+    assert farm.look("/status")["jobs"] == 1
+    assert len(front.keys("/jobs")) == 7
+    assert len(set(front.keys("/jobs"))) == 1
+
+
+def test_key_of_ones_own(farm: Farm, front: Front) -> None:
+    """A command under a key of one's own is done once, however often it is given."""
+    ann = client_of(front.url)
+    front.trouble("lost", path="/jobs")
+    assert [ann.submit(JOB, key="nightly") for _ in range(2)] == [1, 1]
+    assert set(front.keys("/jobs")) == {"nightly"}
+    assert farm.look("/status")["jobs"] == 1
+
+
+def test_proxy_without_a_desk(front: Front) -> None:
+    """What a proxy says that reaches no desk is raised, once the patience is over."""
+    front.trouble(*["502"] * 100)
+    with pytest.raises(fizgruk.Unreachable, match=": 502 Bad Gateway$"):
+        client_of(front.url, patience=1).status()
+    assert len(front.asked) > 1
+
+
+@pytest.fixture
+def site(farm: Farm, folder: str) -> Site:
+    """The site of examples/nginx.conf in front of that farm."""
+    return Site(farm, folder)
+
+
+def test_behind_nginx(site: Site, farm: Farm, monkeypatch: pytest.MonkeyPatch) -> None:
+    """Through nginx, over TLS and by a password, ten boards take one connection, and are the user's."""
+    password = os.path.join(site.folder, "ann")
+    ann = client_of(site.server, password_file=password, ca_file=site.certificate)
+    opened: List[object] = []
+    opens = ann._wire._opened
+
+    def counted() -> http.client.HTTPConnection:
+        opened.append(opens())
+        return cast(http.client.HTTPConnection, opened[-1])
+
+    monkeypatch.setattr(ann._wire, "_opened", counted)
+    with Passer(farm):
+        for _ in range(10):
+            with ann.board("hdmi", every=0.1):
+                assert rows(farm)[-1]["owner"] == "ann"
+    assert (states(farm), len(opened)) == (["canceled"] * 10, 1)
+
+
+def test_wrong_password(site: Site) -> None:
+    """Another's password is refused by nginx, which is told as that."""
+    other = client_of(site.server, password_file=os.path.join(site.folder, "dispatcher"), ca_file=site.certificate)
+    with pytest.raises(fizgruk.Refused, match="^401 Unauthorized: asked as ann, with a password$") as refusal:
+        other.status()
+    assert refusal.value.code == 401
+
+
+def test_certificate_that_nobody_knows(site: Site, monkeypatch: pytest.MonkeyPatch) -> None:
+    """It is told at once, and isn't tried again."""
+    monkeypatch.setattr("fizgruk.wire.time.sleep", lambda _: pytest.fail("it is tried again"))
+    with pytest.raises(fizgruk.Unreachable, match="certificate verify failed"):
+        client_of(site.server).status()
+
+
+# ---- boards that are held
+
+
+def test_board(farm: Farm) -> None:
+    """A board is acquired within its `with`, and given back at its end."""
+    ann = client_of(farm.server)
+    with Passer(farm), ann.board("hdmi", "serial", name="b1", priority="high", every=0.1) as board:
+        row = rows(farm)[-1]
+        assert (row["state"], row["board"], row["priority"]) == ("acquired", "b1", 100)
+        assert row["tags"] == ["hdmi", "name=b1", "serial"]
+        assert board == fizgruk.Board("b1", "bbb", ("hdmi", "serial"), row["number"])
+    assert states(farm) == ["canceled"]
+
+
+def test_board_that_is_held(farm: Farm) -> None:
+    """While it waits it tells who holds the board, and why none came in time."""
+    ann = client_of(farm.server)
+    said: List[str] = []
+    with Passer(farm), ann.board("hdmi", every=0.1) as board:
+        what = f"b1 is held by reservation {board.reservation} of ann"
+        with pytest.raises(fizgruk.TimedOut, match=f"^no board with hdmi within 0.5 s: .*: {what}$"):
+            ann.board("hdmi", timeout=0.5, every=0.1, tell=said.append).__enter__()
+        assert states(farm) == ["acquired", "canceled"]
+    assert said == [f"reservation 2 is waiting, place 1 of 1 in the queue: {what}"]
+
+
+@pytest.mark.parametrize("kind", [ValueError, KeyboardInterrupt, SystemExit])
+def test_end_by_what_is_raised(kind: Type[BaseException], farm: Farm) -> None:
+    """A board is given back after whatever its `with` raises."""
+    with Passer(farm), pytest.raises(kind, match="in its midst"):
+        with client_of(farm.server).board("hdmi", priority="low", every=0.1):
+            raise kind("in its midst")
+    assert states(farm) == ["canceled"]
+
+
+def test_wait_that_is_interrupted(farm: Farm) -> None:
+    """A reservation that waits is canceled where the wait is interrupted."""
+
+    def interrupt(_: str) -> None:
+        raise KeyboardInterrupt
+
+    farm.tell("admin", "/boards/b1/health", {"health": "Bad"})
+    with pytest.raises(KeyboardInterrupt):
+        client_of(farm.server).board("hdmi", tell=interrupt).__enter__()
+    assert states(farm) == ["canceled"]
+
+
+def test_board_that_is_refused(farm: Farm) -> None:
+    """Nothing is reserved where the desk refuses."""
+    with pytest.raises(fizgruk.Refused):
+        client_of(farm.server).board("vga").__enter__()
+    assert not rows(farm)
+
+
+def test_board_is_held_once(farm: Farm) -> None:
+    """Each `with` wants a call of board() of its own."""
+    with Passer(farm):
+        hold = client_of(farm.server).board("hdmi", every=0.1)
+        with hold:
+            pass
+    with pytest.raises(fizgruk.FizgrukError, match="call board"):
+        hold.__enter__()
+    assert states(farm) == ["canceled"]
+
+
+def test_waiting_board_is_refreshed(farm: Farm, monkeypatch: pytest.MonkeyPatch) -> None:
+    """A reservation that waits is refreshed, and so lives on: its deadline moves on by the desk's clock."""
+    monkeypatch.setattr(waiting, "REFRESH", 0.0)
+    farm.tell("admin", "/boards/b1/health", {"health": "Maintenance"})
+    found: List[str] = []
+    ann = client_of(farm.server)
+    thread = threading.Thread(target=lambda: found.append(held_once(ann)), daemon=True)
+    thread.start()
+    first = wait_until("it waits", lambda: rows(farm))[0]["deadline"]
+    wait_until("it is refreshed", lambda: bool(rows(farm)[0]["deadline"] > first))
+    assert (states(farm), found) == (["waiting"], [])
+    farm.tell("admin", "/boards/b1/health", {"health": "Good"})
+    with Passer(farm):
+        thread.join(300)
+    assert found == ["b1"]
+
+
+@pytest.mark.parametrize("path", ["/reservations", "/acquire", "/cancel"])
+def test_lost_answers_of_a_hold(path: str, farm: Farm, front: Front) -> None:
+    """No board is left where answers are lost on the way to it, or on the way back."""
+    front.trouble("lost", "502", "lost", path=path)
+    with Passer(farm), client_of(front.url).board("hdmi", every=0.1) as board:
+        assert board.name == "b1"
+    assert states(farm) == ["canceled"]
+
+
+def test_number_that_is_lost(farm: Farm, front: Front) -> None:
+    """A reservation whose number never came is canceled all the same."""
+    front.trouble("lost", path="/reservations")
+    with pytest.raises(fizgruk.Unreachable):
+        client_of(front.url, patience=0).board("hdmi").__enter__()
+    assert states(farm) == ["canceled"]
+
+
+def test_board_that_cant_be_given_back(farm: Farm, front: Front, monkeypatch: pytest.MonkeyPatch) -> None:
+    """It is told, with what to type."""
+    monkeypatch.setattr(holding, "GIVES_UP", 0.5)
+    with Passer(farm):
+        left = client_of(front.url).board("hdmi", every=0.1)
+        left.__enter__()
+    front.trouble(*["502"] * 100)
+    with pytest.raises(fizgruk.NotGivenBack, match="desk cancel-reservation 1$"):
+        left.__exit__(None, None, None)
+    assert states(farm) == ["acquired"]
+
+
+def test_reservation_that_ended(farm: Farm) -> None:
+    """A reservation that is canceled by another hand while it waits is told as ended."""
+    farm.tell("admin", "/boards/b1/health", {"health": "Bad"})
+    ann = client_of(farm.server)
+
+    def cancel(_: str) -> None:
+        ann.cancel_reservation(1)
+
+    with pytest.raises(fizgruk.ReservationEnded, match="^reservation 1 is canceled$"):
+        ann.board("hdmi", every=0.1, tell=cancel).__enter__()
+
+
+def test_desk_that_is_killed(farm: Farm) -> None:
+    """A desk that is killed, and serves again, loses no board, waited for or held."""
+    ann = client_of(farm.server)
+    with Passer(farm):
+        with ann.board("hdmi", every=0.1):
+            waits: List[str] = []
+            thread = threading.Thread(target=lambda: waits.append(held_once(ann)))
+            thread.start()
+            wait_until("the second one waits", lambda: len(farm.look("/queue")["queue"]) == 1)
+            farm.kill()
+            threading.Timer(2, farm.start).start()
+        thread.join(300)
+    assert waits == ["b1"]
+    assert states(farm) == ["canceled", "canceled"]
+
+
+def held_once(client: fizgruk.Client) -> str:
+    with client.board("hdmi", every=0.1) as board:
+        return board.name
+
+
+# ---- programs that hold a board
+
+SCRIPT = """\
+import os, sys, time, fizgruk
+if sys.argv[1] == "leaves":
+    print(fizgruk.Client().board("hdmi", every=0.1).__enter__().reservation)
+    sys.exit()
+with fizgruk.Client().board("hdmi", every=0.1) as board:
+    print(board.reservation, flush=True)
+    if sys.argv[1] == "forks":
+        if os.fork() == 0:
+            sys.exit(0)
+        os.wait()
+        print("its child has ended", flush=True)
+    time.sleep(300)
+"""
+Script = Tuple["subprocess.Popen[bytes]", str]
+
+
+def script_of(farm: Farm, folder: str, word: str) -> Script:
+    """A program that holds a board, and the file of what it prints."""
+    file = os.path.join(folder, "said")
+    env = environment(PYTHONPATH=PATH, DESK_SERVER=farm.server, DESK_USER="ann")
+    with open(file, "wb") as said:
+        words = [sys.executable, "-c", SCRIPT, word]
+        process = subprocess.Popen(words, stdout=said, stderr=subprocess.DEVNULL, env=env)
+    STARTED.append(process)
+    return process, file
+
+
+def test_interrupt_while_it_waits(farm: Farm, folder: str) -> None:
+    """Ctrl-C while a board is waited for cancels the reservation."""
+    farm.tell("admin", "/boards/b1/health", {"health": "Maintenance"})
+    process, _ = script_of(farm, folder, "holds")
+    wait_until("it waits", lambda: bool(farm.look("/queue")["queue"]))
+    process.send_signal(signal.SIGINT)
+    assert process.wait(300) == -signal.SIGINT
+    assert states(farm) == ["canceled"]
+
+
+def test_interrupts_while_the_desk_is_away(farm: Farm, folder: str) -> None:
+    """Ctrl-C gives the board back, however often it comes, once the desk is there again."""
+    with Passer(farm):
+        process, file = script_of(farm, folder, "holds")
+        wait_until("its number", lambda: read(file).strip())
+        farm.kill()
+        for _ in range(20):
+            process.send_signal(signal.SIGINT)
+            time.sleep(0.05)
+        assert process.poll() is None
+        farm.start()
+        assert process.wait(300) == -signal.SIGINT
+    assert states(farm) == ["canceled"]
+
+
+def test_child_that_ends(farm: Farm, folder: str) -> None:
+    """The end of a child gives nothing back."""
+    with Passer(farm):
+        process, file = script_of(farm, folder, "forks")
+        wait_until("its child has ended", lambda: "ended" in read(file))
+        assert states(farm) == ["acquired"]
+        process.send_signal(signal.SIGINT)
+        process.wait(300)
+    assert states(farm) == ["canceled"]
+
+
+def test_end_of_the_program(farm: Farm, folder: str) -> None:
+    """A program that ends without the end of its `with` gives the board back."""
+    with Passer(farm):
+        process, file = script_of(farm, folder, "leaves")
+        assert process.wait(300) == 0
+    assert (read(file), states(farm)) == ("1\n", ["canceled"])
+
+
+def test_documented_program(make_farm: MakeFarm) -> None:
+    """The program that docs/PYTHON.md begins with runs."""
+    page = read(os.path.join(TOP, "docs", "PYTHON.md"))
+    found = re.search("```python\n(.*?)```", page, re.DOTALL)
+    assert found
+    own = make_farm([("b1", "bbb", ["hdmi", "power=pdu2"])])
+    env: Dict[str, Any] = environment(PYTHONPATH=PATH, DESK_SERVER=own.server, DESK_USER="ann")
+    with Passer(own):
+        ran = subprocess.run(
+            [sys.executable, "-c", found.group(1)], capture_output=True, text=True, timeout=300, check=False, env=env
+        )
+    assert (ran.returncode, ran.stdout) == (0, "b1 bbb ('hdmi', 'power=pdu2') 1\n"), ran.stderr
+    assert states(own) == ["canceled"]

@@ -1,0 +1,266 @@
+"""The plugin of pytest over a served farm, and the example for a shell."""
+from __future__ import annotations
+
+import os
+import re
+import signal
+import subprocess
+import sys
+import time
+from typing import Callable, Dict, Optional
+
+import pytest
+
+from python_front import BOARDS, PATH, Passer, rows, states
+from served import STARTED, TOOLS, TOP, Farm, environment, read, wait_until
+
+MakeFarm = Callable[..., Farm]
+HOLDS = """\
+def demand_held(board, client):
+    rows = [it for it in client.reservations() if it.number == board.reservation]
+    assert [it.state for it in rows] == ["acquired"]
+    assert [it.name for it in client.boards("hdmi")] == [board.name]
+"""
+PASSES = f"""{HOLDS}
+def test_one(board, farm_client):
+    demand_held(board, farm_client)
+def test_two(board, farm_client):
+    demand_held(board, farm_client)
+"""
+FAILS = f"""{HOLDS}
+def test_one(board, farm_client):
+    demand_held(board, farm_client)
+    assert board.name == "another"
+"""
+FIXTURE = f"""import pytest
+{HOLDS}
+@pytest.fixture
+def console(board, farm_client):
+    demand_held(board, farm_client)
+    raise OSError("no console")
+def test_one(console):
+    pass
+"""
+SLEEPS = """import time
+def test_one(board):
+    print("holds", file=open("holds", "w"))
+    try:
+        time.sleep(300)
+    except Exception:
+        pass
+"""
+SPANS = """import os, time
+def note(word, board):
+    with open(os.environ["SPANS"], "a") as spans:
+        print(time.monotonic(), word, board.name, os.getpid(), file=spans, flush=True)
+def test_one(board):
+    note("takes", board)
+    time.sleep(0.5)
+def test_two(board):
+    note("leaves", board)
+"""
+
+
+class Session:
+    """A run of pytest in a folder with one file of tests."""
+
+    def __init__(self, farm: Farm, folder: str, text: str, *words: str, **more: str):
+        self.folder, self.file = folder, os.path.join(folder, "output")
+        with open(os.path.join(folder, "test_it.py"), "w", encoding="utf-8") as opened:
+            opened.write(text)
+        around = {"DESK_SERVER": farm.server, "DESK_USER": "ann", **more}
+        with open(self.file, "wb") as output:
+            self.process = subprocess.Popen(
+                [sys.executable, "-m", "pytest", "-p", "no:cacheprovider", "-p", "fizgruk.pytest_plugin", *words],
+                cwd=folder,
+                stdin=subprocess.DEVNULL,
+                stdout=output,
+                stderr=subprocess.STDOUT,
+                env=environment(PYTHONPATH=PATH, PYTHONDONTWRITEBYTECODE="1", **around),
+            )
+        STARTED.append(self.process)
+
+    def output(self) -> str:
+        return read(self.file)
+
+    def holds(self) -> None:
+        """Waits until the test says that it holds its board."""
+        wait_until("it holds a board", lambda: os.path.exists(os.path.join(self.folder, "holds")), 300)
+
+    def ends(self, status: int, *said: str) -> None:
+        """Demands how it ends, and what it says."""
+        found = self.process.wait(300)
+        text = self.output()
+        assert [it for it in said if it not in text] == [], text
+        assert found == status, text
+
+
+Start = Callable[..., Session]
+
+
+@pytest.fixture
+def farm(make_farm: MakeFarm) -> Farm:
+    """A farm of three boards, of which b1 alone has hdmi."""
+    return make_farm(BOARDS)
+
+
+@pytest.fixture
+def start(farm: Farm, tmp_path_factory: pytest.TempPathFactory) -> Start:
+    """Starts pytest over a file of tests with these words and more environment."""
+
+    def started(text: str, *words: str, **more: str) -> Session:
+        return Session(farm, str(tmp_path_factory.mktemp("session")), text, *words, **more)
+
+    return started
+
+
+@pytest.mark.parametrize(
+    "text, status, said", [(PASSES, 0, "2 passed"), (FAILS, 1, "1 failed"), (FIXTURE, 1, "1 error")]
+)
+def test_session(text: str, status: int, said: str, farm: Farm, start: Start) -> None:
+    """pytest --farm holds one board a session, given back after tests that pass, fail or err."""
+    with Passer(farm):
+        start(text, "--farm", "hdmi").ends(status, said, "farm: b1 is held by reservation 1\n")
+    assert states(farm) == ["canceled"]
+
+
+def test_without_farm(farm: Farm, start: Start) -> None:
+    """Tests that ask for a board are skipped without --farm, and nothing is reserved where none asks."""
+    start(PASSES).ends(0, "2 skipped")
+    start("def test_one():\n    pass\n", "--farm", "hdmi").ends(0, "1 passed")
+    assert not rows(farm)
+
+
+def test_several_tags(farm: Farm, start: Start) -> None:
+    """The board has the tags of all options --farm."""
+    with Passer(farm):
+        start(PASSES, "--farm", "serial name=b1", "--farm=hdmi").ends(0, "2 passed", "farm: a board with serial ")
+    assert rows(farm)[-1]["tags"] == ["hdmi", "name=b1", "serial"]
+
+
+LATE = "no board with hdmi within 1 s: reservation 1 is waiting, place 1 of 1 in the queue: b1 is Bad"
+
+
+@pytest.mark.parametrize("word, priority", [("low", 0), ("high", 100), ("7", 7)])
+def test_no_board_in_time(word: str, priority: int, farm: Farm, start: Start) -> None:
+    """Where no board comes in time pytest says why, without a trace; the reservation has its priority."""
+    farm.tell("admin", "/boards/b1/health", {"health": "Bad"})
+    session = start(FAILS, "--farm", "hdmi", "--farm-timeout", "1", "--farm-priority", word)
+    session.ends(1, "1 error", LATE)
+    assert "holding.py" not in session.output()
+    assert (states(farm), rows(farm)[0]["priority"]) == (["canceled"], priority)
+
+
+@pytest.mark.parametrize(
+    "tags, around, said", [("vga", {}, "22 no such boards"), ("", {"DESK_USER": "a b"}, "'a b' is no name of a user")]
+)
+def test_refused(tags: str, around: Dict[str, str], said: str, start: Start) -> None:
+    """What the desk refuses, or what settings can't be used, pytest says without a trace."""
+    session = start(FAILS, "--farm", tags, **around)
+    session.ends(1, "1 error", said)
+    assert "holding.py" not in session.output()
+
+
+@pytest.mark.parametrize("number", [signal.SIGINT, signal.SIGTERM, signal.SIGHUP])
+def test_signal_while_it_holds(number: signal.Signals, farm: Farm, start: Start) -> None:
+    """A session that is ended by Ctrl-C, SIGTERM or SIGHUP gives its board back."""
+    with Passer(farm):
+        session = start(SLEEPS, "--farm", "hdmi")
+        session.holds()
+        assert states(farm) == ["acquired"]
+        session.process.send_signal(number)
+        session.ends(2)
+    assert states(farm) == ["canceled"]
+
+
+@pytest.mark.parametrize("number", [signal.SIGINT, signal.SIGTERM])
+def test_signal_while_it_waits(number: signal.Signals, farm: Farm, start: Start) -> None:
+    """So does one that waits for its board."""
+    farm.tell("admin", "/boards/b1/health", {"health": "Bad"})
+    session = start(SLEEPS, "--farm", "hdmi")
+    wait_until("it waits", lambda: "b1 is Bad" in session.output(), 300)
+    session.process.send_signal(number)
+    session.ends(2)
+    assert states(farm) == ["canceled"]
+
+
+def test_desk_that_is_killed(farm: Farm, start: Start) -> None:
+    """A session gives its board back to a desk that was killed while it held it."""
+    text = PASSES.replace("def test_two(board, farm_client):\n", """\
+def test_two(board, farm_client):
+    import os, time
+    print("holds", file=open("holds", "w"))
+    while not os.path.exists("goes on"):
+        time.sleep(0.05)
+""")
+    with Passer(farm):
+        session = start(text, "--farm", "hdmi")
+        session.holds()
+        farm.kill()
+        farm.start()
+        with open(os.path.join(session.folder, "goes on"), "wb"):
+            pass
+        session.ends(0, "2 passed")
+    assert states(farm) == ["canceled"]
+
+
+def test_signals_while_the_desk_is_away(farm: Farm, start: Start) -> None:
+    """It goes on until its board is given back, whatever signals come."""
+    with Passer(farm):
+        session = start(SLEEPS, "--farm", "hdmi")
+        session.holds()
+        farm.kill()
+        for _ in range(10):
+            for number in (signal.SIGTERM, signal.SIGINT):
+                session.process.send_signal(number)
+                time.sleep(0.05)
+        assert session.process.poll() is None
+        farm.start()
+        session.process.wait(300)
+    assert states(farm) == ["canceled"]
+
+
+@pytest.mark.slow(8)
+def test_sessions_at_once(farm: Farm, start: Start, folder: str) -> None:
+    """Six sessions at once share two boards, and never one at a time."""
+    spans = os.path.join(folder, "spans")
+    with Passer(farm):
+        for it in [start(SPANS, "--farm", "serial", SPANS=spans) for _ in range(6)]:
+            it.ends(0, "2 passed")
+    holder: Dict[str, Optional[str]] = {}
+    lines = sorted((line.split() for line in read(spans).splitlines()), key=lambda it: float(it[0]))
+    for _, word, board, process in lines:
+        assert holder.get(board) == (None if word == "takes" else process), lines
+        holder[board] = process if word == "takes" else None
+    assert len({it[3] for it in lines}) == 6
+    assert set(holder) == {"b1", "b2"}
+    assert states(farm) == ["canceled"] * 6
+
+
+def test_shell_example(farm: Farm, folder: str) -> None:
+    """examples/with-board.sh tests on a board, and gives it back also after SIGTERM."""
+    starter = os.path.join(folder, "desk")
+    with open(starter, "w", encoding="utf-8") as text:
+        text.write(f"#!/bin/sh\nexec {sys.executable} {TOOLS}/desk \"$@\"\n")
+    os.chmod(starter, 0o755)
+    env = environment(PATH=f"{folder}:{os.environ['PATH']}", DESK_SERVER=farm.server, DESK_USER="ann")
+    script = os.path.join(TOP, "examples", "with-board.sh")
+    with Passer(farm):
+        ran = subprocess.run(
+            ["sh", script, "hdmi"], env=env, capture_output=True, text=True, timeout=300, check=False
+        )
+        assert (ran.returncode, ran.stdout) == (0, "testing b1, a bbb, under reservation 1\n"), ran.stderr
+        assert states(farm) == ["canceled"]
+        long = os.path.join(folder, "long.sh")
+        with open(long, "w", encoding="utf-8") as text:
+            text.write(read(script) + "exec sleep 300\n")
+        with open(os.path.join(folder, "said"), "wb") as said:
+            process = subprocess.Popen(
+                ["sh", long, "hdmi"], env=env, stdin=subprocess.DEVNULL, stdout=said, stderr=said
+            )
+        STARTED.append(process)
+        wait_until("it tests", lambda: re.search(r"reservation 2\n", read(str(said.name))))
+        assert states(farm) == ["canceled", "acquired"]
+        process.send_signal(signal.SIGTERM)
+        assert process.wait(300) == 143
+    assert states(farm) == ["canceled", "canceled"]

@@ -1,0 +1,469 @@
+"""What farm-watch tells of a served farm: ends of jobs, boards that went Bad or came free, holds that
+are reminded of and ended, passes that don't come, a farm that gets full; what it asks of the desk; its
+words and its unit."""
+from __future__ import annotations
+
+import contextlib
+import json
+import os
+import sqlite3
+import subprocess
+import sys
+import time
+from typing import Callable, Dict, Iterator, List, Tuple
+
+import pytest
+from desks import GROUP, write
+from served import TOOLS, TOP, Tool, environment, wait_until
+from wants import wants
+from watched import HOUR, Watched, watched_farms
+
+WATCH = os.path.join(TOOLS, "farm-watch")
+MAIL = "[mail]\nfrom = 'farm@lab.example'\nto = '{owner}@lab.example'\nadmin = 'l@lab.example'\n"
+JOBS = "[job]\nended = true\n"
+Labs = Callable[..., Watched]
+
+
+@pytest.fixture
+def watched(program: str, folder: str) -> Iterator[Labs]:
+    with watched_farms(program, folder) as make:
+        yield make
+
+
+def at(owner: str) -> str:
+    return f"{owner}@lab.example"
+
+
+def watch(*words: str, **more: str) -> Tuple[int, str, str]:
+    """What farm-watch comes to: its status, output and errors."""
+    ran = subprocess.run(
+        [sys.executable, WATCH, *words], capture_output=True, text=True, timeout=60, check=False,
+        env=environment(**more),
+    )
+    return ran.returncode, ran.stdout, ran.stderr
+
+
+def content_to(lab: Watched, owner: str) -> str:
+    """The text of the mail to an owner."""
+    return str(next(it for it in lab.mailbox.mails() if it["to"] == at(owner)).get_content())
+
+
+# ---- jobs
+
+
+def test_the_end_of_a_job_is_told_once_of_a_group_with_all_members(watched: Labs) -> None:
+    """Also of one that began and ended between two looks; not of one that ended before the first."""
+    lab = watched(JOBS)
+    early = lab.runs()
+    waits = lab.farm.submit("true", user="bob")
+    lab.start()
+    short = lab.runs("Incomplete")
+    lab.passes()
+    lab.starts(waits)
+    lab.finishes(waits, "Infra")
+    group = lab.farm.tell("cat", "/jobs", GROUP.encode())["number"]
+    lab.passes()
+    lab.starts(group)
+    lab.finishes(group)
+    gone = lab.farm.submit("true", kind="ccc", user="dan")
+    lab.farm.tell("dan", f"/jobs/{gone}/cancel")
+    told = [
+        ("ann", f"job {short} (test) has ended: Incomplete"),
+        ("bob", f"job {waits} (test) has ended: Infra"),
+        ("dan", f"job {gone} (test) has ended: Canceled"),
+    ]
+    lab.mails([(at(owner), f"farm: {subject}") for owner, subject in told])
+    lab.finishes(group + 1, "Incomplete")
+    told.append(("cat", f"job {group} (two) has ended: Complete, Incomplete"))
+    lab.mails([(at(owner), f"farm: {subject}") for owner, subject in told])
+    wait_until("the same by the webhook", lambda: lab.hook.told() == sorted(told))
+    assert [it for it in lab.mailbox.told() if f"job {early} " in it[1]] == []
+
+
+def test_a_message_says_what_happened_to_people_and_programs(watched: Labs) -> None:
+    """A group of two that has ended, by the webhook and by mail."""
+    lab = watched(JOBS)
+    lab.start()
+    group = lab.farm.tell("cat", "/jobs", GROUP.encode())["number"]
+    lab.passes()
+    lab.starts(group)
+    lab.finishes(group)
+    lab.finishes(group + 1, "Incomplete")
+    (said,) = wait_until("the message", lab.hook.messages)
+    facts = [said[it] for it in ("event", "job", "title", "results", "boards", "owner")]
+    assert facts == ["job-ended", group, "two", ["Complete", "Incomplete"], ["b1", "b2"], "cat"]
+    assert said["text"].split("\n")[0] == f"cat: job {group} (two) has ended: Complete, Incomplete"
+    path, fields, _ = lab.hook.posted[0]
+    assert (path, fields["content-type"]) == ("/hook?room=1", "application/json")
+    assert fields["idempotency-key"] == said["id"]
+    (mail,) = wait_until("the mail", lab.mailbox.mails)
+    fields_of_mail = [mail[it] for it in ("from", "to", "auto-submitted", "x-farm-event")]
+    assert fields_of_mail == ["farm@lab.example", at("cat"), "auto-generated", "job-ended"]
+    assert mail.get_content().splitlines() == [
+        "NUMBER RESULT     BOARD TYPE ROLE",
+        f"{group:6} Complete   b1    bbb  a",
+        f"{group + 1:6} Incomplete b2    bbb  a",
+    ]
+
+
+def test_a_reason_of_the_dispatchers_history_is_told_where_a_proxy_serves_it(watched: Labs) -> None:
+    lab = watched(JOBS, hook=False)
+    of_bob: Dict[str, object] = {"kind": "job", "job": 2, "owner": "bob", "outcome": "Incomplete"}
+    rows: List[Dict[str, object]] = [
+        {**of_bob, "owner": "ann", "reason": "another farm's"},
+        {**of_bob, "reason": "time limit of 1 hour,\nstatus 143"},
+        {"kind": "job", "job": 1},
+    ]
+    lab.door.serves["/history.json"] = json.dumps({"at": 1, "jobs": rows, "boards": []}).encode()
+    lab.start()
+    lab.runs()
+    lab.runs("Incomplete", user="bob")
+    told = [
+        (at("ann"), "farm: job 1 (test) has ended: Complete"),
+        (at("bob"), "farm: job 2 (test) has ended: Incomplete"),
+    ]
+    lab.mails(told)
+    assert "Reason" not in content_to(lab, "ann")
+    assert content_to(lab, "bob").splitlines()[-1] == "Reason: time limit of 1 hour, status 143"
+    lab.door.serves["/history.json"] = b"[]"
+    last = lab.runs(user="cat")
+    lab.mails([*told, (at("cat"), f"farm: job {last} (test) has ended: Complete")])
+
+
+def test_outcomes_owners_addresses_and_who_wants_no_mail_are_the_files(watched: Labs) -> None:
+    """Ends of health checks aren't told."""
+    rules = "[job]\nended = ['Incomplete', 'Infra']\n[owners]\nbob = 'b.smith@other.example'\ncat = ''\n"
+    lab = watched(rules, boards=[("b1", "bbb", [])], hook=False)
+    lab.start()
+    lab.runs()
+    numbers = {}
+    for user in ("ann", "bob", "cat"):
+        numbers[user] = lab.runs("Infra", user=user)
+        lab.farm.tell("admin", "/boards/b1/health", {"health": "Good"})
+    lab.farm.tell("admin", "/types", {"name": "checked", "check": "jobs", "every": 1})
+    lab.farm.tell("admin", "/boards", {"name": "x1", "type": "checked"})
+    lab.farm.tell("admin", "/boards/x1/health", {"health": "Unknown"})
+    assert lab.passes()["checks"] == 1
+    check = int(lab.farm.board("x1")["holder"].split()[1])
+    lab.starts(check)
+    lab.finishes(check, "Incomplete")
+    last = lab.runs("Infra", user="dan")
+    lab.mails([
+        (at("ann"), f"farm: job {numbers['ann']} (test) has ended: Infra"),
+        ("b.smith@other.example", f"farm: job {numbers['bob']} (test) has ended: Infra"),
+        (at("dan"), f"farm: job {last} (test) has ended: Infra"),
+    ])
+
+
+def test_the_jobs_of_the_next_farm_are_told_too(watched: Labs) -> None:
+    """Its numbers begin at 1 again."""
+    lab = watched(JOBS, hook=False)
+    lab.start()
+    for _ in range(2):
+        lab.runs()
+    told = [(at("ann"), f"farm: job {it} (test) has ended: Complete") for it in (1, 2)]
+    lab.mails(told)
+    lab.farm.kill()
+    for name in (lab.farm.db, f"{lab.farm.db}-wal"):
+        os.unlink(name)
+    subprocess.run([lab.farm.program, "init", "--db", lab.farm.db], check=True, stdout=subprocess.DEVNULL)
+    lab.farm.start()
+    lab.farm.tell("admin", "/types", {"name": "bbb"})
+    lab.looked()
+    lab.farm.tell("admin", "/boards", {"name": "b1", "type": "bbb"})
+    lab.farm.tell("admin", "/boards/b1/health", {"health": "Good"})
+    lab.runs(user="bob")
+    lab.mails([*told, (at("bob"), "farm: job 1 (test) has ended: Complete")])
+
+
+# ---- boards
+
+
+def test_a_board_that_went_bad_is_told_once_also_where_nobody_watched_then(watched: Labs) -> None:
+    """One that was Bad at the first look isn't told."""
+    lab = watched("[board]\nbad = true\n", hook=False)
+    lab.farm.tell("admin", "/boards/b3/health", {"health": "Bad"})
+    lab.start()
+    lab.farm.tell("admin", "/boards/b2/health", {"health": "Bad"})
+    told = [("lab@lab.example", "farm: board b2 is Bad")]
+    lab.mails(told)
+    lab.farm.tell("admin", "/boards/b2/health", {"health": "Good"})
+    lab.looked()
+    lab.tool.kill()
+    lab.farm.tell("admin", "/boards/b2/health", {"health": "Bad"})
+    lab.start()
+    lab.mails(told * 2)
+
+
+def test_who_waited_is_told_of_the_board_that_was_given(watched: Labs) -> None:
+    lab = watched("[board]\nfree = 'all'\n", hook=False)
+    first = lab.holds("ann", "b1")
+    lab.start()
+    second = lab.reserves("bob", "b1")
+    job = lab.farm.submit("true", user="cat", more="tags = ['name=b1']")
+    lab.looked()
+    lab.farm.tell("ann", f"/reservations/{first}/cancel")
+    lab.passes()
+    told = [(at("bob"), f"farm: reservation {second} has got b1")]
+    lab.mails(told)
+    assert f"desk acquire {second}" in content_to(lab, "bob")
+    lab.farm.tell("bob", f"/reservations/{second}/cancel")
+    lab.passes()
+    lab.mails([*told, (at("cat"), f"farm: job {job} has got b1")])
+
+
+def test_the_health_check_that_made_a_board_bad_is_named(watched: Labs) -> None:
+    lab = watched("[board]\nbad = true\n", boards=[])
+    lab.farm.tell("admin", "/types", {"name": "checked", "check": "jobs", "every": 1})
+    lab.farm.tell("admin", "/boards", {"name": "x1", "type": "checked"})
+    lab.farm.tell("admin", "/boards/x1/health", {"health": "Unknown"})
+    lab.passes()
+    lab.starts(1)
+    lab.start()
+    lab.finishes(1, "Incomplete")
+    lab.mails([("lab@lab.example", "farm: board x1 is Bad")])
+    assert "Its health check, job 1, has ended Incomplete." in lab.mailbox.mails()[0].get_content()
+
+
+# ---- holds
+
+
+def test_an_old_hold_is_reminded_of_and_one_beyond_its_time_is_ended(watched: Labs) -> None:
+    """One that was extended is neither."""
+    now = time.time()
+    lab = watched("[hold]\nremind = '4h'\nend = '12h'\n", boards=[])
+    over, old, extended, fresh = lab.held_since([
+        (now - 13 * HOUR, "ann", "h1"),
+        (now - 5 * HOUR, "bob", "h2"),
+        (now - 5 * HOUR + 1, "cat", "h3"),
+        (now - 3 * HOUR, "dan", "h4"),
+    ])
+    desk = [sys.executable, os.path.join(TOOLS, "desk"), "--user", "cat", "extend", str(extended)]
+    subprocess.run(desk, env=environment(DESK_SERVER=lab.farm.server), check=True)
+    lab.start()
+    told = [
+        (at("ann"), f"farm: reservation {over} was ended: you had held h1 for 13 hours"),
+        (at("bob"), f"farm: you have held h2 for 5 hours (reservation {old})"),
+    ]
+    lab.mails(told)
+    states = [lab.farm.reservation(it)["state"] for it in (over, old, extended, fresh)]
+    assert states == ["canceled", "acquired", "acquired", "acquired"]
+    assert lab.farm.board("h1")["holder"] == "none"
+    assert f"desk extend {old} " in content_to(lab, "bob")
+    begin = lab.farm.reservation(old)["deadline"] - 60
+    end = time.strftime("%Y-%m-%d %H:%M:%S", time.localtime(begin + 12 * HOUR))
+    assert f"It is ended at {end}" in content_to(lab, "bob")
+    lab.tool.kill()
+    lab.start()
+    lab.looked()
+    assert lab.mailbox.told() == sorted(told)
+
+
+def test_who_isnt_the_admin_ends_no_hold_and_no_owner_is_told_otherwise(watched: Labs) -> None:
+    lab = watched("[hold]\nend = '12h'\n", boards=[])
+    (number,) = lab.held_since([(time.time() - 13 * HOUR, "ann", "h1")])
+    lab.start("--user", "eve")
+    told = f"farm-watch: reservation {number} can't be ended: refused: 3 forbidden: asked as eve\n"
+    wait_until("what is told", lambda: told in lab.tool.errors())
+    lab.looked()
+    assert lab.tool.errors().count(told) == 1
+    lab.stop()
+    assert lab.mailbox.told() == []
+    lab.start()
+    lab.mails([(at("ann"), f"farm: reservation {number} was ended: you had held h1 for 13 hours")])
+
+
+# ---- passes, room, what is asked
+
+LATE = ("lab@lab.example", "farm: no pass for 10 seconds: is farm-dispatch running?")
+
+
+@pytest.mark.slow(25)
+def test_a_pass_that_doesnt_come_is_told_once_also_by_another_process(watched: Labs) -> None:
+    lab = watched("[pass]\nlate = '10s'\n", hook=False)
+    lab.start()
+    lab.mails([LATE])
+    assert "The desk answers." in lab.mailbox.mails()[0].get_content()
+    lab.tool.kill()
+    lab.start()
+    began = time.monotonic()
+    wait_until("another ten seconds", lambda: time.monotonic() - began > 11)
+    lab.looked()
+    assert lab.mailbox.told() == [LATE]
+
+
+@pytest.mark.slow(12)
+def test_a_dead_desk_gives_no_passes(watched: Labs) -> None:
+    lab = watched("[pass]\nlate = '10s'\n", hook=False)
+    lab.farm.kill()
+    lab.tool = Tool(lab.words(), lab.folder)
+    lab.mails([LATE])
+    assert "The desk gives no answer: " in lab.mailbox.mails()[0].get_content()
+
+
+def test_one_that_is_started_again_while_passes_come_goes_on(watched: Labs) -> None:
+    """Also over a file that has no word on late passes, as an earlier version left it."""
+    lab = watched("[pass]\nlate = '1h'\n", hook=False)
+    lab.start()
+    lab.tool.kill()
+    lab.start()
+    lab.stop()
+    with contextlib.closing(sqlite3.connect(os.path.join(lab.place, "watch.db"))) as file, file:
+        file.execute("DELETE FROM seen WHERE kind = 'farm' AND key = 'late'")
+    lab.start()
+    assert (lab.tool.errors(), lab.mailbox.told()) == ("", [])
+
+
+def test_a_farm_that_gets_full_is_told_once_a_level(watched: Labs) -> None:
+    """By rows, or by the replies that they take."""
+    lab = watched("[full]\nat = [80, 95]\n")
+    lab.door.change["/status"] = {"jobs": 50000, "reservations": 29999}
+    lab.start()
+    lab.looked(5)
+    assert lab.mailbox.told() == [], "below 80 %"
+    lab.door.change["/status"] = {"jobs": 80000, "reservations": 0}
+    first = ("lab@lab.example", "farm: the farm is 80 % full")
+    lab.mails([first])
+    lab.tool.kill()
+    lab.start()
+    lab.door.change["/status"] = {"jobs": 50000, "reservations": 45000}
+    lab.mails([first, ("lab@lab.example", "farm: the farm is 95 % full")])
+    of_95 = wait_until("95 %", lambda: [it for it in lab.hook.messages() if it["level"] == 95])[0]
+    assert (of_95["jobs"], of_95["reservations"]) == (50000, 45000)
+
+
+def test_room_is_told_once_when_it_is_short_and_once_when_it_is_back(watched: Labs) -> None:
+    """Of the file system, whichever of its paths the rule names; over a restart, and also while no desk answers."""
+    rule = "[room]\npaths = ['{0}', '{0}/watch.toml']\nbelow = '{1}'\n"
+    lab = watched("[job]\nended = true\n")
+    lab.write_rules(rule.format(lab.folder, "1000 TB"))
+    lab.start()
+    wait_until("it is told", lambda: lab.hook.messages())
+    lab.stop()
+    lab.farm.kill()
+    lab.tool = Tool(lab.words(), lab.folder)
+    wait_until("it waits for the desk", lambda: "no answer from the desk" in lab.tool.errors())
+    lab.stop()
+    lab.write_rules(rule.format(lab.folder, "1 kB"))
+    lab.tool = Tool(lab.words(), lab.folder)
+    wait_until("both", lambda: len(lab.hook.messages()) > 1)
+    first, second = lab.hook.messages()
+    both = [lab.folder, f"{lab.folder}/watch.toml"]
+    assert [(it["event"], it["owner"], it["paths"]) for it in (first, second)] == [
+        ("room-low", "", both), ("room-back", "", both),
+    ]
+    assert first["subject"].startswith(f"room is short at {lab.folder}: ")
+    assert second["subject"].startswith(f"there is room again at {lab.folder}: ")
+    assert 0 < first["free"] <= first["size"]
+
+
+def test_a_path_whose_room_isnt_known_is_told_as_a_trouble(watched: Labs) -> None:
+    lab = watched("[room]\nbelow = '1 kB'\npaths = ['/no/such/path', '/']\n")
+    lab.start()
+    lab.looked(3)
+    told = "farm-watch: nobody knows what room there is at /no/such/path: No such file or directory\n"
+    assert (lab.tool.errors(), lab.mailbox.told()) == (told, [])
+
+
+def test_a_look_asks_for_three_views_and_new_jobs(watched: Labs) -> None:
+    """Nothing that grows with the farm's age, and little."""
+    rules = (
+        f"{JOBS}[hold]\nremind = '4h'\nend = '12h'\n[board]\nbad = true\nfree = true\n"
+        "[pass]\nlate = '1h'\n[full]\nat = [80]\n"
+    )
+    lab = watched(rules)
+    lab.start()
+    assert [path for _, path in lab.door.asked[:4]] == ["/status", "/types", "/queue", "/boards"]
+    lab.holds("ann", "b1")
+    waits = lab.reserves("bob", "b1")
+    job = lab.runs()
+    lab.farm.submit("true", kind="ccc", user="bob")
+    before = len(lab.door.asked)
+    lab.looked(20)
+    asked = [path for _, path in lab.door.asked[before:]]
+    assert [it for it in lab.door.asked if it[0] != "GET"] == [], "commands"
+    assert asked.count("/reservations") == 0, "what grows"
+    assert lab.door.count("/history.json") == 1, "the history, which isn't served"
+    assert asked.count(f"/jobs/{job}") <= 2
+    assert sum(it not in ("/status", "/queue", "/boards") for it in asked) <= 3
+    assert lab.farm.reservation(waits)["state"] == "waiting"
+
+
+# ---- the file, words, the unit
+
+
+@pytest.mark.parametrize("text, status, told", [
+    (f"{MAIL}[hold]\nremnd = '4h'\n", 2, "line 6: [hold] remnd: no such key: is remind meant?"),
+    ("", 2, "there is neither [mail] nor [webhook], so nobody can be told"),
+])
+def test_a_fault_of_a_file_ends_it_with_2(folder: str, text: str, status: int, told: str) -> None:
+    file = write(folder, "watch.toml", text)
+    wanted = (status, "", f"farm-watch: {file}: {told}\n")
+    assert watch("--check", file) == wanted
+    assert watch("--folder", folder, file) == wanted
+
+
+def test_a_file_that_isnt_there_ends_it_with_4() -> None:
+    status, said, told = watch("/nonexistent/watch.toml")
+    assert (status, said, told.count("\n")) == (4, "", 1)
+
+
+def test_check_tells_the_rules(folder: str) -> None:
+    file = write(folder, "good.toml", f"{MAIL}{JOBS}[hold]\nremind = '1h30m'\n")
+    told = "hold.remind (1 hour 30 minutes) by mail; "
+    told += "job.ended (Complete Incomplete Infra Canceled) by mail"
+    assert watch("--check", file) == (0, f"{file}: {told}\n", "")
+    assert watch("--check", os.path.join(TOP, "examples", "watch.toml"))[::2] == (0, "")
+
+
+@pytest.mark.parametrize("words", [["--every", "6"], ["--every", "0"], ["--nowhere"], ["good.toml", "more"]])
+def test_bad_words_end_it_with_2(words: List[str]) -> None:
+    assert watch(*words)[0] == 2
+
+
+def test_settings_of_the_environment_are_read(folder: str) -> None:
+    file = write(folder, "good.toml", f"{MAIL}{JOBS}")
+    assert watch(file, WATCH_SERVRE="x")[0] == 2, "a variable that is no setting"
+    assert watch(file, WATCH_SERVER="ftp://x")[0] == 4, "a bad server"
+
+
+def test_its_folder_is_its_own(watched: Labs) -> None:
+    lab = watched(JOBS)
+    lab.start()
+    place = os.path.realpath(lab.place)
+    told = f"farm-watch: {place} is in use by another farm-watch\n"
+    assert watch(*lab.words()[1:]) == (4, "", told)
+    lab.stop()
+    write(lab.place, "watch.db", "no database" * 100)
+    told = f"farm-watch: {place}/watch.db: file is not a database\n"
+    assert watch(*lab.words()[1:]) == (4, "", told)
+
+
+def test_try_tells_the_admins_a_word_by_each_way(watched: Labs) -> None:
+    lab = watched(JOBS)
+    taken = "mail: told lab@lab.example\n"
+    assert watch("--try", *lab.words()[1:]) == (0, f"{taken}webhook: told 127.0.0.1\n", "")
+    assert lab.mailbox.told() == [("lab@lab.example", "farm: a try")]
+    lab.hook.answer = 500
+    told = "farm-watch: webhook: 127.0.0.1: answered 500\n"
+    assert watch("--try", *lab.words()[1:]) == (4, taken, told)
+
+
+def text_of_unit(name: str) -> str:
+    with open(os.path.join(TOP, "examples", f"{name}.service"), encoding="utf-8") as file:
+        return file.read()
+
+
+def test_the_unit_begins_again_but_at_2_and_3() -> None:
+    wanted = {"StartLimitIntervalSec=0", "Restart=always", "RestartPreventExitStatus=2 3",
+              "KillMode=mixed", "ProtectSystem=full", "StateDirectory=farm-watch"}
+    assert wanted <= set(text_of_unit("farm-watch").split("\n"))
+
+
+def test_systemd_finds_no_fault_with_the_unit(folder: str) -> None:
+    wants("systemd-analyze")
+    for name in ("farm", "farm-dispatch", "farm-watch"):
+        write(folder, f"{name}.service", text_of_unit(name).replace("/usr/local/bin/", "/bin/true "))
+    words = ["systemd-analyze", "--man=no", "verify", os.path.join(folder, "farm-watch.service")]
+    ran = subprocess.run(words, capture_output=True, text=True, check=False)
+    assert (ran.returncode, ran.stderr) == (0, "")

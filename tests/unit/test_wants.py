@@ -1,0 +1,159 @@
+"""Which boards fit a claim, and what is told where it doesn't get them."""
+from __future__ import annotations
+
+from typing import Any, Dict, List, Sequence, cast
+
+import pytest
+from farm_tools import calls, wants
+from farm_tools.wants import Want
+
+Row = Dict[str, Any]
+
+
+def board(name: str, kind: str = "bbb", health: str = "Good", holder: str = "none", tags: Sequence[str] = ()) -> Row:
+    return {"name": name, "type": kind, "health": health, "holder": holder, "tags": list(tags)}
+
+
+class Views:
+    """A desk that has views alone, and knows which were asked for."""
+
+    def __init__(self, **views: Any) -> None:
+        self.views = {f"/{name}": said for name, said in views.items()}
+        self.asked: List[str] = []
+
+    def look(self, path: str) -> Any:
+        self.asked.append(path)
+        if path.startswith("/jobs/"):
+            return self.views["/jobs"][int(path[6:])]
+        return {path[1:]: self.views[path], **self.views.get("/status", {})}
+
+
+def views(*boards: Row, **more: Any) -> calls.Desk:
+    return cast(calls.Desk, Views(boards=list(boards), **more))
+
+
+def lab_of(*boards: Row, checked: Sequence[str] = (), **more: Any) -> wants.Lab:
+    return wants.Lab(views(*boards, **more), set(checked), {})
+
+
+ANY = Want("", ())
+BBB = Want("bbb", ())
+
+
+@pytest.mark.parametrize("want, fits", [
+    (ANY, True),
+    (BBB, True),
+    (Want("ccc", ()), False),
+    (Want("", ("hdmi",)), True),
+    (Want("", ("hdmi", "usb")), True),
+    (Want("", ("hdmi", "serial")), False),
+    (Want("", ("name=b1",)), True),
+    (Want("", ("name=b2",)), False),
+    (Want("ccc", ("hdmi",)), False),
+])
+def test_a_board_fits_by_its_type_and_all_tags(want: Want, fits: bool) -> None:
+    assert wants.fits(board("b1", tags=["hdmi", "usb"]), want) is fits
+
+
+@pytest.mark.parametrize("boards, told", [
+    ([], "no board fits; none can come"),
+    ([board("b1")], ""),
+    ([board("b1"), board("b2", health="Bad")], ""),
+    ([board("b1", health="Maintenance")], "1 board fits, in Maintenance; none can come"),
+    ([board("b1", health="Retired")], "1 board fits, Retired; none can come"),
+    ([board("b1", holder="job 7")], "1 board fits, held by job 7 of cat"),
+    ([board("b1", health="Bad", holder="job 7")], "1 board fits, Bad; none can come"),
+    ([board("b1", health="Unknown")], "1 board fits, Unknown until it is checked"),
+    ([board("x1", "free", health="Unknown")], ""),
+    ([board("b1", holder="job 7"), board("b2", holder="reservation 9")],
+     "2 boards fit: 2 held (job 7 of cat, reservation 9 of bob)"),
+    ([board("b1", holder="job 7"), board("b2", health="Bad"), board("b3", health="Bad")],
+     "3 boards fit: 2 Bad, 1 held (job 7 of cat)"),
+    ([board(f"b{it}", holder="job 7") for it in range(6)],
+     "6 boards fit: 6 held (job 7 of cat, job 7 of cat, job 7 of cat, job 7 of cat, 2 more)"),
+])
+def test_why_one_board_is_waited_for(boards: List[Row], told: str) -> None:
+    lab = lab_of(*boards, checked=["bbb"], jobs={7: {"owner": "cat"}},
+                 reservations=[{"number": 9, "owner": "bob"}])
+    assert lab.reason([ANY]) == told
+
+
+def test_an_owner_is_asked_for_once() -> None:
+    desk = Views(boards=[board("b1", holder="job 7")], jobs={7: {"owner": "cat"}}, reservations=[])
+    owners: Dict[str, str] = {}
+    for _ in range(3):
+        lab = wants.Lab(cast(calls.Desk, desk), set(), owners)
+        assert lab.reason([ANY]) == "1 board fits, held by job 7 of cat"
+    assert desk.asked.count("/jobs/7") == 1
+
+
+def test_a_holder_that_ended_meanwhile_is_nobodys() -> None:
+    assert lab_of(reservations=[]).owner("reservation 3") == "nobody"
+
+
+@pytest.mark.parametrize("boards, wanted, told", [
+    ([board("b1"), board("b2")], [BBB, BBB], ""),
+    ([board("b1"), board("b2", holder="job 1")], [BBB, BBB], ""),
+    ([board("b1")], [BBB, BBB], "of 2 boards (bbb) only 1 can come: no other board fits"),
+    ([board("b1"), board("b2", health="Bad")], [BBB, BBB], "of 2 boards (bbb) only 1 can come: b2 is Bad"),
+    ([board("b1"), board("c1", "ccc")], [BBB, Want("ccc", ())], ""),
+    ([board("b1")], [BBB, Want("ccc", ("hdmi",))], "no ccc with hdmi can come: no other board fits"),
+    # both want the board that is b1, though two boards are there
+    ([board("b1", tags=["hdmi"]), board("b2")], [Want("bbb", ("hdmi",)), Want("bbb", ("name=b1",))],
+     "of 2 boards (bbb with hdmi; bbb with name=b1) only 1 can come: no other board fits"),
+    # each alone and each two of them are met, and not all three
+    ([board("b1"), board("b2")], [BBB, BBB, ANY], "of 3 boards (bbb; board) only 2 can come: no other board fits"),
+])
+def test_a_group_that_no_boards_can_come_for(boards: List[Row], wanted: List[Want], told: str) -> None:
+    assert lab_of(*boards).lack(wanted) == told
+    assert lab_of(*boards).reason(wanted) == told
+
+
+@pytest.mark.parametrize("boards, met", [
+    ([board("b1"), board("b2")], True),
+    ([board("b1"), board("b2", holder="job 1")], False),
+    ([board("b1"), board("b2", health="Maintenance")], False),
+    ([board("b1"), board("b2", health="Unknown")], False),
+    ([board("b1"), board("c1", "ccc")], False),
+])
+def test_wants_are_met_by_free_boards(boards: List[Row], met: bool) -> None:
+    assert lab_of(*boards, checked=["bbb"]).is_met([BBB, BBB]) is met
+
+
+def test_types_with_a_check() -> None:
+    rows = [{"name": "bbb", "check": "hours"}, {"name": "ccc", "check": "none"}, {"name": "rpi", "check": "jobs"}]
+    assert wants.checked_types(views(types=rows)) == {"bbb", "rpi"}
+
+
+def job(kind: str = "bbb", *tags: str) -> Row:
+    return {"type": kind, "tags": list(tags)}
+
+
+def claim(number: int, kind: str = "group", boards: int = 1) -> Row:
+    return {"number": number, "kind": kind, "boards": boards}
+
+
+def test_notes_of_a_queue() -> None:
+    queue = [claim(1, boards=2), claim(3, "reservation"), claim(4, "reservation"), claim(5)]
+    desk = views(
+        board("b1"), board("b2", health="Bad"), status={"collector": 1},
+        jobs={1: job(), 2: job(), 5: job("ccc")},
+        reservations=[{"number": 3, "tags": ["name=b2"]}, {"number": 4, "tags": []}],
+    )
+    assert wants.notes_of(desk, queue) == {
+        1: "collects boards; of 2 boards (bbb) only 1 can come: b2 is Bad",
+        3: "no board with name=b2 can come: b2 is Bad",
+        4: "",
+        5: "no ccc can come: no other board fits",
+    }
+    assert wants.notes_of(desk, []) == {}
+
+
+def test_of_a_long_queue_the_first_fifty_and_the_collector_are_asked_about() -> None:
+    queue = [claim(it) for it in range(1, 81)]
+    desk = views(status={"collector": 77}, jobs={it: job() for it in range(1, 81)})
+    assert list(wants.notes_of(desk, queue)) == [*range(1, 51), 77]
+
+
+def test_a_desk_of_the_first_edition_names_no_collector() -> None:
+    assert wants.notes_of(views(board("b1"), status={}, jobs={1: job()}), [claim(1)]) == {1: ""}

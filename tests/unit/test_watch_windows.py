@@ -1,0 +1,556 @@
+"""What farm-watch sees between two looks at a desk, by a desk and a clock that are set by hand."""
+from __future__ import annotations
+
+import os
+import tempfile
+import time
+from typing import Any, Dict, Iterator, List, Optional, Sequence, Tuple
+
+import pytest
+from farm_tools import calls, watch_events, watch_holds, watch_passes, watcher
+from farm_tools.watch_file import Mail, Rules
+from farm_tools.watch_store import Store
+from farm_tools.watcher import Watcher
+
+NOW = 1_800_000_000
+HOUR = 3600
+GONE = calls.Refused(404, calls.NO_JOB, "no such job")
+
+
+class Clock:
+    """A clock in the place of the module `time`, which is set by hand."""
+
+    def __init__(self) -> None:
+        self.at = float(NOW)
+
+    def time(self) -> float:
+        return self.at
+
+    def monotonic(self) -> float:
+        return self.at
+
+    def __getattr__(self, name: str) -> Any:
+        return getattr(time, name)
+
+
+class Desk:
+    """A desk whose views are set by hand; what is asked of it is noted. It has the boards b1 and b2, Good and free."""
+
+    def __init__(self, clock: Clock) -> None:
+        self.clock = clock
+        self.count = 10
+        self.next = 1
+        self.boards = {it: self.board(it) for it in ("b1", "b2")}
+        self.queue: List[Dict[str, Any]] = []
+        self.jobs: Dict[int, Dict[str, Any]] = {}
+        self.reservations: Dict[int, Dict[str, Any]] = {}
+        self.checked = "none"
+        self.asked: List[str] = []
+        self.told: List[Tuple[str, Optional[str]]] = []
+        self.refusal: Optional[calls.Refused] = None
+        self.is_full = False
+
+    @staticmethod
+    def board(name: str) -> Dict[str, Any]:
+        return {"name": name, "type": "bbb", "tags": [], "health": "Good", "state": "Idle", "holder": "none"}
+
+    def look(self, path: str) -> Any:
+        self.asked.append(path)
+        kind, _, number = path[1:].partition("/")
+        if kind == "jobs":
+            if int(number) not in self.jobs:
+                raise GONE
+            return self.jobs[int(number)]
+        if kind == "history.json":
+            raise calls.Refused(404, calls.NO_ROUTE, "no such route")
+        return {
+            "status": {
+                "count": self.count, "next": self.next, "types": 1, "clock": int(self.clock.at),
+                "jobs": len(self.jobs), "reservations": len(self.reservations),
+            },
+            "types": {"types": [{"name": "bbb", "check": self.checked}]},
+            "queue": {"queue": self.queue},
+            "boards": {"boards": list(self.boards.values())},
+            "reservations": {"reservations": list(self.reservations.values())},
+        }[kind]
+
+    def tell(self, path: str, key: Optional[str] = None) -> Any:
+        self.told.append((path, key))
+        if self.is_full and key:
+            raise calls.Refused(409, calls.FULL, "full")
+        if self.refusal:
+            raise self.refusal
+        self.count += 1
+        row = self.reservations[int(path.split("/")[2])]
+        row["state"] = "canceled"
+        self.boards[row["board"]].update(state="Idle", holder="none")
+        return {}
+
+    # ---- what happens
+
+    def submits(self, owner: str = "ann", size: int = 1, kind: str = "job") -> int:
+        """A job of so many boards, which waits."""
+        number, self.next = self.next, self.next + size
+        for it in range(number, number + size):
+            self.jobs[it] = {
+                "number": it, "group": number, "owner": owner, "kind": kind, "state": "Waiting", "result": "",
+                "text": "job_name = 'boot'", "type": "bbb", "tags": [], "board": "", "role": "",
+            }
+        self.queue.append({"kind": "group", "number": number, "owner": owner, "boards": size})
+        self.count += 1
+        return number
+
+    def gives(self, number: int, *names: str, holder: str = "job") -> None:
+        """A pass, which gives boards to a claim that waits."""
+        self.queue = [it for it in self.queue if it["number"] != number]
+        state = "Running" if holder == "job" else "Reserved"
+        for place, name in enumerate(names):
+            self.boards[name].update(state=state, holder=f"{holder} {number + place}")
+        self.count += 1
+
+    def ends(self, number: int, result: str = "Complete") -> None:
+        self.queue = [it for it in self.queue if it["number"] != number]
+        for board in self.boards.values():
+            if board["holder"] == f"job {number}":
+                board.update(state="Idle", holder="none")
+        self.jobs[number].update(state="Finished", result=result)
+        self.count += 1
+
+    def waits(self, owner: str = "ann", tags: Sequence[str] = ()) -> int:
+        """A reservation that waits."""
+        number, self.next = self.next, self.next + 1
+        self.queue.append({"kind": "reservation", "number": number, "owner": owner, "boards": 1})
+        self.reservations[number] = {"number": number, "owner": owner, "tags": list(tags), "state": "waiting"}
+        self.count += 1
+        return number
+
+    def holds(self, name: str, begin: float, owner: str = "ann") -> int:
+        """A reservation that has had a board since a moment."""
+        number, self.next = self.next, self.next + 1
+        self.boards[name] = {**self.board(name), "state": "Running", "holder": f"reservation {number}"}
+        self.reservations[number] = {
+            "number": number, "owner": owner, "tags": [], "state": "acquired", "board": name,
+            "deadline": int(begin) + 60,
+        }
+        self.count += 1
+        return number
+
+
+def rules(**more: Any) -> Rules:
+    """Rules that tell of nothing but what is said."""
+    said: Dict[str, Any] = {
+        "desk": {}, "mail": Mail("f@x.example", "{owner}@x.example", ("l@x.example",), "/bin/true", {}),
+        "webhook": None, "remind": None, "end": None, "outcomes": (), "bad": False, "free": (), "late": None,
+        "levels": (),
+        "by": {it: ("mail",) for it in ("hold", "job", "board", "pass", "full", "room")},
+    }
+    return Rules(**{**said, **more})
+
+
+class Lab:
+    """A desk and who watches it."""
+
+    def __init__(self, file: str, clock: Clock):
+        self.file = file
+        self.clock = clock
+        self.desk = Desk(clock)
+        self.troubles: List[str] = []
+
+    def watches(self, **said: Any) -> "Lab":
+        """A process begins to watch, also after another one; it looks once."""
+        self.store = Store(self.file)
+        self.watcher = Watcher(self.desk, self.store, rules(**said), self.troubles.append)  # type: ignore[arg-type]
+        self.looks()
+        return self
+
+    def looks(self, after: float = 0) -> None:
+        self.clock.at += after
+        self.watcher.round()
+
+    def told(self) -> List[Tuple[str, str]]:
+        """Whom what was told since this was asked."""
+        found: List[Tuple[str, str]] = []
+        while True:
+            it = self.store.take("mail")
+            if it is None:
+                return found
+            self.store.done(it, "mail")
+            found.append((it.body["owner"], it.body["subject"]))
+
+
+@pytest.fixture
+def lab(monkeypatch: pytest.MonkeyPatch) -> Iterator[Lab]:
+    clock = Clock()
+    for module in (watch_events, watch_holds, watch_passes, watcher):
+        if hasattr(module, "time"):
+            monkeypatch.setattr(module, "time", clock)
+    with tempfile.TemporaryDirectory(dir="/dev/shm" if os.path.isdir("/dev/shm") else None) as folder:
+        yield Lab(f"{folder}/watch.db", clock)
+
+
+# ---- jobs
+
+ALL = {"outcomes": ("Complete", "Incomplete", "Infra", "Canceled")}
+
+
+def test_a_job_that_began_and_ended_between_two_looks_is_told(lab: Lab) -> None:
+    lab.watches(**ALL)
+    number = lab.desk.submits()
+    lab.desk.ends(number)
+    lab.looks()
+    assert lab.told() == [("ann", "job 1 (boot) has ended: Complete")]
+    lab.looks()
+    assert lab.told() == []
+
+
+def test_a_group_is_told_once_all_its_members_have_ended(lab: Lab) -> None:
+    """Also where its last member's number is found alone, since the others were asked for before."""
+    lab.watches(**ALL)
+    number = lab.desk.submits(size=2)
+    lab.desk.gives(number, "b1", "b2")
+    lab.desk.ends(number)
+    lab.looks()
+    assert lab.told() == []
+    lab.desk.ends(number + 1, "Infra")
+    lab.looks()
+    assert lab.told() == [("ann", "job 1 (boot) has ended: Complete, Infra")]
+
+
+def test_a_group_that_ended_between_two_looks_is_told_with_all_members(lab: Lab) -> None:
+    lab.watches(**ALL)
+    number = lab.desk.submits(size=3)
+    for it in range(3):
+        lab.desk.ends(number + it)
+    lab.looks()
+    assert lab.told() == [("ann", "job 1 (boot) has ended: Complete, Complete, Complete")]
+
+
+def test_what_was_open_at_the_first_look_is_told_and_what_had_ended_isnt(lab: Lab) -> None:
+    ended, runs, waits = (lab.desk.submits(owner=it) for it in ("ann", "bob", "cat"))
+    lab.desk.ends(ended)
+    lab.desk.gives(runs, "b1")
+    lab.watches(**ALL)
+    lab.desk.ends(runs)
+    lab.desk.ends(waits)
+    lab.looks()
+    assert sorted(lab.told()) == [
+        ("bob", "job 2 (boot) has ended: Complete"), ("cat", "job 3 (boot) has ended: Complete"),
+    ]
+
+
+def test_what_happened_while_nobody_watched_is_told_by_the_next_process(lab: Lab) -> None:
+    lab.watches(**ALL)
+    runs = lab.desk.submits()
+    lab.desk.gives(runs, "b1")
+    lab.looks()
+    lab.desk.ends(runs)
+    lab.desk.ends(lab.desk.submits(owner="bob"))
+    lab.watches(**ALL)
+    assert [owner for owner, _ in lab.told()] == ["ann", "bob"]
+
+
+def test_outcomes_that_arent_named_and_checks_arent_told(lab: Lab) -> None:
+    lab.watches(outcomes=("Infra",))
+    lab.desk.ends(lab.desk.submits())
+    lab.desk.ends(lab.desk.submits(kind="check"), "Infra")
+    lab.looks()
+    assert lab.told() == []
+
+
+def test_more_jobs_than_a_look_asks_for_are_told_by_the_next(lab: Lab) -> None:
+    lab.watches(**ALL)
+    for _ in range(201):
+        lab.desk.ends(lab.desk.submits())
+    for _ in range(3):
+        before = len(lab.desk.asked)
+        lab.looks()
+        assert sum(it.startswith("/jobs/") for it in lab.desk.asked[before:]) <= 200
+    assert len(lab.told()) == 201
+
+
+def test_the_next_farm_begins_its_numbers_anew(lab: Lab) -> None:
+    lab.watches(**ALL)
+    for _ in range(2):
+        lab.desk.ends(lab.desk.submits())
+    lab.looks()
+    assert len(lab.told()) == 2
+    lab.desk = lab.watcher.desk = Desk(lab.clock)  # type: ignore[assignment]
+    lab.desk.count = 3
+    lab.looks()
+    lab.desk.ends(lab.desk.submits(owner="bob"))
+    lab.looks()
+    assert lab.told() == [("bob", "job 1 (boot) has ended: Complete")]
+
+
+# ---- boards
+
+
+def test_a_board_that_goes_bad_is_told_each_time(lab: Lab) -> None:
+    """One that is Bad at the first look isn't; one that comes and is Bad is."""
+    lab.desk.boards["b1"]["health"] = "Bad"
+    lab.watches(bad=True)
+    for health in ("Bad", "Good", "Bad", "Unknown", "Bad"):
+        lab.desk.boards["b2"]["health"] = health
+        lab.desk.count += 1
+        lab.looks()
+        lab.looks()
+    assert lab.told() == [("", "board b2 is Bad")] * 3
+    lab.desk.boards["b3"] = {**Desk.board("b3"), "health": "Bad"}
+    lab.looks()
+    assert lab.told() == [("", "board b3 is Bad")]
+
+
+@pytest.mark.parametrize("free, wanted", [
+    ((), []),
+    (("reservation",), [("ann", "reservation 1 has got b1")]),
+    (("reservation", "group"), [("ann", "reservation 1 has got b1"), ("bob", "job 2 has got b2")]),
+])
+def test_who_waited_is_told_once_of_the_boards_that_were_given(
+    lab: Lab, free: Tuple[str, ...], wanted: List[Tuple[str, str]]
+) -> None:
+    lab.watches(free=free)
+    waits, job = lab.desk.waits(), lab.desk.submits(owner="bob")
+    lab.looks()
+    lab.desk.gives(waits, "b1", holder="reservation")
+    lab.desk.gives(job, "b2")
+    lab.looks()
+    lab.looks()
+    assert sorted(lab.told()) == wanted
+
+
+def test_who_didnt_wait_isnt_told(lab: Lab) -> None:
+    """It was given its board between two looks, or gave up waiting."""
+    lab.watches(free=("reservation", "group"))
+    at_once, gives_up = lab.desk.waits(), lab.desk.waits(owner="bob")
+    lab.desk.gives(at_once, "b1", holder="reservation")
+    lab.looks()
+    lab.desk.queue = [it for it in lab.desk.queue if it["number"] != gives_up]
+    lab.looks()
+    assert lab.told() == []
+
+
+# ---- holds
+
+HOLDS = {"remind": 4 * HOUR, "end": 12 * HOUR}
+
+
+def test_a_hold_is_reminded_of_and_ended_when_it_is_due_and_not_a_second_before(lab: Lab) -> None:
+    number = lab.desk.holds("h1", NOW)
+    lab.watches(**HOLDS)
+    lab.looks(after=4 * HOUR - 1)
+    assert lab.told() == []
+    lab.looks(after=1)
+    assert lab.told() == [("ann", "you have held h1 for 4 hours (reservation 1)")]
+    lab.looks(after=8 * HOUR - 1)
+    assert (lab.told(), lab.desk.told) == ([], [])
+    lab.looks(after=1)
+    assert lab.told() == [("ann", "reservation 1 was ended: you had held h1 for 12 hours")]
+    assert lab.desk.told == [(f"/reservations/{number}/cancel", "watch-end-1")]
+    lab.looks()
+    assert (lab.told(), len(lab.desk.told)) == ([], 1)
+
+
+def test_a_hold_that_was_extended_just_before_its_end_isnt_ended(lab: Lab) -> None:
+    """By what was known of it it is due, so the rows are looked at, which are looked at no more than that."""
+    extended, other = lab.desk.holds("h1", NOW - HOUR), lab.desk.holds("h2", NOW - HOUR, owner="bob")
+    lab.watches(end=12 * HOUR)
+    lab.looks(after=11 * HOUR - 5)
+    assert lab.desk.asked.count("/reservations") == 1, "at the start, when nothing is known"
+    lab.desk.reservations[extended]["deadline"] = lab.clock.at + 60
+    lab.looks(after=5)
+    assert lab.told() == [("bob", "reservation 2 was ended: you had held h2 for 12 hours")]
+    assert [lab.desk.reservations[it]["state"] for it in (extended, other)] == ["acquired", "canceled"]
+    for _ in range(10):
+        lab.looks(after=HOUR)
+    assert lab.desk.asked.count("/reservations") == 2
+    lab.looks(after=2 * HOUR)
+    assert lab.told() == [("ann", "reservation 1 was ended: you had held h1 for 12 hours")]
+
+
+@pytest.mark.parametrize("is_again", [False, True])
+def test_a_hold_that_was_extended_after_its_reminder_is_reminded_of_again(lab: Lab, is_again: bool) -> None:
+    """Its age begins anew. Also by another process; the rows are looked at once in that time."""
+    number = lab.desk.holds("h1", NOW)
+    lab.watches(remind=4 * HOUR)
+    lab.looks(after=4 * HOUR)
+    assert lab.told() == [("ann", "you have held h1 for 4 hours (reservation 1)")]
+    lab.looks(after=HOUR)
+    lab.desk.reservations[number]["deadline"] = lab.clock.at + 60
+    if is_again:
+        lab.watches(remind=4 * HOUR)
+    before = lab.desk.asked.count("/reservations")
+    for _ in range(3):
+        lab.looks(after=HOUR)
+    lab.looks(after=HOUR - 1)
+    assert lab.told() == []
+    assert lab.desk.asked.count("/reservations") == before + 1
+    lab.looks(after=1)
+    assert lab.told() == [("ann", "you have held h1 for 4 hours (reservation 1)")]
+
+
+def test_a_hold_that_wasnt_extended_is_reminded_of_once(lab: Lab) -> None:
+    lab.desk.holds("h1", NOW)
+    lab.watches(remind=4 * HOUR)
+    for _ in range(24):
+        lab.looks(after=HOUR)
+    assert len(lab.told()) == 1
+    assert lab.desk.asked.count("/reservations") <= 1 + 24 / 4
+
+
+def test_holds_count_by_the_farms_clock_where_the_machines_was_set_back(
+    lab: Lab, monkeypatch: pytest.MonkeyPatch
+) -> None:
+    """The farm's clock never goes back, and deadlines are by it."""
+    lab.desk.holds("h1", NOW)
+    lab.watches(**HOLDS)
+    back = Clock()
+    back.at = NOW - 30 * 86400.0
+    monkeypatch.setattr(watcher, "time", back)
+    lab.looks(after=4 * HOUR)
+    assert lab.told() == [("ann", "you have held h1 for 4 hours (reservation 1)")]
+
+
+@pytest.mark.parametrize("code", [calls.EXPIRED, calls.WRONG_RESERVATION_STATE, calls.NO_RESERVATION])
+def test_a_hold_that_its_owner_ended_meanwhile_isnt_told(lab: Lab, code: int) -> None:
+    lab.desk.holds("h1", NOW - 12 * HOUR)
+    lab.desk.refusal = calls.Refused(409, code, "gone")
+    lab.watches(end=12 * HOUR)
+    assert (lab.told(), lab.troubles) == ([], [])
+
+
+def test_a_hold_that_cant_be_ended_is_told_and_tried_again_after_ten_minutes(lab: Lab) -> None:
+    lab.desk.holds("h1", NOW - 12 * HOUR)
+    lab.desk.refusal = calls.Refused(403, calls.FORBIDDEN, "forbidden")
+    lab.watches(end=12 * HOUR)
+    for _ in range(9):
+        lab.looks(after=60)
+    assert (len(lab.desk.told), lab.told()) == (1, [])
+    assert lab.troubles == ["reservation 1 can't be ended: refused: 3 forbidden"]
+    lab.desk.refusal = None
+    lab.looks(after=60)
+    assert [owner for owner, _ in lab.told()] == ["ann"]
+
+
+def test_without_room_for_replies_a_hold_is_ended_without_a_key(lab: Lab) -> None:
+    lab.desk.holds("h1", NOW - 12 * HOUR)
+    lab.desk.is_full = True
+    lab.watches(end=12 * HOUR)
+    path = "/reservations/1/cancel"
+    assert lab.desk.told == [(path, "watch-end-1"), (path, None)]
+    assert [owner for owner, _ in lab.told()] == ["ann"]
+
+
+# ---- passes
+
+LATE = {"late": 60.0}
+SUBJECT = ("", "no pass for 1 minute: is farm-dispatch running?")
+
+
+def test_no_command_for_long_is_told_once(lab: Lab) -> None:
+    lab.watches(**LATE)
+    lab.looks(after=59)
+    assert lab.told() == []
+    for _ in range(3):
+        lab.looks(after=60)
+    assert lab.told() == [SUBJECT]
+
+
+def test_while_passes_come_nothing_is_told_and_then_again(lab: Lab) -> None:
+    lab.watches(**LATE)
+    for _ in range(9):
+        lab.desk.count += 1
+        lab.looks(after=59)
+    assert lab.told() == []
+    lab.looks(after=60)
+    lab.desk.count += 1
+    lab.looks(after=1)
+    lab.looks(after=60)
+    assert lab.told() == [SUBJECT] * 2
+
+
+def test_a_claim_that_free_boards_meet_shows_it_beside_others_commands(lab: Lab) -> None:
+    lab.watches(**LATE)
+    lab.desk.submits()
+    for _ in range(8):
+        lab.desk.count += 1
+        lab.looks(after=10)
+    assert lab.told() == [SUBJECT]
+
+
+@pytest.mark.parametrize("health, checked", [("Bad", "none"), ("Unknown", "hours"), ("Maintenance", "none")])
+def test_a_claim_that_no_free_board_meets_shows_nothing(lab: Lab, health: str, checked: str) -> None:
+    lab.desk.checked = checked
+    for it in lab.desk.boards.values():
+        it["health"] = health
+    lab.watches(**LATE)
+    lab.desk.submits()
+    for _ in range(8):
+        lab.desk.count += 1
+        lab.looks(after=10)
+    assert lab.told() == []
+
+
+def test_a_board_that_came_free_only_now_shows_nothing(lab: Lab) -> None:
+    """The next pass may still give it."""
+    lab.desk.holds("b1", NOW)
+    lab.desk.holds("b2", NOW)
+    lab.watches(**LATE)
+    lab.desk.submits()
+    lab.looks(after=100)
+    lab.desk.count += 1
+    lab.desk.boards["b1"].update(state="Idle", holder="none")
+    lab.looks(after=1)
+    lab.told()
+    for _ in range(5):
+        lab.desk.count += 1
+        lab.looks(after=10)
+    assert lab.told() == []
+
+
+def test_a_hold_that_farm_watch_ends_itself_is_no_sign_of_passes(lab: Lab) -> None:
+    lab.desk.holds("h1", NOW - 12 * HOUR + 30)
+    lab.watches(**LATE, end=12 * HOUR)
+    lab.looks(after=30)
+    assert [owner for owner, _ in lab.told()] == ["ann"]
+    lab.looks(after=29)
+    assert lab.told() == []
+    lab.looks(after=1)
+    assert lab.told() == [SUBJECT]
+
+
+def test_a_desk_that_gives_no_answer_is_told_once_it_is_late(lab: Lab) -> None:
+    lab.watches(**LATE)
+    for after in (30, 29, 1, 60):
+        lab.clock.at += after
+        lab.watcher.no_answer("refused")
+        assert (lab.told() != []) == (lab.clock.at == NOW + 60)
+
+
+def test_another_process_doesnt_tell_the_same_trouble_again(lab: Lab) -> None:
+    lab.watches(**LATE)
+    lab.looks(after=60)
+    assert lab.told() == [SUBJECT]
+    lab.watches(**LATE)
+    lab.looks(after=60)
+    assert lab.told() == []
+
+
+# ---- room
+
+
+@pytest.mark.parametrize("jobs, reservations, full", [
+    (0, 0, 0), (50_000, 29_999, 79.999), (80_000, 0, 80), (1, 79_999, 80), (50_000, 50_000, 100),
+])
+def test_how_full_a_farm_is(jobs: int, reservations: int, full: float) -> None:
+    """By 100,000 jobs, 100,000 reservations, and 300,000 replies, of which each takes three."""
+    assert watch_events.fullness({"jobs": jobs, "reservations": reservations}) == pytest.approx(full)
+
+
+def test_the_highest_level_is_told_once(lab: Lab, monkeypatch: pytest.MonkeyPatch) -> None:
+    full = [79.9]
+    monkeypatch.setattr(watcher, "fullness", lambda status: full[0])
+    lab.watches(levels=(80, 90, 95))
+    for level in (79.9, 80.0, 85.0, 96.0, 79.0, 96.0, 100.0):
+        full[0] = level
+        lab.looks()
+    assert lab.told() == [("", "the farm is 80 % full"), ("", "the farm is 95 % full")]
