@@ -15,6 +15,8 @@ from wants import wants
 
 PAGE = pathlib.Path(TOOLS, "page", "farm.html")
 RULES = pathlib.Path(TOP, "tests", "gate", "eslint.json")
+# (the usual format wants parts that Debian's package doesn't bring)
+ESLINT = ("eslint", "--no-eslintrc", "--format", "unix")
 
 
 def script_of(page: str) -> str:
@@ -54,7 +56,7 @@ def test_node_takes_the_script(script: pathlib.Path) -> None:
 
 def test_eslint_finds_nothing_in_the_script(script: pathlib.Path) -> None:
     wants("eslint", "node")
-    assert said(script, "eslint", "--no-eslintrc", "--max-warnings", "0", "--config", RULES) == ""
+    assert said(script, *ESLINT, "--max-warnings", "0", "--config", RULES) == ""
 
 
 FAULTS = {
@@ -72,5 +74,5 @@ def test_eslint_finds_faults_in_the_script(script: pathlib.Path) -> None:
     assert text.count(place) == 1
     lines = "".join(f"  {it}\n" for it in FAULTS.values())
     script.write_text(text.replace(place, place + lines), encoding="utf-8")
-    found = said(script, "eslint", "--no-eslintrc", "--config", RULES)
-    assert re.findall(r"error .* ([a-z-]+)$", found, re.MULTILINE) == list(FAULTS), found
+    found = said(script, *ESLINT, "--config", RULES)
+    assert re.findall(r"\[Error/([a-z-]+)\]$", found, re.MULTILINE) == list(FAULTS), found
