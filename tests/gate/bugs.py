@@ -36,6 +36,7 @@ class Bug(NamedTuple):
     why: str
     late: bool
     pairs: List[Tuple[str, str]]
+    alone: bool = False
 
 
 def bug_of(path: pathlib.Path) -> Bug:
@@ -50,13 +51,14 @@ def bug_of(path: pathlib.Path) -> Bug:
         elif kind == "new" and old is not None:
             pairs.append((old, text))
             old = None
-        elif kind in ("file", "test", "why", "late"):
+        elif kind in ("file", "test", "why", "late", "alone"):
             said[kind] = text
         elif line.strip():
             raise BadBug(f"{path.name}: what is {line!r}?")
     if not pairs or old is not None or not {"file", "test", "why"} <= said.keys():
         raise BadBug(f"{path.name}: it wants file, test, why, and pairs of old and new")
-    return Bug(path.stem, said["file"], said["test"], said["why"], said.get("late") == "yes", pairs)
+    marks = {it: said.get(it) == "yes" for it in ("late", "alone")}
+    return Bug(path.stem, said["file"], said["test"], said["why"], pairs=pairs, **marks)
 
 
 def with_bug(bug: Bug, text: str) -> str:

@@ -8,15 +8,15 @@ import resource
 import select
 import signal
 import socket
-import sqlite3
 import subprocess
 import time
 from typing import Any, Callable, Iterator, Optional, Set
 
 import pytest
 
+from libraries import made
 from orders import Orders, request
-from served import STARTED, free_port
+from served import STARTED, TOP, free_port
 from wants import lacks
 
 FIRST_TYPE = request("POST", "/types", {"x-user": "admin", "content-length": "14"}, b'{"name":"bbb"}')
@@ -92,20 +92,10 @@ def start(orders: Orders) -> Start:
     ) -> Desk:
         orders.init()
         if reservations:
-            fill(orders, reservations)
+            orders.fill(reservations)
         return Desk(orders, connections, limit, descriptors)
 
     return started
-
-
-def fill(orders: Orders, reservations: int) -> None:
-    """Puts a board that is away, and reservations for it, into an empty farm: a hundred bytes of a list each."""
-    orders.tell("/types", body={"name": "bbb"})
-    orders.tell("/boards", body={"name": "b1", "type": "bbb", "tags": []})
-    rows = ((number, "ann", 50, "name=b1", 0, 1060, "") for number in range(1, reservations + 1))
-    with contextlib.closing(sqlite3.connect(orders.path(orders.db))) as file, file:
-        file.executemany("INSERT INTO reservations VALUES (?, ?, ?, ?, ?, ?, ?)", rows)
-        file.execute("UPDATE meta SET value = ? WHERE name = 'next'", (reservations + 1,))
 
 
 def answered(client: socket.socket) -> bytes:
@@ -262,6 +252,19 @@ def test_answer_that_waits(start: Start) -> None:
     desk.ends()
 
 
+def test_without_poll(start: Start, folder: str, monkeypatch: pytest.MonkeyPatch) -> None:
+    """Where the system can't tell who is ready, clients are served in the order in which they came, and one that
+    doesn't read its answer keeps nobody waiting for long: it loses the rest of it."""
+    monkeypatch.setenv("LD_PRELOAD", made(f"{TOP}/tests/faults/no_poll.c", folder))
+    desk = start(3, reservations=100_000)
+    unread = desk.client(request("GET", "/reservations", {}))
+    assert answered(desk.client(LOOK)).startswith(b"HTTP/1.1 200 ")
+    head, _, body = answered(unread).partition(b"\r\n\r\n")
+    assert int(head.split(b"content-length: ")[1].split(b"\r\n")[0]) > len(body)
+    let_go(desk.client())
+    desk.ends()
+
+
 @pytest.mark.slow(20)
 def test_client_that_is_too_slow(start: Start) -> None:
     """A client that sends a byte now and then is let go, 10 seconds after it came at the soonest, and the next one
@@ -279,6 +282,21 @@ def test_client_that_is_too_slow(start: Start) -> None:
     assert time.monotonic() - begun >= 10
     desk.ends()
     assert desk.count() == 1
+
+
+@pytest.mark.slow(20)
+def test_too_slow_without_poll(start: Start, folder: str, monkeypatch: pytest.MonkeyPatch) -> None:
+    """There too a client that sends a byte now and then is let go in the end, and the next one is answered."""
+    monkeypatch.setenv("LD_PRELOAD", made(f"{TOP}/tests/faults/no_poll.c", folder))
+    desk = start(2)
+    begun = time.monotonic()
+    slow = desk.client(b"GET /status HTTP/1.1\r\nx-filler: ")
+    behind = desk.client(LOOK)
+    while time.monotonic() < begun + 100 and not select.select([slow], [], [], 0.1)[0]:
+        slow.sendall(b"x")
+    assert time.monotonic() < begun + 100
+    assert answered(behind).startswith(b"HTTP/1.1 200 ")
+    desk.ends()
 
 
 def test_descriptors_that_run_out(start: Start) -> None:

@@ -1,8 +1,10 @@
 """The program's orders over a farm's file: what they print, and requests to `farm once`."""
 from __future__ import annotations
 
+import contextlib
 import json
 import os
+import sqlite3
 import subprocess
 from typing import Any, Dict, List, NamedTuple, Optional, Union
 
@@ -62,6 +64,15 @@ class Orders:
 
     def init(self) -> None:
         self.prints("ready", "init", "--db", self.db)
+
+    def fill(self, reservations: int, owner: str = "ann") -> None:
+        """Puts a board that is away, and reservations for it, into an empty farm: a hundred bytes of a list each."""
+        self.tell("/types", body={"name": "bbb"})
+        self.tell("/boards", body={"name": "b1", "type": "bbb", "tags": []})
+        rows = ((number, owner, 50, "name=b1", 0, 1060, "") for number in range(1, reservations + 1))
+        with contextlib.closing(sqlite3.connect(self.path(self.db))) as file, file:
+            file.executemany("INSERT INTO reservations VALUES (?, ?, ?, ?, ?, ?, ?)", rows)
+            file.execute("UPDATE meta SET value = ? WHERE name = 'next'", (reservations + 1,))
 
     def once(
         self, method: str, path: str, user: str = "", body: Body = None, key: str = "", at: int = 1000
