@@ -22,13 +22,13 @@ PLAIN_EXIT, PLAIN_KILL = os._exit, os.kill
 def begin() -> None:
     """Begins to count, where Debian's coverage is there and asked for."""
     try:
-        import coverage
+        import coverage  # type: ignore[import]
     except ImportError:
         return  # another Python than Debian's
     counts = coverage.process_startup()
     if counts is None:
         return
-    busy = []
+    busy: list[bool] = []
 
     def save() -> None:
         if not busy:
