@@ -22,6 +22,8 @@ status 1 where anything deviated.
 SECONDS is how long people work, 430 where no number is given (at least 300, for holds to end and
 sixty kills to come); SEED makes the same people again.
 """
+from __future__ import annotations
+
 import collections
 import contextlib
 import datetime
@@ -39,7 +41,7 @@ import sys
 import tempfile
 import threading
 import time
-from typing import NamedTuple
+from typing import Any, Callable, Counter, Dict, List, NamedTuple, Optional, Sequence, Set, Tuple, Union
 
 sys.path.insert(0, os.path.join(os.path.dirname(os.path.abspath(__file__)), "../shared"))
 from desks import DESK, write  # noqa: E402
@@ -77,6 +79,11 @@ METRIC = re.compile(r"(fizgruk_\w+)(\{\w+=\"[^\"]*\"(?:,\w+=\"[^\"]*\")*\})? (-?
 GONE = (31, 32)  # refusals of a reservation that ended meanwhile
 
 
+Row = Dict[str, Any]
+Hold = Tuple[int, str, float]  # a reservation's number, its board, and since when
+Notes = Tuple[List[float], List[float], Set[str]]  # when a job's command began and ended, and its boards
+
+
 class Command(NamedTuple):
     """A command that was accepted, and the moments at which it was sent first and answered."""
 
@@ -86,18 +93,18 @@ class Command(NamedTuple):
     key: str
     sent: float
     answered: float
-    said: dict
+    said: Dict[str, Any]
 
 
 class Submitted(NamedTuple):
     """A job or group that was submitted: its boards, and how its command ends."""
 
-    count: int
+    boards: int
     ends: str
     answered: float
 
 
-def lab_file(boards):
+def lab_file(boards: Sequence[str]) -> str:
     types = [f"[types.{name}]\n" + (f"check = '{unit}'\nevery = {every}\n" if every else "")
              for name, (unit, every) in TYPES.items()]
     rows = [f"[boards.{it}]\ntype = '{it[:-3]}'\ntags = ['serial', 'rack={it[-1]}']\n"
@@ -108,18 +115,18 @@ def lab_file(boards):
 class Lab:
     """The desk, its tools, and all that is known of them from outside."""
 
-    def __init__(self, program, room, seconds):
+    def __init__(self, program: str, room: str, seconds: int) -> None:
         self.room = room
-        self.deviations = []
-        self.commands = []
-        self.submitted = {}
-        self.canceled = set()
-        self.reservations = []
-        self.forgotten = []
-        self.holds = []  # board, begin, end, whose
-        self.kills = collections.Counter()
-        self.copies = []  # folder, begin, end
-        self.lags = []
+        self.deviations: List[str] = []
+        self.commands: List[Command] = []
+        self.submitted: Dict[int, Submitted] = {}
+        self.canceled: Set[int] = set()
+        self.reservations: List[int] = []
+        self.forgotten: List[int] = []
+        self.holds: List[Tuple[str, float, float, str]] = []  # board, begin, end, whose
+        self.kills: Counter[str] = collections.Counter()
+        self.copies: List[Tuple[str, float, float]] = []  # folder, begin, end
+        self.lags: List[float] = []
         self.counts = itertools.count()
         self.runs, self.withs = f"{room}/runs", f"{room}/withs"
         self.dispatch_folder = f"{room}/dispatch"
@@ -127,7 +134,7 @@ class Lab:
         self.farm = self.aged_farm(program, seconds)
         self.first = self.look("/status")["next"]
         self.write_files()
-        self.tools = {}
+        self.tools: Dict[str, Tool] = {}
         for name in ("dispatcher", "watcher", "follower"):
             os.mkdir(f"{room}/{name}")
             self.start(name)
@@ -136,7 +143,7 @@ class Lab:
         self.over = time.monotonic() + seconds
         self.drained = threading.Event()
 
-    def aged_farm(self, program, seconds):
+    def aged_farm(self, program: str, seconds: int) -> Farm:
         """A farm whose boards were checked an hour ago, less some part of the days."""
         farm = Farm(program, self.room, [])
         farm.kill()
@@ -154,7 +161,7 @@ class Lab:
         farm.start()
         return farm
 
-    def write_files(self):
+    def write_files(self) -> None:
         self.command_file = write(self.room, "command", COMMAND, 0o755)
         self.with_file = write(self.room, "with", WITH, 0o755)
         write(self.room, "late.toml", lab_file(EARLY + LATE))
@@ -182,7 +189,7 @@ late = '10s'
 at = [80, 95]
 """)
 
-    def start(self, name):
+    def start(self, name: str) -> None:
         words = {
             "dispatcher": ["farm-dispatch", "--server", self.farm.server, "--folder",
                            self.dispatch_folder, "--every", "1", self.command_file],
@@ -193,7 +200,7 @@ at = [80, 95]
         }[name]
         self.tools[name] = Tool(words, f"{self.room}/{name}", RUNS=self.runs)
 
-    def kill(self, name):
+    def kill(self, name: str) -> None:
         self.kills[name] += 1
         if name == "desk":
             self.farm.kill()
@@ -204,14 +211,14 @@ at = [80, 95]
 
     # ---- what people do
 
-    def wrong(self, what):
+    def wrong(self, what: str) -> None:
         self.deviations.append(what)
         print(f"lab_days: {what}", file=sys.stderr, flush=True)
 
-    def left(self):
+    def left(self) -> float:
         return self.over - time.monotonic()
 
-    def ask(self, user, method, path, body=None, key=None):
+    def ask(self, user: str, method: str, path: str, body: object = None, key: Optional[str] = None) -> Tuple[int, Any]:
         """An answer, asked for again until it comes."""
         until = time.monotonic() + 60
         while True:
@@ -223,10 +230,10 @@ at = [80, 95]
                 raise TimeoutError(f"no answer to {method} {path} for a minute")
             time.sleep(0.05)
 
-    def look(self, path):
+    def look(self, path: str) -> Any:
         return self.ask("ann", "GET", path)[1]
 
-    def command(self, user, path, body=None, refused=()):
+    def command(self, user: str, path: str, body: object = None, refused: Sequence[int] = ()) -> Any:
         """Gives a command under a fresh key. Returns what it was answered, None where it was
         refused, as by these codes it may be."""
         key, sent = f"days-{next(self.counts)}", time.time()
@@ -238,7 +245,7 @@ at = [80, 95]
             self.wrong(f"{user} POST {path} {body}: refused: {said}")
         return None
 
-    def desk(self, user, *words, **more):
+    def desk(self, user: str, *words: str, **more: str) -> str:
         """Runs the client, which has to end well. Returns what it prints."""
         ran = subprocess.run(
             [sys.executable, DESK, *words], capture_output=True, text=True, timeout=240,
@@ -249,12 +256,12 @@ at = [80, 95]
             self.wrong(f"{user}: desk {' '.join(words)}: status {ran.returncode}: {ran.stderr}")
         return ran.stdout
 
-    def told(self, event, field, value):
+    def told(self, event: str, field: str, value: object) -> Any:
         """What the webhook was told of an event, if it was."""
         return next((it for it in self.hook.messages()
                      if it["event"] == event and it[field] == value), None)
 
-    def waits(self, seconds, call):
+    def waits(self, seconds: float, call: Callable[[], Any]) -> Any:
         """What a call gives, once it gives something, within so long."""
         until = time.monotonic() + seconds
         while time.monotonic() < until:
@@ -264,12 +271,12 @@ at = [80, 95]
             time.sleep(0.2)
         return None
 
-    def history(self):
+    def history(self) -> List[Row]:
         text = read(f"{self.dispatch_folder}/history.jsonl")
         return [json.loads(it) for it in text.split("\n")[:-1]]
 
 
-def at(farm, moment, user, path, body=None, method="POST"):
+def at(farm: Farm, moment: int, user: str, path: str, body: object = None, method: str = "POST") -> Any:
     """Gives a command at a moment to a farm that isn't served."""
     sent = json.dumps(body).encode() if body else b""
     head = f"{method} {path} HTTP/1.1\r\nx-user: {user}\r\ncontent-length: {len(sent)}\r\n\r\n"
@@ -278,14 +285,14 @@ def at(farm, moment, user, path, body=None, method="POST"):
     return json.loads(ran.stdout.partition(b"\r\n\r\n")[2])
 
 
-def at_view(farm, moment, path):
+def at_view(farm: Farm, moment: int, path: str) -> Any:
     return at(farm, moment, "admin", path, method="GET")
 
 
 # ---- people: each is a thread
 
 
-def text_of(boards, ends, dice):
+def text_of(boards: int, ends: str, dice: random.Random) -> str:
     """A job file of so many boards, of one role or of two."""
     head = (f"job_name = 'days'\npriority = '{dice.choice(['low', 'medium', 'high'])}'\n"
             f"takes = {dice.uniform(0.1, 2):.2f}\nends = '{ends}'\n")
@@ -298,9 +305,9 @@ def text_of(boards, ends, dice):
                           for role, kind, count in roles)
 
 
-def submits(lab, user, plan, dice):
+def submits(lab: Lab, user: str, plan: Sequence[Tuple[float, int]], dice: random.Random) -> None:
     """Submits jobs at the moments of a plan, and cancels one in ten a while later."""
-    cancels = []
+    cancels: List[Tuple[float, int]] = []
     begin = time.monotonic()
     for moment, boards in sorted(plan):
         while time.monotonic() < begin + moment:
@@ -317,7 +324,7 @@ def submits(lab, user, plan, dice):
         cancels = cancel_due(lab, user, cancels)
 
 
-def cancel_due(lab, user, cancels):
+def cancel_due(lab: Lab, user: str, cancels: List[Tuple[float, int]]) -> List[Tuple[float, int]]:
     """Cancels what is due, and returns the rest. What has ended is refused with 21."""
     for moment, number in cancels:
         if moment <= time.monotonic() and lab.command(user, f"/jobs/{number}/cancel", refused=[21]):
@@ -325,7 +332,7 @@ def cancel_due(lab, user, cancels):
     return [it for it in cancels if it[0] > time.monotonic()]
 
 
-def gets(lab, user, tags, dice):
+def gets(lab: Lab, user: str, tags: List[str], dice: random.Random) -> Optional[Hold]:
     """Reserves, waits and acquires: the reservation's number, its board, and since when."""
     body = {"tags": tags, "priority": dice.choice(["low", "medium", "high"])}
     number = lab.command(user, "/reservations", body)["number"]
@@ -345,7 +352,7 @@ def gets(lab, user, tags, dice):
     return (number, board, time.time()) if acquired else None
 
 
-def gives_back(lab, user, hold, *ways):
+def gives_back(lab: Lab, user: str, hold: Hold, *ways: str) -> None:
     """Gives a board back, which nobody took away meanwhile."""
     number, board, begin = hold
     lab.holds.append((board, begin, time.time(), f"reservation {number}"))
@@ -353,11 +360,11 @@ def gives_back(lab, user, hold, *ways):
         lab.command(user, f"/reservations/{number}/{way}")
 
 
-def wants(dice):
+def wants(dice: random.Random) -> List[str]:
     return [dice.choice(["serial", "rack=1", "rack=2", f"name={dice.choice(EARLY)}"])]
 
 
-def holds(lab, user, dice):
+def holds(lab: Lab, user: str, dice: random.Random) -> None:
     """Holds a board for some seconds, again and again."""
     while lab.left() > 10:
         hold = gets(lab, user, wants(dice), dice)
@@ -367,7 +374,7 @@ def holds(lab, user, dice):
         time.sleep(dice.uniform(0, 5))
 
 
-def forgets(lab, user, dice):
+def forgets(lab: Lab, user: str, dice: random.Random) -> None:
     """Holds boards until farm-watch ends that."""
     while lab.left() > END + 10:
         hold = gets(lab, user, ["serial"], dice)
@@ -384,31 +391,34 @@ def forgets(lab, user, dice):
         lab.holds.append((board, begin, message["at"], f"reservation {number}"))
 
 
-def extends(lab, user, dice):
+def extends(lab: Lab, user: str, dice: random.Random) -> None:
     """Holds boards for longer than they would be ended after, extended at the reminder."""
     while lab.left() > END + 30:
         hold = gets(lab, user, ["serial"], dice)
         if not hold:
             continue
-        if not lab.waits(END, lambda: lab.told("hold-reminder", "reservation", hold[0])):
-            lab.wrong(f"the owner of reservation {hold[0]} isn't reminded")
-        lab.desk(user, "extend", str(hold[0]))
+        number = hold[0]
+        if not lab.waits(END, lambda: lab.told("hold-reminder", "reservation", number)):
+            lab.wrong(f"the owner of reservation {number} isn't reminded")
+        lab.desk(user, "extend", str(number))
         time.sleep(max(5.0, hold[2] + END + 15 - time.time()))
         gives_back(lab, user, hold, "cancel")
 
 
-def runs_with(lab, user, dice):
+def runs_with(lab: Lab, user: str, dice: random.Random) -> None:
     """A script that runs commands with boards by the client."""
     while lab.left() > 20:
         lab.desk(user, "with", *wants(dice), "--", lab.with_file, WITHS=lab.withs)
         time.sleep(dice.uniform(3, 12))
 
 
-def administers(lab, user, dice):
+def administers(lab: Lab, user: str, dice: random.Random) -> None:
     """Mends what went Bad once that is told, takes boards out for seconds, imports two boards. What
     is mended is in Maintenance for longer than a look and a start of farm-watch take: it may miss
     what lasts less, and so a board that is Bad again at the next look."""
-    seen, out, imported = set(), {}, False
+    seen: Set[str] = set()
+    out: Dict[str, Tuple[float, str]] = {}
+    imported = False
     due, import_at = time.monotonic() + 10, lab.over - 0.66 * lab.left()
     while not lab.drained.is_set():
         time.sleep(0.5)
@@ -437,13 +447,13 @@ def administers(lab, user, dice):
 # ---- what goes on beside them
 
 
-def kills(lab, dice):
+def kills(lab: Lab, dice: random.Random) -> None:
     while lab.left() > 0:
         time.sleep(dice.uniform(1, 7))
         lab.kill(dice.choice(["desk", "dispatcher", "watcher"]))
 
 
-def copies(lab, dice):
+def copies(lab: Lab, dice: random.Random) -> None:
     while lab.left() > 5:
         begin = time.time()
         words = [sys.executable, f"{TOOLS}/farm-backup", "--program", lab.farm.program, "--db",
@@ -457,17 +467,17 @@ def copies(lab, dice):
         time.sleep(dice.uniform(3, 20))
 
 
-def measures(lab, _):
+def measures(lab: Lab, _: object) -> None:
     while not lab.drained.is_set():
         check_metrics(lab)
         lab.drained.wait(4)
 
 
-def outcomes_of(lab):
+def outcomes_of(lab: Lab) -> Counter[str]:
     return collections.Counter(it["outcome"] for it in lab.history() if it["kind"] == "job")
 
 
-def check_metrics(lab, quiet=False):
+def check_metrics(lab: Lab, quiet: bool = False) -> None:
     """Runs farm-metrics: its text parses, and its counts are those of the history meanwhile."""
     file, before = f"{lab.room}/farm.prom", outcomes_of(lab)
     ran = subprocess.run(
@@ -480,11 +490,12 @@ def check_metrics(lab, quiet=False):
         lab.wrong(it)
 
 
-def faults_of_metrics(status, text, before, after, quiet):
+def faults_of_metrics(status: int, text: str, before: Counter[str], after: Counter[str], quiet: bool) -> List[str]:
     """What is wrong with a text of farm-metrics beside the outcomes that the history had before it
     and after it. While nothing is killed (quiet) the desk has to be up."""
-    found = [METRIC.fullmatch(it) for it in text.splitlines() if not it.startswith("# ")]
-    if None in found:
+    lines = [it for it in text.splitlines() if not it.startswith("# ")]
+    found = [it for it in map(METRIC.fullmatch, lines) if it]
+    if len(found) < len(lines):
         return [f"farm-metrics wrote a line that isn't a metric:\n{text}"]
     values, faults = {it[1] + (it[2] or ""): float(it[3]) for it in found}, []
     up = values.get("fizgruk_up")
@@ -497,7 +508,7 @@ def faults_of_metrics(status, text, before, after, quiet):
     return faults
 
 
-def watches_boards(lab, _):
+def watches_boards(lab: Lab, _: object) -> None:
     """Looks at the boards and reservations: none is held twice, no group has begun in part."""
     while not lab.drained.is_set():
         check_boards(lab, lab.look("/boards")["boards"])
@@ -508,19 +519,19 @@ def watches_boards(lab, _):
         time.sleep(0.5)
 
 
-def check_boards(lab, boards):
+def check_boards(lab: Lab, boards: Sequence[Row]) -> None:
     holders = collections.Counter(it["holder"] for it in boards if it["holder"] != "none")
     for holder, count in holders.items():
         if count > 1:
             lab.wrong(f"{holder} holds {count} boards")
     states = {it["holder"]: it["state"] for it in boards}
     for number, job in list(lab.submitted.items()):
-        found = {states.get(f"job {it}") for it in range(number, number + job.count)}
+        found = {states.get(f"job {it}") for it in range(number, number + job.boards)}
         if {"Running", "Reserved"} <= found:
             lab.wrong(f"group {number} has begun in part")
 
 
-def check_reservations(lab, rows):
+def check_reservations(lab: Lab, rows: Sequence[Row]) -> None:
     held = collections.Counter(
         it["board"] for it in rows if it["state"] in ("allocated", "acquired")
     )
@@ -529,7 +540,7 @@ def check_reservations(lab, rows):
             lab.wrong(f"{board} is held by {count} reservations")
 
 
-def moment_of(folder):
+def moment_of(folder: str) -> float:
     """The moment that a standby names; 0 where there is none yet."""
     text = read(f"{folder}/as-of").strip()
     if not text:
@@ -540,7 +551,7 @@ def moment_of(folder):
 # ---- the days
 
 
-def plans_of(seconds, dice):
+def plans_of(seconds: int, dice: random.Random) -> List[List[Tuple[float, int]]]:
     """When four people submit what: a hundred single jobs and a hundred groups, of which eighty
     come in two bursts."""
     sizes = [1] * 100 + [dice.choice([2, 2, 3, 4]) for _ in range(100)]
@@ -551,8 +562,8 @@ def plans_of(seconds, dice):
     return [both[it::4] for it in range(4)]
 
 
-def begins(lab, call, name, *words):
-    def run():
+def begins(lab: Lab, call: Callable[..., None], name: str, *words: object) -> threading.Thread:
+    def run() -> None:
         try:
             call(lab, *words)
         except (Exception, SystemExit) as fault:  # what a person stumbles over is no end of the day
@@ -563,11 +574,11 @@ def begins(lab, call, name, *words):
     return thread
 
 
-def lives(lab, seconds, dice):
+def lives(lab: Lab, seconds: int, dice: random.Random) -> float:
     """Lets people work until the days are over and all is given back. Returns the moment at which
     the follower was killed, while they worked."""
 
-    def chance():
+    def chance() -> random.Random:
         return random.Random(dice.random())
 
     people = [begins(lab, submits, user, user, plan, chance())
@@ -595,36 +606,37 @@ def lives(lab, seconds, dice):
     return killed
 
 
-def busy(lab):
+def busy(lab: Lab) -> List[object]:
     """What waits, and the boards that are held or don't serve; a board of a type without a check
     serves while it is Unknown, too."""
     boards = [(it["name"], it["health"], it["holder"]) for it in lab.look("/boards")["boards"]
               if it["holder"] != "none" or it["health"] != "Good"
               and (it["type"], it["health"]) != ("qemu", "Unknown")]
-    return lab.look("/queue")["queue"] + boards
+    return [*lab.look("/queue")["queue"], *boards]
 
 
-def mailed(lab):
+def mailed(lab: Lab) -> Set[str]:
     return {it["message-id"].strip("<>").partition("@")[0] for it in lab.mailbox.mails()}
 
 
 # ---- what is demanded at the end
 
 
-def check_keys(lab):
+def check_keys(lab: Lab) -> None:
     """Sends all again, once the dispatcher has ended, to a desk that was killed: each command is
     answered as it was, and none is done again."""
     lab.farm.kill()
     lab.farm.start()
     count = lab.look("/status")["count"]
     sent = [(it.user, it.path, it.body, it.key, it.said) for it in lab.commands]
+    identity = read(f"{lab.dispatch_folder}/id").strip()
     for row in lab.history():
         if row["kind"] == "job" and row["outcome"] != "Canceled":
             group, job = row["group"], row["job"]
-            sent.append(("dispatcher", f"/jobs/{group}/start", None, f"start-{group}",
+            sent.append(("dispatcher", f"/jobs/{group}/start", None, f"start-{identity}-{group}",
                          {"number": group}))
             sent.append(("dispatcher", f"/jobs/{job}/finish", {"outcome": row["outcome"]},
-                         f"finish-{job}", {"number": job}))
+                         f"finish-{identity}-{job}", {"number": job}))
     for user, path, body, key, said in sent:
         answer = lab.ask(user, "POST", path, body, key)
         if answer != (200, said):
@@ -633,9 +645,9 @@ def check_keys(lab):
         lab.wrong("what was sent again was done again")
 
 
-def notes_of(file):
-    """The begins and ends that commands noted: of each number its begins, ends and boards."""
-    found = collections.defaultdict(lambda: ([], [], set()))
+def notes_of(file: str) -> Dict[int, Notes]:
+    """The begins and ends that commands noted: of each number its begins, ends and boards; none of another."""
+    found: Dict[int, Notes] = collections.defaultdict(lambda: ([], [], set()))
     for line in read(file).splitlines():
         it = NOTE.fullmatch(line)
         if it:
@@ -645,18 +657,19 @@ def notes_of(file):
     return found
 
 
-def check_jobs(lab):
+def check_jobs(lab: Lab) -> Tuple[Dict[int, str], List[float]]:
     """Each job's line, outcome, and runs of its command. Returns the waits of those that ran."""
-    status, notes, waits = lab.look("/status"), notes_of(lab.runs), []
+    status, notes = lab.look("/status"), notes_of(lab.runs)
+    waits: List[float] = []
     lines = collections.Counter(it["job"] for it in lab.history() if it["kind"] == "job")
     outcomes = {it["job"]: it["outcome"] for it in lab.history() if it["kind"] == "job"}
-    groups = collections.defaultdict(list)
+    groups: Dict[int, List[Row]] = collections.defaultdict(list)
     for number in range(lab.first, status["next"]):
         code, job = lab.ask("ann", "GET", f"/jobs/{number}")
         if code != 200:
             continue
         groups[job["group"]].append(job)
-        begun, _, _ = notes.get(job["group"], ([], [], set()))
+        begun = notes[job["group"]][0]
         least = 1 if job["result"] != "Canceled" or begun else 0
         if job["state"] != "Finished" or not least <= lines[number] <= 1:
             lab.wrong(f"job {number} is {job['state']} and has {lines[number]} lines")
@@ -668,40 +681,40 @@ def check_jobs(lab):
         lab.wrong("the history has jobs that the desk hasn't")
     for number, job in lab.submitted.items():
         check_group(lab, number, job, groups.get(number, []), notes)
-        if notes.get(number, ([],))[0]:
+        if notes[number][0]:
             waits.append(notes[number][0][0] - job.answered)
     return outcomes, sorted(waits)
 
 
-def check_group(lab, number, job, members, notes):
+def check_group(lab: Lab, number: int, job: Submitted, members: Sequence[Row], notes: Dict[int, Notes]) -> None:
     """A group is there whole, ended as its command meant, and began with all its boards."""
     results = {it["result"] for it in members}
     wanted = {"Canceled"} if number in lab.canceled else {MEANS[job.ends]}
-    if len(members) != job.count or results != wanted:
-        lab.wrong(f"group {number}: {len(members)} of {job.count} members, {results} for {wanted}")
-    begun, _, boards = notes.get(number, ([], [], set()))
-    if begun and (boards != {it["board"] for it in members} or len(boards) != job.count):
+    if len(members) != job.boards or results != wanted:
+        lab.wrong(f"group {number}: {len(members)} of {job.boards} members, {results} for {wanted}")
+    begun, _, boards = notes[number]
+    if begun and (boards != {it["board"] for it in members} or len(boards) != job.boards):
         lab.wrong(f"group {number} began with the boards {sorted(boards)}")
     rows = {(it["began"], it["ended"]) for it in lab.history() if it.get("group") == number}
     if len(rows) > 1:
         lab.wrong(f"the members of group {number} began at different moments")
 
 
-def check_holders(lab):
+def check_holders(lab: Lab) -> None:
     """By what commands and people noted, no board was used by two at once."""
-    used = collections.defaultdict(list)
+    used: Dict[str, List[Tuple[float, float, str]]] = collections.defaultdict(list)
     for board, begin, end, who in lab.holds:
         used[board].append((begin, end, who))
     for number, (begun, ended, boards) in notes_of(lab.runs).items():
         for board in boards:
             used[board] += [(one, other, f"job {number}") for one, other in zip(begun, ended)]
-    begun = {}
+    since: Dict[str, float] = {}
     for line in read(lab.withs).splitlines():
         kind, _, moment, board = line.split()
         if kind == "begin":
-            begun[board] = float(moment)
+            since[board] = float(moment)
         else:
-            used[board].append((begun.pop(board), float(moment), "a desk with"))
+            used[board].append((since.pop(board), float(moment), "a desk with"))
     for board, spans in used.items():
         spans.sort()
         for one, other in zip(spans, spans[1:]):
@@ -709,7 +722,7 @@ def check_holders(lab):
                 lab.wrong(f"{board} was held twice: {one}, {other}")
 
 
-def check_told(lab):
+def check_told(lab: Lab) -> Tuple[Counter[str], int]:
     """Each event was told once by both ways. Returns how many there were of each kind, and how
     often something came again."""
     messages, mails = lab.hook.messages(), mailed(lab)
@@ -726,7 +739,7 @@ def check_told(lab):
     return told, again
 
 
-def rows_of(db, place):
+def rows_of(db: str, place: str) -> Dict[str, Any]:
     """The rows of a farm's two files, which are copied first, so that they stay as they are."""
     os.makedirs(place)
     for end in ("", "-wal"):
@@ -741,7 +754,7 @@ def rows_of(db, place):
         }
 
 
-def check_copy(lab, name, db, final, due, killed):
+def check_copy(lab: Lab, name: str, db: str, final: Dict[str, Any], due: float, killed: float) -> None:
     """A copy opens, holds no board twice, and is the farm after a prefix: it has what was answered
     before `due`, nothing that was sent after `killed`, and no command without all that were
     answered before that was sent."""
@@ -764,7 +777,7 @@ def check_copy(lab, name, db, final, due, killed):
     shutil.rmtree(place)
 
 
-def check_report(lab, name, db):
+def check_report(lab: Lab, name: str, db: str) -> None:
     """Both reports of a farm that isn't served open it, and show each holder once."""
     for which in ("boards", "reservations"):
         ran = subprocess.run([lab.farm.program, "report", "--db", db, which], capture_output=True,
@@ -777,7 +790,7 @@ def check_report(lab, name, db):
                 lab.wrong(f"{name}: the report has a holder twice:\n{ran.stdout}")
 
 
-def check_copies(lab, killed, standby):
+def check_copies(lab: Lab, killed: float, standby: float) -> None:
     """All copies and the standby, beside the farm at its end, which isn't served any more."""
     final = rows_of(lab.farm.db, f"{lab.room}/final")
     check_report(lab, "the farm at its end", f"{lab.room}/final/farm.db")
@@ -787,7 +800,7 @@ def check_copies(lab, killed, standby):
     check_copy(lab, "the standby", db, final, standby, killed)
 
 
-def ends_tools(lab):
+def ends_tools(lab: Lab) -> None:
     """Ends the tools; none tells of a fault of its own."""
     for name in ("dispatcher", "watcher"):
         lab.tools[name].send(signal.SIGTERM)
@@ -799,13 +812,13 @@ def ends_tools(lab):
             lab.wrong(f"the {name} tells: {tool.errors()}")
 
 
-def ends_desk(lab):
+def ends_desk(lab: Lab) -> None:
     lab.farm.kill()
     if lab.waits(20, lambda: not processes_of(lab.room)) is None:
         lab.wrong(f"processes that are left: {processes_of(lab.room)}")
 
 
-def processes_of(room):
+def processes_of(room: str) -> List[str]:
     """The words of the processes that have a file of the lab's folder among them."""
     found = []
     for name in os.listdir("/proc"):
@@ -821,18 +834,20 @@ def processes_of(room):
 # ---- the figures
 
 
-def share(numbers, percent):
+def share(numbers: Sequence[float], percent: int) -> float:
     """The least number that so many of a hundred don't exceed."""
     return sorted(numbers)[-(-len(numbers) * percent // 100) - 1] if numbers else 0.0
 
 
-def counted(counter):
+def counted(counter: Counter[str]) -> str:
     return ", ".join(f"{count} {name}" for name, count in sorted(counter.items()))
 
 
-def show(lab, outcomes, waits, told, again, commands):
-    sizes = collections.Counter(it.count for it in lab.submitted.values())
-    checks = len(outcomes) - sum(it.count for number, it in lab.submitted.items()
+def show(
+    lab: Lab, outcomes: Dict[int, str], waits: Sequence[float], told: Counter[str], again: int, commands: int
+) -> None:
+    sizes = collections.Counter(it.boards for it in lab.submitted.values())
+    checks = len(outcomes) - sum(it.boards for number, it in lab.submitted.items()
                                  if number in outcomes)
     longest = max(lab.holds, key=lambda it: it[2] - it[1])
     rows = [
@@ -857,13 +872,13 @@ def show(lab, outcomes, waits, told, again, commands):
     print(f"{'deviated':<16} {'; '.join(lab.deviations) or 'nothing'}", flush=True)
 
 
-def main(program, seconds=430, seed=None):
-    seed = int(seed or random.randrange(10**6))
-    print(f"lab_days: {seconds} s, seed {seed}", flush=True)
+def main(program: str, seconds: Union[int, str] = 430, seed: Optional[str] = None) -> int:
+    dice = int(seed or random.randrange(10**6))
+    print(f"lab_days: {seconds} s, seed {dice}", flush=True)
     with tempfile.TemporaryDirectory() as room:
         room = os.path.realpath(room)
         lab = Lab(os.path.realpath(program), room, int(seconds))
-        killed = lives(lab, int(seconds), random.Random(seed))
+        killed = lives(lab, int(seconds), random.Random(dice))
         check_metrics(lab, quiet=True)
         outcomes, waits = check_jobs(lab)
         check_holders(lab)
