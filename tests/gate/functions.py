@@ -1,7 +1,9 @@
 """The functions of a crate's source files, which stand as rt fmt leaves them."""
+from __future__ import annotations
+
 import os
 import re
-from typing import NamedTuple
+from typing import Dict, List, NamedTuple, Sequence, Tuple
 
 FUNCTION = re.compile(r"( *)(?:pub(?:\([a-z]+\))? )?(?:(?:const|unsafe) )*fn (\w+)")
 TYPE = re.compile(r"(?m)^(?:pub(?:\([a-z]+\))? )?(?:struct|enum) (\w+)")
@@ -16,32 +18,32 @@ class Function(NamedTuple):
     first: int
     last: int
 
-    def proof_folders(self):
+    def proof_folders(self) -> Tuple[str, ...]:
         """The folders of its proof files. One that calls itself has a + before its name."""
         *above, own = self.name.split("::")[1:]
         return tuple("/".join(["proofs", *above, it, ""]) for it in (own, f"+{own}"))
 
-    def has(self, file, line):
+    def has(self, file: str, line: int) -> bool:
         """Whether this place lies in the function or in its proof files."""
         return file == self.file and self.first <= line <= self.last or file.startswith(self.proof_folders())
 
 
-def module_of(file):
+def module_of(file: str) -> str:
     """Returns the path of a file's module below its crate, as queries::boards of src/queries/boards.rt."""
     path = file.removeprefix("src/").removesuffix(".rt")
     return "" if path in ("lib", "main") else path.replace("/", "::")
 
 
-def joined(*parts):
+def joined(*parts: str) -> str:
     return "::".join(it for it in parts if it)
 
 
-def modules_of_types(texts):
+def modules_of_types(texts: Dict[str, str]) -> Dict[str, str]:
     """Returns the module of each struct and enum, by its name, of the texts of a crate's files."""
     return {name: module_of(file) for file, text in texts.items() for name in TYPE.findall(text)}
 
 
-def impl_name(head, module, types):
+def impl_name(head: str, module: str, types: Dict[str, str]) -> str:
     """Returns the path under which the prover has an impl's functions.
 
     Of `impl<T> Keeper<T> {` that is the type's own, of `impl From<Vec<T>> for Fault {` it is FaultFromVec of the module
@@ -56,7 +58,9 @@ def impl_name(head, module, types):
     for sign, word in (("&mut ", "RefMut"), ("&", "Ref"), ("[", "Slice")):
         if of_type.startswith(sign):
             shape, of_type = shape + word, of_type.removeprefix(sign)
-    name, arguments = re.search(r"(\w+)\s*(<[^{]*>)?\]?\s*(?:\{|$)", of_type).groups("")
+    named = re.search(r"(\w+)\s*(<[^{]*>)?\]?\s*(?:\{|$)", of_type)
+    assert named, f"an impl of no type: {head}"
+    name, arguments = named.groups("")
     if shape:
         name = shape + (name[:1].upper() + name[1:] if name not in parameters else "")
     if not is_trait:
@@ -65,7 +69,7 @@ def impl_name(head, module, types):
     return joined(module, name + "".join(it for it in words if it not in parameters))
 
 
-def end_of(lines, at, indent):
+def end_of(lines: Sequence[str], at: int, indent: str) -> int:
     """Returns where the function whose head is at this index ends: at its closing brace, or where what holds it ends."""
     for end in range(at, len(lines)):
         line = lines[end]
@@ -76,7 +80,7 @@ def end_of(lines, at, indent):
     return len(lines) - 1
 
 
-def start_of(lines, at, indent):
+def start_of(lines: Sequence[str], at: int, indent: str) -> int:
     """Returns where the comments and attributes of the function whose head is at this index begin."""
     while at and lines[at - 1].strip() and lines[at - 1].startswith(indent):
         if lines[at - 1].endswith(("{", "}", ";")) and not lines[at - 1].strip().startswith("//"):
@@ -85,13 +89,14 @@ def start_of(lines, at, indent):
     return at
 
 
-def functions_of(crate, file, text, types):
+def functions_of(crate: str, file: str, text: str, types: Dict[str, str]) -> List[Function]:
     """Returns the functions of a source file, in order."""
-    found, inside, lines = [], "", text.split("\n")
+    found: List[Function] = []
+    inside, lines = "", text.split("\n")
     for at, line in enumerate(lines):
         if re.match(r"impl\b", line):
-            head = " ".join(it.strip() for it in lines[at : at + 6]).partition("{")[0] + "{"
-            inside = impl_name(head, module_of(file), types)
+            whole = " ".join(it.strip() for it in lines[at : at + 6]).partition("{")[0] + "{"
+            inside = impl_name(whole, module_of(file), types)
         elif line == "}":
             inside = ""
         head = FUNCTION.match(line)
@@ -103,7 +108,7 @@ def functions_of(crate, file, text, types):
     return found
 
 
-def sources_of(folder):
+def sources_of(folder: str) -> Dict[str, str]:
     """Returns the texts of a crate's source files by their paths in it."""
     found = {}
     for at, _, names in os.walk(f"{folder}/src"):

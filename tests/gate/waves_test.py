@@ -1,11 +1,14 @@
 #!/usr/bin/env python3
 """Tests of waves.py: of its parts on texts, and of the whole on a crate of one file, which the prover checks."""
+from __future__ import annotations
+
 import os
 import subprocess
 import sys
 import tempfile
 import types
 import unittest
+from typing import Tuple
 
 sys.path.insert(0, os.path.dirname(os.path.abspath(__file__)))
 sys.dont_write_bytecode = True
@@ -51,10 +54,10 @@ pub(crate) fn width() -> usize {
 
 
 class Functions(unittest.TestCase):
-    def setUp(self):
+    def setUp(self) -> None:
         self.found = functions.functions_of("shed", "src/a/heap.rt", SOURCE, {"Heap": "heaps"})
 
-    def test_names_are_those_that_the_prover_prints(self):
+    def test_names_are_those_that_the_prover_prints(self) -> None:
         names = [it.name for it in self.found]
         self.assertEqual(
             names,
@@ -67,13 +70,13 @@ class Functions(unittest.TestCase):
             ],
         )
 
-    def test_lines_go_from_its_comments_and_attributes_to_its_closing_brace(self):
+    def test_lines_go_from_its_comments_and_attributes_to_its_closing_brace(self) -> None:
         self.assertEqual([(it.first, it.last) for it in self.found], [(7, 14), (16, 16), (20, 22), (26, 26), (31, 34)])
 
-    def test_the_root_has_no_module(self):
+    def test_the_root_has_no_module(self) -> None:
         self.assertEqual(functions.functions_of("shed", "src/lib.rt", "fn one() {}", {})[0].name, "shed::one")
 
-    def test_an_impl_has_the_words_of_its_type_and_of_its_trait(self):
+    def test_an_impl_has_the_words_of_its_type_and_of_its_trait(self) -> None:
         names = {
             "impl<'a, T: Drop> From<Held<T>> for Heap<'a> {": "HeapFromHeld",
             "impl Upsert for Tagged<'_, BoardRow> {": "TaggedBoardRowUpsert",
@@ -84,10 +87,10 @@ class Functions(unittest.TestCase):
         for head, name in names.items():
             self.assertEqual(functions.impl_name(head, "", {}), name)
 
-    def test_types_are_found_with_their_modules(self):
+    def test_types_are_found_with_their_modules(self) -> None:
         self.assertEqual(functions.modules_of_types({"src/a/heap.rt": SOURCE}), {"Heap": "a::heap"})
 
-    def test_places_are_its_lines_and_its_proof_files(self):
+    def test_places_are_its_lines_and_its_proof_files(self) -> None:
         size = self.found[0]
         self.assertTrue(size.has("src/a/heap.rt", 13))
         self.assertFalse(size.has("src/a/heap.rt", 15))
@@ -98,59 +101,59 @@ class Functions(unittest.TestCase):
 
 
 class Edits(unittest.TestCase):
-    def setUp(self):
+    def setUp(self) -> None:
         self.room = tempfile.TemporaryDirectory()
         self.addCleanup(self.room.cleanup)
         self.crate = types.SimpleNamespace(folder=self.room.name, name="shed")
         self.sources = {"src/heap.rt": SOURCE}
         self.write("src/heap.rt", SOURCE)
 
-    def write(self, path, text):
+    def write(self, path: str, text: str) -> str:
         file = f"{self.room.name}/{path}"
         os.makedirs(os.path.dirname(file), exist_ok=True)
         with open(file, "w", encoding="utf-8") as it:
             it.write(text)
         return file
 
-    def read(self, text):
+    def read(self, text: str) -> waves.Edit:
         return waves.read_edit(self.crate, self.write("wrong/an.edit", text), self.sources)
 
-    def test_an_edit_has_its_function_and_its_lines(self):
+    def test_an_edit_has_its_function_and_its_lines(self) -> None:
         edit = self.read("file: src/heap.rt\nold:         1\nnew:         2\n")
         self.assertEqual((edit.name, edit.function.name), ("an", "shed::heap::Heap::size"))
         self.assertEqual(edit.lines, {("src/heap.rt", 13): "        2"})
 
-    def test_an_absent_text_cannot_be_applied(self):
+    def test_an_absent_text_cannot_be_applied(self) -> None:
         with self.assertRaisesRegex(waves.BadEdit, "0 times, and not once"):
             self.read("file: src/heap.rt\nold: three\nnew: four\n")
 
-    def test_what_is_no_function_cannot_be_tried(self):
+    def test_what_is_no_function_cannot_be_tried(self) -> None:
         with self.assertRaisesRegex(waves.BadEdit, "not the text of one function"):
             self.read("file: src/heap.rt\nold: usize = 4;\nnew: usize = 5;\n")
 
-    def test_two_functions_cannot_be_tried(self):
+    def test_two_functions_cannot_be_tried(self) -> None:
         with self.assertRaisesRegex(waves.BadEdit, "not the text of one function"):
             self.read("file: src/heap.rt\nold:         1\nnew:         2\nold:     WIDTH\nnew:     2\n")
 
-    def test_a_constant_is_tried_under_a_law(self):
+    def test_a_constant_is_tried_under_a_law(self) -> None:
         edit = self.read("law: heap::width\nfile: src/heap.rt\nold: usize = 4;\nnew: usize = 5;\n")
         self.assertEqual((edit.function.name, edit.is_alone), ("shed::heap::width", True))
         self.assertEqual(edit.lines, {("src/heap.rt", 29): "const WIDTH: usize = 5;"})
 
-    def test_a_law_has_to_be_there_and_its_edit_outside_of_functions(self):
+    def test_a_law_has_to_be_there_and_its_edit_outside_of_functions(self) -> None:
         with self.assertRaisesRegex(waves.BadEdit, "no function heap::height"):
             self.read("law: heap::height\nfile: src/heap.rt\nold: usize = 4;\nnew: usize = 5;\n")
         with self.assertRaisesRegex(waves.BadEdit, "not the text of one function"):
             self.read("law: heap::width\nfile: src/heap.rt\nold:         1\nnew:         2\n")
 
-    def test_an_edit_of_a_constant_has_a_wave_of_its_own(self):
+    def test_an_edit_of_a_constant_has_a_wave_of_its_own(self) -> None:
         constant = self.read("law: heap::width\nfile: src/heap.rt\nold: usize = 4;\nnew: usize = 5;\n")
         first = self.read("file: src/heap.rt\nold:         1\nnew:         2\n")
         other = self.read("file: src/heap.rt\nold: held.heap()\nnew: held\n")
         self.assertEqual(waves.waves_of([constant, first, other]), [[constant], [first, other]])
         self.assertEqual(waves.waves_of([first, constant, other]), [[first, other], [constant]])
 
-    def test_one_function_has_one_edit_in_a_wave(self):
+    def test_one_function_has_one_edit_in_a_wave(self) -> None:
         first = self.read("file: src/heap.rt\nold:         1\nnew:         2\n")
         other = self.read("file: src/heap.rt\nold: held.heap()\nnew: held\n")
         again = self.read("file: src/heap.rt\nold:         1\nnew:         3\n")
@@ -160,21 +163,21 @@ class Edits(unittest.TestCase):
 
 
 class Judgements(unittest.TestCase):
-    def judge(self, *lines):
+    def judge(self, *lines: str) -> Tuple[bool, str]:
         function = functions.Function("shed::heap::size", "src/heap.rt", 8, 14)
         return waves.judge(waves.Edit("an", function, {}), lines, {"src/heap.rt": ""})
 
     LAST = "only=2 proved=0"
     STANDS = "fn shed::heap::size: not proved"
 
-    def test_refused_at_its_lines(self):
+    def test_refused_at_its_lines(self) -> None:
         said = self.judge("note: src/heap.rt:8:1: it is not proved that it ensures", self.STANDS, self.LAST)
         self.assertEqual(said, (True, "refused: note: src/heap.rt:8:1: it is not proved that it ensures"))
 
-    def test_refused_in_its_proof_files(self):
+    def test_refused_in_its_proof_files(self) -> None:
         self.assertTrue(self.judge("./proofs/heap/size/Answers.antt:9:1: error: `returns`", self.STANDS, self.LAST)[0])
 
-    def test_another_functions_error_does_not_refuse_it(self):
+    def test_another_functions_error_does_not_refuse_it(self) -> None:
         stands = "fn shed::heap::size: no proof: it calls `shed::heap::one`, which is not proved"
         other = "note: src/heap.rt:20:1: it is not proved that it ensures"
         cites = "./proofs/heap/size/Proof.antt:1:1: error: `one` was not admitted"
@@ -182,22 +185,22 @@ class Judgements(unittest.TestCase):
         self.assertFalse(is_refused)
         self.assertTrue(text.startswith("NOT REFUSED: "))
 
-    def test_what_a_type_keeps_is_told_at_the_functions_name(self):
+    def test_what_a_type_keeps_is_told_at_the_functions_name(self) -> None:
         told = "fn shed::heap::size: no proof: expected answers; `search` did not prove `invariant_of-result`"
         self.assertTrue(self.judge(told, self.LAST)[0])
         self.assertFalse(self.judge(told.replace("::size", "::one"), self.STANDS, self.LAST)[0])
 
-    def test_advice_is_no_error(self):
+    def test_advice_is_no_error(self) -> None:
         advice = "./proofs/heap/size/Answers.antt:9:1: note: `omega` was called early"
         self.assertFalse(self.judge(advice, self.STANDS, self.LAST)[0])
 
-    def test_a_proof_that_names_what_is_gone_says_little(self):
+    def test_a_proof_that_names_what_is_gone_says_little(self) -> None:
         gone = "./proofs/heap/size/Answers.antt:9:1: error: `returns`: `c` has no field `.size`"
         is_refused, text = self.judge(gone, self.STANDS, self.LAST)
         self.assertTrue(is_refused)
         self.assertIn("says little", text)
 
-    def test_what_does_not_compile_is_a_bad_edit(self):
+    def test_what_does_not_compile_is_a_bad_edit(self) -> None:
         is_refused, text = self.judge("src/heap.rt:13:9: error[E0308]: mismatched types", "rattle: stopped")
         self.assertFalse(is_refused)
         self.assertIn("ended without a verdict: src/heap.rt:13:9", text)
@@ -206,13 +209,13 @@ class Judgements(unittest.TestCase):
 class Libraries(unittest.TestCase):
     """What rt ci left is taken where it is all of one run and nothing has changed since."""
 
-    def setUp(self):
+    def setUp(self) -> None:
         room = tempfile.TemporaryDirectory()
         self.addCleanup(room.cleanup)
         self.lower, self.upper = self.library(room.name, "lower", 100), self.library(room.name, "upper", 200)
         self.upper.deps = [self.lower]
 
-    def library(self, room, name, made_at):
+    def library(self, room: str, name: str, made_at: int) -> types.SimpleNamespace:
         folder = f"{room}/{name}"
         made = types.SimpleNamespace(name=name, folder=folder, rlib=f"{folder}/out/rlib/{name}.rlib", deps=[])
         os.makedirs(made.rlib)
@@ -221,30 +224,30 @@ class Libraries(unittest.TestCase):
         os.utime(made.rlib, (made_at, made_at))
         return made
 
-    def touch(self, file, at):
+    def touch(self, file: str, at: int) -> None:
         with open(file, "w", encoding="utf-8"):
             pass
         os.utime(file, (at, at))
 
-    def stand(self):
+    def stand(self) -> bool:
         return waves.is_of_one_run([self.lower, self.upper])
 
-    def test_of_one_run(self):
+    def test_of_one_run(self) -> None:
         self.assertTrue(self.stand())
 
-    def test_a_changed_source(self):
+    def test_a_changed_source(self) -> None:
         self.touch(f"{self.lower.folder}/src/lib.rt", 150)
         self.assertFalse(self.stand())
 
-    def test_a_lower_one_made_anew(self):
+    def test_a_lower_one_made_anew(self) -> None:
         os.utime(self.lower.rlib, (250, 250))
         self.assertFalse(self.stand())
 
-    def test_one_of_other_commands(self):
+    def test_one_of_other_commands(self) -> None:
         self.touch(f"{self.lower.folder}/out/rlib/stamp", 100)
         self.assertFalse(self.stand())
 
-    def test_a_missing_one(self):
+    def test_a_missing_one(self) -> None:
         os.rmdir(self.lower.rlib)
         self.assertFalse(self.stand())
 
@@ -281,7 +284,7 @@ pub fn next(a: u64) -> u64
         "two_more": "old: sum(a, 1, 0)\nnew: sum(a, 2, 0)\n",
     }
 
-    def test_each_kind_of_edit(self):
+    def test_each_kind_of_edit(self) -> None:
         with tempfile.TemporaryDirectory() as room:
             for path, text in {
                 "crates.txt": "tiny:\n",
