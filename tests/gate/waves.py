@@ -20,13 +20,15 @@ The libraries below are those that rt ci left in crates/*/out, where nothing has
 commands of rt; what is missing is built. The last lines are the processor time and 'N passed, M failed'; the
 status is 1 where one failed.
 """
+from __future__ import annotations
+
 import os
 import re
 import resource
 import signal
 import sys
 import tempfile
-from typing import NamedTuple
+from typing import Any, Collection, Dict, List, NamedTuple, Optional, Sequence, Set, Tuple
 
 sys.dont_write_bytecode = True
 import edge
@@ -34,7 +36,10 @@ from functions import Function, functions_of, modules_of_types, sources_of
 from toolchain import load_rt
 
 
-rt = load_rt()
+rt: Any = load_rt()
+Texts = Dict[str, str]  # of a crate's source files, by their paths in it
+Told = Tuple[str, bool, str]  # an edit, whether it was refused, and what to say
+Key = Tuple[str, str]  # a crate and what is done with it
 
 
 class BadEdit(Exception):
@@ -47,7 +52,7 @@ class Edit(NamedTuple):
 
     name: str
     function: Function
-    lines: dict
+    lines: Dict[Tuple[str, int], str]
     is_alone: bool = False
 
 
@@ -57,7 +62,7 @@ class Edit(NamedTuple):
 LAW = re.compile(r"(?m)^law: (\S+)$")
 
 
-def law_of(crate, file, sources):
+def law_of(crate: Any, file: str, sources: Texts) -> Optional[Function]:
     """Returns the function that an edit's line 'law: PATH' names, None without such a line, or raises BadEdit."""
     with open(file, encoding="utf-8") as it:
         said = LAW.search(it.read())
@@ -70,14 +75,15 @@ def law_of(crate, file, sources):
     raise BadEdit(f"there is no function {said[1]}")
 
 
-def read_edit(crate, file, sources):
+def read_edit(crate: Any, file: str, sources: Texts) -> Edit:
     """Returns the edit that a file says, or raises BadEdit."""
     if not file.endswith(".edit"):
         raise BadEdit("an edit's name ends in .edit")
     texts, why = rt.read_edit(file, crate.folder)
     if why:
         raise BadEdit(why)
-    lines, touched = {}, set()
+    lines: Dict[Tuple[str, int], str] = {}
+    touched: Set[Optional[Function]] = set()
     for path, text in texts.items():
         if path not in sources:
             raise BadEdit(f"{path} is no source file")
@@ -90,14 +96,15 @@ def read_edit(crate, file, sources):
     name, law = os.path.basename(file).removesuffix(".edit"), law_of(crate, file, sources)
     if law and touched == {None}:
         return Edit(name, law, lines, is_alone=True)
-    if law or len(touched) != 1 or None in touched:
+    function = touched.pop() if len(touched) == 1 else None
+    if law or function is None:
         raise BadEdit("what it changes is not the text of one function, or of none under a law")
-    return Edit(name, touched.pop(), lines)
+    return Edit(name, function, lines)
 
 
-def waves_of(edits):
+def waves_of(edits: Sequence[Edit]) -> List[List[Edit]]:
     """Returns the edits in as few waves as can be with at most one edit a function in each."""
-    waves = []
+    waves: List[List[Edit]] = []
     for edit in edits:
         wave = next((it for it in waves if all(edit.function != other.function for other in it) and not it[0].is_alone), None)
         if wave is None or edit.is_alone:
@@ -107,9 +114,9 @@ def waves_of(edits):
     return waves
 
 
-def edited(sources, wave):
+def edited(sources: Texts, wave: Sequence[Edit]) -> Texts:
     """Returns the texts of the files that a wave changes."""
-    lines = {}
+    lines: Dict[str, List[str]] = {}
     for edit in wave:
         for (path, at), line in edit.lines.items():
             lines.setdefault(path, sources[path].split("\n"))[at - 1] = line
@@ -125,13 +132,13 @@ CITES = re.compile(r"was not admitted")
 NOT_REFUSED = "NOT REFUSED"
 
 
-def errors_in(function, lines):
+def errors_in(function: Function, lines: Sequence[str]) -> List[str]:
     """Returns the lines that refuse something at the function's place."""
     found = []
     for line in lines:
         at = PLACE.match(line)
         is_error = at and (" error: " in f" {at[3]}" or "it is not proved" in at[3])
-        if is_error and function.has(at[1], int(at[2])) and not CITES.search(line):
+        if at and is_error and function.has(at[1], int(at[2])) and not CITES.search(line):
             found.append(line)
         # (what a type keeps of a value that the function makes has no place but its name)
         if line.startswith(f"fn {function.name}: no proof: ") and "did not prove" in line:
@@ -139,7 +146,7 @@ def errors_in(function, lines):
     return found
 
 
-def judge(edit, lines, changed):
+def judge(edit: Edit, lines: Sequence[str], changed: Texts) -> Tuple[bool, str]:
     """Returns whether the check whose lines these are refused the edit, and what to say."""
     own = errors_in(edit.function, lines)
     bad = next((it for it in own if rt.unread(it, changed)), "")
@@ -160,14 +167,14 @@ def judge(edit, lines, changed):
     return True, f"refused: {first[:160]}"
 
 
-def try_edit(crate, edit, found, wave, sources, kept):
+def try_edit(crate: Any, edit: Edit, found: Told, wave: Sequence[Edit], sources: Texts, kept: str) -> Told:
     """Returns what came of an edit: what was found in its wave, or alone where others of the wave may have hidden it."""
     if len(wave) == 1 or not found[2].startswith(NOT_REFUSED):
         return found
     return try_wave(crate, [edit], sources, kept)[0]
 
 
-def try_wave(crate, wave, sources, kept):
+def try_wave(crate: Any, wave: Sequence[Edit], sources: Texts, kept: str) -> List[Told]:
     """Checks the crate's copy with a wave's edits, and returns for each whether it was refused and what to say."""
     only = [word for edit in wave for word in ("--only", edit.function.name)]
     texts = edited(sources, wave)
@@ -181,16 +188,17 @@ def try_wave(crate, wave, sources, kept):
     return [(f"{crate.name}/{edit.name}", *judge(edit, lines, texts)) for edit in wave]
 
 
-def edit_files(crate, chosen=()):
+def edit_files(crate: Any, chosen: Collection[str] = ()) -> List[str]:
     """Returns the files of a crate's edits: of those that are chosen, or of all."""
     folder = f"{crate.folder}/wrong"
     names = sorted(os.listdir(folder)) if os.path.isdir(folder) else []
     return [f"{folder}/{it}" for it in names if not chosen or it.removesuffix(".edit") in chosen]
 
 
-def edits_of(crate, sources, chosen=()):
+def edits_of(crate: Any, sources: Texts, chosen: Collection[str] = ()) -> Tuple[List[Edit], List[Told]]:
     """Returns the edits of a crate that can be tried, and of the others what to say."""
-    edits, told = [], []
+    edits: List[Edit] = []
+    told: List[Told] = []
     for file in edit_files(crate, chosen):
         try:
             edits.append(read_edit(crate, file, sources))
@@ -199,7 +207,7 @@ def edits_of(crate, sources, chosen=()):
     return edits, told
 
 
-def read_all(crates):
+def read_all(crates: Sequence[Any]) -> int:
     """Reads the edits of the crates, says which can't be tried, and returns the status."""
     read = [edits_of(it, sources_of(it.folder)) for it in crates]
     tell([it for _, told in read for it in told])
@@ -208,7 +216,7 @@ def read_all(crates):
     return 1 if bad else 0
 
 
-def try_edits(crate, chosen=()):
+def try_edits(crate: Any, chosen: Collection[str] = ()) -> List[bool]:
     """Tries the edits of a crate, says of each what came of it, and returns whether each was refused."""
     sources = sources_of(crate.folder)
     edits, told = edits_of(crate, sources, chosen)
@@ -221,7 +229,7 @@ def try_edits(crate, chosen=()):
     return tell(told)
 
 
-def tell(told):
+def tell(told: Sequence[Told]) -> List[bool]:
     """Prints what came of a crate's edits, and returns whether each was refused."""
     # (one call, since crates end side by side)
     print("".join(f"{name}: {text}\n" for name, _, text in told), end="", flush=True)
@@ -231,19 +239,19 @@ def tell(told):
 # --- the libraries below ---
 
 
-def libraries_of(crates):
+def libraries_of(crates: Sequence[Any]) -> List[Any]:
     """Returns the repository's libraries below these crates, each after those that it uses."""
     return list(dict.fromkeys(it for crate in crates for it in crate.below()))
 
 
-def changed_at(library):
+def changed_at(library: Any) -> float:
     """Returns when the newest of a library's files was written."""
-    return max(os.path.getmtime(it) for it in rt.rtlib.files_of(library.folder))
+    return float(max(os.path.getmtime(it) for it in rt.rtlib.files_of(library.folder)))
 
 
-def is_of_one_run(libraries):
+def is_of_one_run(libraries: Sequence[Any]) -> bool:
     """Returns whether one rt ci left the rlibs of all these libraries, and nothing has changed since."""
-    made = {}
+    made: Dict[str, float] = {}
     for it in libraries:
         if not os.path.isdir(it.rlib) or os.path.exists(f"{os.path.dirname(it.rlib)}/stamp"):
             return False
@@ -253,14 +261,15 @@ def is_of_one_run(libraries):
     return True
 
 
-def tasks_of(crates, chosen):
+def tasks_of(crates: Sequence[Any], chosen: Dict[str, Set[str]]) -> Dict[Key, Any]:
     """Returns the tasks that try the crates' edits, and before them those that build what is missing below."""
     libraries = libraries_of(crates)
-    stand, tasks = is_of_one_run(libraries), {}
+    stand = is_of_one_run(libraries)
+    tasks: Dict[Key, Any] = {}
     for it in libraries:
         waits = [(dep.name, "library") for dep in it.below()]
 
-        def build(given, jobs, it=it, waits=waits):
+        def build(given: Dict[Key, Any], jobs: int, it: Any = it, waits: List[Key] = waits) -> bool:
             is_well = all(given[key] for key in waits)
             return is_well and (stand or not it.build_rlib(["--jobs", str(jobs)], anew=False))
 
@@ -268,7 +277,7 @@ def tasks_of(crates, chosen):
     for it in crates:
         waits = [(dep.name, "library") for dep in it.below()]
 
-        def tried(given, _jobs, it=it, waits=waits):
+        def tried(given: Dict[Key, Any], _jobs: int, it: Any = it, waits: List[Key] = waits) -> List[bool]:
             if all(given[key] for key in waits):
                 return try_edits(it, chosen.get(it.name, ()))
             return tell([(it.name, False, "a library below was not built")])
@@ -277,16 +286,16 @@ def tasks_of(crates, chosen):
     return tasks
 
 
-def chosen_edits(words):
+def chosen_edits(words: Sequence[str]) -> Dict[str, Set[str]]:
     """Returns the crates that the words name, each with the edits that are chosen of it, none for all."""
-    chosen = {}
+    chosen: Dict[str, Set[str]] = {}
     for word in words:
         name, _, edit = word.partition("/")
         chosen.setdefault(name, set()).update([edit] if edit else [])
     return chosen
 
 
-def main(words):
+def main(words: List[str]) -> int:
     os.environ.pop(rt.rtlib.ALLOW_C, None)
     if words[:1] == ["--tests"]:
         return edge.main(words[1:])
