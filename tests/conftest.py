@@ -14,7 +14,7 @@ from typing import Any, Callable, Generator, Iterator, Optional, Sequence
 import pytest
 
 TOP = pathlib.Path(__file__).resolve().parent.parent
-pytest.register_assert_rewrite("desks", "pages", "python_front", "served", "watched")
+pytest.register_assert_rewrite("desks", "dispatch_lab", "pages", "python_front", "served", "watched")
 
 from ending import ROW, Ending, is_strict, why_of  # noqa: E402
 from served import STARTED, Board, Farm, Tool, end_all  # noqa: E402

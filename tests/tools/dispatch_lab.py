@@ -5,13 +5,17 @@ import http.client
 import http.server
 import json
 import os
+import pathlib
 import shutil
 import signal
 import subprocess
 import sys
+import tempfile
 import threading
-from typing import Any, Callable, Dict, List, Optional, Sequence, Tuple
+import time
+from typing import Any, Callable, Dict, Iterator, List, Optional, Sequence, Tuple
 
+import pytest
 from served import STARTED, TOOLS, Board, Farm, Tool, environment, read, wait_until
 
 # Runs the line `run = '..'` of a job's text, and notes that it began and ended.
@@ -159,9 +163,35 @@ class Lab:
         return wait_until(f"sleep {seconds} runs", lambda: self.sleepers(seconds))
 
     def closes(self, dispatcher: Tool) -> None:
-        dispatcher.send(signal.SIGTERM)
-        assert dispatcher.ends() == 0, "the status after SIGTERM"
+        """Tells a dispatcher to end, and kills the farm."""
+        self.stops(dispatcher)
         self.farm.kill()
+
+    def stops(self, dispatcher: Tool, wanted: int = 0, pause: float = 0) -> None:
+        """Tells a dispatcher to end, so many seconds after it takes SIGTERM; it has this status then. Before, as
+        Python has just begun, SIGTERM kills it as any process."""
+        process = dispatcher.process
+        wait_until("it takes SIGTERM, or has ended", lambda: process.poll() is not None or takes_sigterm(process.pid))
+        time.sleep(pause)
+        dispatcher.send(signal.SIGTERM)
+        status = dispatcher.ends()
+        said = f"{dispatcher.output()[-2000:]}{dispatcher.errors()[-2000:]}"
+        assert status == wanted, f"the status after SIGTERM is {status}, and not {wanted}; it said:\n{said}"
+
+
+MakeLab = Callable[..., Lab]
+
+
+@pytest.fixture(name="make_lab")
+def make_lab_fixture(program: str, tmp_path: pathlib.Path) -> Iterator[MakeLab]:
+    """Makes labs of a test. A file of tests imports this and the next."""
+    yield lambda boards=BOARDS: Lab(program, tempfile.mkdtemp(dir=tmp_path), boards)
+    end_commands(str(tmp_path))
+
+
+@pytest.fixture(name="lab")
+def lab_fixture(make_lab: MakeLab) -> Lab:
+    return make_lab()
 
 
 # What the code of `patched` begins with.
@@ -187,6 +217,13 @@ def replace(file: str, text: str) -> None:
         script.write(text)
     os.chmod(f"{file}.new", 0o755)
     os.replace(f"{file}.new", file)
+
+
+def takes_sigterm(process: int) -> bool:
+    """Whether a process does something of its own at SIGTERM."""
+    lines = read(f"/proc/{process}/status").splitlines()
+    caught = next((int(it.split()[1], 16) for it in lines if it.startswith("SigCgt:")), 0)
+    return bool(caught >> (signal.SIGTERM - 1) & 1)
 
 
 def read_words(process: object) -> str:

@@ -17,29 +17,17 @@ import subprocess
 import sys
 import tempfile
 import time
-from typing import Any, Callable, Dict, Iterator, List, Tuple, cast
+from typing import Any, Dict, List, Tuple, cast
 
 import pytest
-from dispatch_lab import AT_IT, BOARDS, COMMAND, Lab, end_commands, jobs_of, one_line_each, read_words, replace
+from dispatch_lab import AT_IT, BOARDS, COMMAND, Lab, MakeLab, jobs_of, one_line_each, read_words, replace
+from dispatch_lab import lab_fixture, make_lab_fixture  # noqa: F401
 from farm_tools import cages, folders, groups, limits, runner
 from farm_tools import clocks as clocks_module
 from farm_tools.clocks import Clocks
 from farm_tools.dispatcher import Dispatcher
 from served import TOOLS, TOP, Tool, read, wait_until
 from wants import wants
-
-MakeLab = Callable[..., Lab]
-
-
-@pytest.fixture
-def make_lab(program: str, tmp_path: pathlib.Path) -> Iterator[MakeLab]:
-    yield lambda boards=BOARDS: Lab(program, tempfile.mkdtemp(dir=tmp_path), boards)
-    end_commands(str(tmp_path))
-
-
-@pytest.fixture
-def lab(make_lab: MakeLab) -> Lab:
-    return make_lab()
 
 
 def test_ways_to_end(lab: Lab) -> None:
@@ -413,6 +401,20 @@ except Stopped:
     assert (ran.returncode, ran.stdout) == (0, "stopped\n"), "what is raised again"
 
 
+def test_second_stop() -> None:
+    """A second signal, as of who presses Ctrl-C twice, changes nothing."""
+    code = """\
+import os, signal
+from farm_tools import dispatch
+dispatch.adopt = lambda *words: os.kill(os.getpid(), signal.SIGINT)
+status = dispatch.main(["--folder", ".", "--adopt", "1"])
+os.kill(os.getpid(), signal.SIGTERM)
+raise SystemExit(status)
+"""
+    ran = subprocess.run([sys.executable, "-c", code], cwd=TOOLS, capture_output=True, text=True, check=False)
+    assert (ran.returncode, ran.stderr) == (0, "")
+
+
 def full(answer: Tuple[int, Any]) -> Tuple[int, int]:
     return answer[0], answer[1]["code"]
 
@@ -428,8 +430,7 @@ def test_own_ends(lab: Lab) -> None:
     second = lab.dispatch()
     assert second.ends() == 4, "a second dispatcher"
     assert Tool(["farm-dispatch"], lab.folder).ends() == 2, "one without a command"
-    dispatcher.send(signal.SIGTERM)
-    assert dispatcher.ends() == 0, "one that is told to end"
+    lab.stops(dispatcher)
     assert lab.farm.job(number)["state"] == "Running", "its job"
     dispatcher = lab.dispatch()
     lab.let("open")
@@ -441,6 +442,20 @@ def test_own_ends(lab: Lab) -> None:
     lab.farm.start()
     again = lab.farm.submit("true")
     assert lab.finished(again) == "Complete", "a job of a desk that came back"
+    lab.closes(dispatcher)
+
+
+def test_told_to_end_at_any_moment(lab: Lab) -> None:
+    """A dispatcher that is told to end as soon as it is there, or at any moment later, ends with 0, and its jobs are
+    the next one's."""
+    numbers = []
+    for pause in (0, 0, 0.05, 0.1, 0.15, 0.2, 0.3, 0.5):
+        numbers += [lab.farm.submit(it) for it in ("true", "sleep 0.1")]
+        dispatcher = lab.dispatch(every="0.1")
+        lab.stops(dispatcher, pause=pause)
+    dispatcher = lab.dispatch()
+    for number in numbers:
+        assert (lab.finished(number), lab.begins(number)) == ("Complete", 1), number
     lab.closes(dispatcher)
 
 
@@ -468,8 +483,7 @@ def test_unstartable_scripts(lab: Lab) -> None:
     wanted = {**{it[0]: "Good" for it in BOARDS}, "c1": "Unknown", "c2": "Unknown"}
     assert healths == wanted, "the boards' health"
     assert dispatcher.errors().count("not executable") == 1, "how often it is told"
-    dispatcher.send(signal.SIGTERM)
-    assert dispatcher.ends() == 5, "its status while it stands"
+    lab.stops(dispatcher, 5)
     dispatcher = lab.dispatch(*words)
     wait_until("the next tells it", lambda: dispatcher.errors().count("not executable") == 2)
     assert lab.farm.look("/status")["count"] == count, "passes of the next"
@@ -901,12 +915,10 @@ def test_clock_not_set(lab: Lab) -> None:
     assert lab.finished(number) == "Complete", "a job, once it is set"
     tell(said, "NTP=yes\nNTPSynchronized=no\n")
     assert lab.finished(lab.farm.submit("true")) == "Complete", "one after its servers were lost"
-    dispatcher.send(signal.SIGTERM)
-    assert dispatcher.ends() == 0, "its status"
+    lab.stops(dispatcher)
     dispatcher = lab.dispatch(**own)
     assert lab.finished(lab.farm.submit("true")) == "Complete", "one of the next dispatcher"
-    dispatcher.send(signal.SIGTERM)
-    dispatcher.ends()
+    lab.stops(dispatcher)
     for words, answer in (
         (["--clock", "any"], "NTP=yes\nNTPSynchronized=no\n"),
         ([], "NTP=no\nNTPSynchronized=no\n"),
@@ -916,8 +928,7 @@ def test_clock_not_set(lab: Lab) -> None:
         forget(os.path.join(lab.place, "synchronized"))
         dispatcher = lab.dispatch(*words, **own)
         assert lab.finished(lab.farm.submit("true")) == "Complete", f"a job with {answer!r}"
-        dispatcher.send(signal.SIGTERM)
-        assert dispatcher.ends() == 0, "its status"
+        lab.stops(dispatcher)
     lab.farm.kill()
 
 

@@ -4,33 +4,21 @@ from __future__ import annotations
 
 import json
 import os
-import pathlib
 import random
 import signal
 import subprocess
 import sys
 import tempfile
 import time
-from typing import Any, Callable, Dict, Iterator, List, Optional, Set, Tuple, cast
+from typing import Any, Dict, List, Optional, Set, Tuple, cast
 
-import pytest
-from dispatch_lab import BOARDS, Lab, end_commands, jobs_of, lines_of, one_line_each
+from dispatch_lab import Lab, jobs_of, lines_of, one_line_each
+from dispatch_lab import lab_fixture, make_lab_fixture  # noqa: F401
 from farm_tools import submissions
 from served import STARTED, TOOLS, Farm, environment, read, wait_until
 
 # Of kills while folders are made so many, and of those at an end one in so many; more with FARM_KILLS=all.
 KILLS = (8, 1) if os.environ.get("FARM_KILLS") == "all" else (3, 2)
-
-
-@pytest.fixture
-def make_lab(program: str, tmp_path: pathlib.Path) -> Iterator[Callable[..., Lab]]:
-    yield lambda boards=BOARDS: Lab(program, tempfile.mkdtemp(dir=tmp_path), boards)
-    end_commands(str(tmp_path))
-
-
-@pytest.fixture
-def lab(make_lab: Callable[..., Lab]) -> Lab:
-    return make_lab()
 
 
 # A dispatcher that kills itself at one of the places at which it writes, renames or gives a
@@ -201,8 +189,7 @@ def test_torn_lines(lab: Lab) -> None:
         assert found == [900] * stays + [number], f"the lines behind {tail[:20]!r}"
         assert jobs_of(lab)[: len(rows)] == rows, "the lines before"
         are_newest(lab, "jobs", jobs_of(lab)[-200:])
-        dispatcher.send(signal.SIGTERM)
-        dispatcher.ends()
+        lab.stops(dispatcher)
         assert read(file).endswith('"reason":""}\n'), "the history's end"
     lab.farm.kill()
 

@@ -4,22 +4,21 @@ from __future__ import annotations
 
 import json
 import os
-import pathlib
 import signal
 import subprocess
 import sys
 import tempfile
 import threading
 import time
-from typing import Callable, Dict, Iterator, List, Optional, Tuple
+from typing import Dict, List, Optional, Tuple
 
 import pytest
-from dispatch_lab import BOARDS, CAGES, Lab, Proxy, end_commands, jobs_of
+from dispatch_lab import BOARDS, CAGES, Lab, MakeLab, Proxy, end_commands, jobs_of
+from dispatch_lab import lab_fixture, make_lab_fixture  # noqa: F401
 from farm_tools import cages
 from served import STARTED, TOOLS, Tool, environment, read, wait_until
 from wants import lacks, wants
 
-MakeLab = Callable[..., Lab]
 ONE = BOARDS[:1]
 # Writes what shows that it lives, until it is killed.
 BEATS = "while true; do date +%s%N > {0}.new; mv {0}.new {0}; sleep 0.02; done"
@@ -123,17 +122,6 @@ def popen(words, **more):
     return was(words, **more)
 groups.subprocess.Popen = popen
 """
-
-
-@pytest.fixture
-def make_lab(program: str, tmp_path: pathlib.Path) -> Iterator[MakeLab]:
-    yield lambda boards=BOARDS: Lab(program, tempfile.mkdtemp(dir=tmp_path), boards)
-    end_commands(str(tmp_path))
-
-
-@pytest.fixture
-def lab(make_lab: MakeLab) -> Lab:
-    return make_lab()
 
 
 @pytest.fixture(params=CAGES)
@@ -439,19 +427,24 @@ def test_late_start(make_lab: MakeLab) -> None:
     lab = make_lab(ONE)
     late, asked = threading.Event(), []
 
-    def hook(method: str, path: str, key: Optional[str]) -> None:
-        if path == "/jobs/1/start":
-            asked.append(key)
-            if len(asked) == 1:
-                late.wait(60)
+    def hook(method: str, path: str, key: Optional[str]) -> Optional[Tuple[int, bytes]]:
+        if path != "/jobs/1/start":
+            return None
+        asked.append(key)
+        if len(asked) > 1:
+            return 503, b""
+        late.wait(60)
+        return None
 
     proxy = Proxy(lab.farm, hook)
     number = lab.farm.submit("true")
     dispatcher = lab.patched(DIES_WITHOUT_FOLDER, "--timeout", "1", server=proxy.server)
     wait_until("it is asked again, or dead", lambda: len(asked) > 1 or dispatcher.poll() is not None)
     dispatcher.kill()
+    dispatcher.wait()
     late.set()
-    wait_until("the Start is done", lambda: lab.state(number) in ("Running", "Finished"))
+    wait_until("the Start is done", lambda: lab.state(number) == "Running")
+    assert lab.begins(number) == 0
     last = lab.dispatch()
     assert lab.finished(number) == "Complete"
     assert lab.begins(number) == 1

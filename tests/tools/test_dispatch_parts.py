@@ -3,37 +3,24 @@ each; and jobs that are run again elsewhere."""
 from __future__ import annotations
 
 import os
-import pathlib
 import random
 import signal
-import tempfile
 import time
 import types
-from typing import Any, Callable, Dict, Iterator, List, Optional
+from typing import Any, Dict, List, Optional
 
 import pytest
-from dispatch_lab import BOARDS, Lab, Proxy, end_commands, jobs_of
+from dispatch_lab import Lab, MakeLab, Proxy, jobs_of
+from dispatch_lab import lab_fixture, make_lab_fixture  # noqa: F401
 from farm_tools import passes
 from farm_tools.passes import Turns
 from farm_tools.retries import text_again
 from served import Board, Tool, read, wait_until
 
-MakeLab = Callable[..., Lab]
 RACKS = ("rack1", "rack2", "rack3")
 SPREAD: List[Board] = [(f"{rack}-{it}", "bbb", [f"worker={rack}", f"on{rack}"]) for rack in RACKS for it in (1, 2)]
 ACROSS = "job_name = 'across'\nrun = '{}'\n{}"
 ROLE = "[roles.r{0}]\ndevice_type = 'bbb'\ncount = 1\ntags = ['worker={0}']\n"
-
-
-@pytest.fixture
-def make_lab(program: str, tmp_path: pathlib.Path) -> Iterator[MakeLab]:
-    yield lambda boards=BOARDS: Lab(program, tempfile.mkdtemp(dir=tmp_path), boards)
-    end_commands(str(tmp_path))
-
-
-@pytest.fixture
-def lab(make_lab: MakeLab) -> Lab:
-    return make_lab()
 
 
 def serve(lab: Lab, rack: str, *words: str, every: str = "0.3") -> Tool:

@@ -7,16 +7,15 @@ import os
 import pathlib
 import signal
 import subprocess
-import tempfile
-from typing import Callable, Iterator, List, Union
+from typing import List, Union
 
 import pytest
-from dispatch_lab import BOARDS, Lab, end_commands, jobs_of
+from dispatch_lab import BOARDS, Lab, MakeLab, jobs_of
+from dispatch_lab import lab_fixture, make_lab_fixture  # noqa: F401
 from farm_tools import calls, faults, room, strangers
 from served import STARTED, TOOLS, environment, read, wait_until
 from wants import lacks
 
-MakeLab = Callable[..., Lab]
 NAMES = (
     "about.json", "began", "boards.json", "boards", "cancel", "ended", "ended.new", "finished", "job.toml", "key", "late",
     "lock", "log", "made", "started", "unkeyed",
@@ -34,17 +33,6 @@ WAYS = {
     "a large file": "rm -rf {0}; truncate -s 3G {0}",
 }
 DEEP = "python3 -c \"import os\nfor _ in range(1500):\n os.mkdir('d'); os.chdir('d')\""
-
-
-@pytest.fixture
-def make_lab(program: str, tmp_path: pathlib.Path) -> Iterator[MakeLab]:
-    yield lambda boards=BOARDS: Lab(program, tempfile.mkdtemp(dir=tmp_path), boards)
-    end_commands(str(tmp_path))
-
-
-@pytest.fixture
-def lab(make_lab: MakeLab) -> Lab:
-    return make_lab()
 
 
 # ---- a job's own folder

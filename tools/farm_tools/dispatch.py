@@ -103,17 +103,20 @@ class Stopped(BaseException):
 
 
 class Stops:
-    """SIGTERM and SIGINT, which raise Stopped where they come. Python drops what is raised while it
-    ends an object, so `check` raises it again."""
+    """SIGTERM and SIGINT, of which the first raises Stopped where it comes, and later ones nothing.
+    Python drops what is raised while it ends an object, so `check` raises it again."""
+
+    SIGNALS = (signal.SIGTERM, signal.SIGINT)
 
     def __init__(self) -> None:
         self.came = False
-        signal.signal(signal.SIGTERM, self._stop)
-        signal.signal(signal.SIGINT, self._stop)
+        for number in self.SIGNALS:
+            signal.signal(number, self._stop)
 
     def _stop(self, *_: object) -> None:
-        self.came = True
-        raise Stopped
+        if not self.came:
+            self.came = True
+            raise Stopped
 
     def check(self) -> None:
         if self.came:
@@ -143,6 +146,8 @@ def main(words: Optional[Sequence[str]] = None) -> int:
         part.close()
         return status
     except Stopped:
+        # (a later one would end Python's own end)
+        signal.pthread_sigmask(signal.SIG_BLOCK, Stops.SIGNALS)
         return NOT_STARTED if dispatcher and dispatcher.starts.fault else 0
     except (settings.BadSettings, parts.Taken, OSError, ValueError) as fault:
         return end(FAULT, str(fault))
