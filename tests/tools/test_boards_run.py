@@ -9,6 +9,7 @@ from __future__ import annotations
 import glob
 import gzip
 import os
+import runpy
 import shutil
 import signal
 import subprocess
@@ -251,8 +252,9 @@ class Lab:
     def __init__(self, way: str, board: Board, farm: Farm, start_tool: Callable[..., Tool], folder: str):
         self.board, self.farm, self.folder = board, farm, os.path.join(folder, "dispatch")
         of_board = os.path.join(folder, "of_board")
-        os.mkdir(of_board)
-        write(os.path.join(of_board, WAYS[way].file), board.fill(WAYS[way].text))
+        os.makedirs(of_board, exist_ok=True)
+        if not os.path.exists(os.path.join(of_board, WAYS[way].file)):
+            write(os.path.join(of_board, WAYS[way].file), board.fill(WAYS[way].text))
         words = ["--server", farm.server, "--folder", self.folder, "--every", "1", "--grace", "60"]
         command = os.path.join(TOP, "examples", f"run-job-{way}")
         self.dispatcher = start_tool("farm-dispatch", *words, command, of_board)
@@ -307,6 +309,58 @@ def test_cancel(way: str, lab: Lab, folder: str) -> None:
     assert "SIGKILL" not in lab.said("log")
     lab.dispatcher.send(signal.SIGTERM)
     assert lab.dispatcher.ends() == 0
+
+
+# ---- health checks
+
+
+def labgrid_check(board: Board, seconds: int) -> Dict[str, str]:
+    """labgrid's files of a board that is checked by what run-job-labgrid does where a lab has no check of its own,
+    but for how long it waits."""
+    checks = runpy.run_path(os.path.join(TOP, "examples", "run-job-labgrid"))
+    text = ENVIRONMENT.replace("!template $LG_KERNEL", board.kernel).replace(" $LG_APPEND", "")
+    return {"env.yaml": text, "check.py": checks["CHECK"].replace("timeout=60", f"timeout={seconds}")}
+
+
+def lava_check(board: Board, seconds: int) -> Dict[str, str]:
+    job = LAVA.replace("action: {minutes: 5}", f"action: {{seconds: {seconds}}}")
+    job = job.replace("@KERNEL@", board.kernel).replace("@APPEND@", "").replace("@WAITED@", PROMPT)
+    return {"q1.yaml": DEVICE, "q1.check.yaml": job}
+
+
+CHECKS = {"labgrid": labgrid_check, "lava": lava_check}
+DEAD = {"labgrid": "TIMEOUT", "lava": "timed out after"}
+
+
+@pytest.mark.slow(40)
+@pytest.mark.timeout(1000)
+@each_way
+@pytest.mark.parametrize("health", ["Good", "Bad"])
+def test_check(
+    health: str, way: str, board: Board, make_farm: Callable[..., Farm], start_tool: Callable[..., Tool], folder: str
+) -> None:
+    """A health check makes a board that boots Good, and one whose firmware only halts Bad; its log says why."""
+    wants_way(way)
+    of_board = os.path.join(folder, "of_board")
+    os.mkdir(of_board)
+    firmware = os.path.join(folder, "firmware")
+    with open(firmware, "wb") as file:
+        file.write(b"\xf4" * 65536)
+    dead = f"-bios {firmware} -name @NAME@" if way == "labgrid" else f"-bios {firmware}, -name @NAME@"
+    for name, text in CHECKS[way](board, 300 if health == "Good" else 10).items():
+        stands = text if health == "Good" else text.replace("-name @NAME@", dead)
+        write(os.path.join(of_board, name), board.fill(stands))
+    farm = make_farm([])
+    farm.tell("admin", "/types", {"name": "qemu", "check": "jobs", "every": 20})
+    farm.tell("admin", "/boards", {"name": "q1", "type": "qemu", "tags": []})
+    farm.tell("admin", "/boards/q1/health", {"health": "Unknown"})
+    lab = Lab(way, board, farm, start_tool, folder)
+    wait_until("the check ends", lambda: farm.board("q1")["health"] != "Unknown", 900)
+    assert farm.board("q1")["health"] == health, lab.said("log")
+    assert lab.ends() == ("Complete" if health == "Good" else "Incomplete")
+    assert health == "Good" or DEAD[way] in lab.said("log")
+    seen = f'"to":"{health}"'
+    wait_until("the history has it", lambda: seen in read(os.path.join(lab.folder, "history.jsonl")))
 
 
 # ---- the commands without a dispatcher, nor a board that boots
