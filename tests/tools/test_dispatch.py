@@ -338,6 +338,8 @@ OPTIONS = argparse.Namespace(
     serves="",
     log_limit=10**6,
     folder_limit=10**9,
+    memory_limit=0,
+    process_limit=0,
 )
 
 

@@ -26,6 +26,8 @@ from typing import Dict, Iterator, List, NamedTuple, Optional, Sequence, Set, Tu
 CGROUP, NAMESPACE, NONE = "cgroup", "namespace", "none"
 FORMS = (CGROUP, NAMESPACE, NONE)
 COMMAND = "command"  # the cgroup of the command, below the one of the process that runs it
+DISPATCHER = "farm-dispatcher"  # the dispatcher's own, beside its jobs', where these have limits
+DIES_FIRST = 500  # what a command adds to what the kernel goes by when it kills for lack of memory
 COOKIE = "FARM_FOLDER"
 KILL_PAUSE = 0.02
 _LIBC = ctypes.CDLL(None, use_errno=True)
@@ -69,6 +71,8 @@ def own_cgroup() -> str:
     if not mount or not path:
         return ""
     own = os.path.normpath(f"{mount}/{path}")
+    if os.path.basename(own) == DISPATCHER:
+        own = os.path.dirname(own)
     trial = os.path.join(own, f"farm-trial-{os.getpid()}")
     try:
         os.mkdir(trial)
@@ -283,6 +287,7 @@ class _Keeper:
     def _enter(self) -> str:
         if self.cage.form == CGROUP:
             enter(os.path.join(self.cage.cgroup, COMMAND))
+            _die_first()
             return f"{CGROUP}:{self.cage.cgroup}"
         if self.cage.form == NAMESPACE:
             pid = int(os.readlink("/proc/self"))  # as its number is outside
@@ -304,6 +309,13 @@ def enter(cgroup: str) -> None:
     os.makedirs(cgroup, exist_ok=True)
     with open(os.path.join(cgroup, "cgroup.procs"), "w", encoding="ascii") as file:
         file.write("0")
+
+
+def _die_first() -> None:
+    """Lets the kernel kill this process, and what it starts, before the one that looks after it."""
+    file = "/proc/self/oom_score_adj"
+    if int("".join(_lines(file)) or DIES_FIRST) < DIES_FIRST:
+        _write(file, str(DIES_FIRST))
 
 
 def _waited_for(child: int) -> int:

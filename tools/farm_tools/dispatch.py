@@ -8,7 +8,17 @@ import sys
 import time
 from typing import Any, Callable, Dict, List, Optional, Sequence
 
-from farm_tools import cages, calls, folders, limits, parsers, parts, settings, words as texts
+from farm_tools import (
+    cage_limits,
+    cages,
+    calls,
+    folders,
+    limits,
+    parsers,
+    parts,
+    settings,
+    words as texts,
+)
 from farm_tools.clocks import UNSYNCHRONIZED, Clocks
 from farm_tools.dispatcher import ADOPT, Dispatcher
 from farm_tools.runner import wake
@@ -24,7 +34,12 @@ NO_CAGE = (
     "neither a cgroup nor a namespace of processes is made for a job: what a command leaves behind "
     "is found by its environment and an open file alone, and a process that drops both lives on"
 )
+NO_LIMITS = (
+    "jobs have no limits of memory and processes of their own: these want a cgroup of version 2, the "
+    "controllers memory and pids, and the cgroup farm-dispatcher (DelegateSubgroup of the unit)"
+)
 NO_TOML = "timeouts of jobs aren't read: this Python has neither tomllib nor tomli (python3-tomli)"
+SIZES, NO_LIMIT = ("log_limit", "folder_limit", "memory_limit"), "none"
 # What options, environment and files may set: its value's word, its default, and what it is.
 MORE = {
     "limit": (
@@ -59,6 +74,18 @@ MORE = {
         "SIZE",
         "10 GB",
         "How large a job's folder may become before the job is ended, as by its time limit",
+    ),
+    "memory_limit": (
+        "SIZE",
+        NO_LIMIT,
+        "The most memory that all processes of a job may have together, where they are a cgroup of "
+        "its own",
+    ),
+    "process_limit": (
+        "COUNT",
+        NO_LIMIT,
+        "The most processes and threads that a job may have, with the two that look after it, where "
+        "they are such a cgroup",
     ),
     "serves": (
         "TAG",
@@ -139,9 +166,12 @@ def main(words: Optional[Sequence[str]] = None) -> int:
         if lock is None:
             return end(FAULT, f"{place} is in use by another farm-dispatch")
         part = parts.take(desk.server, options.serves)
+        has_limits = options.cage == cages.CGROUP and cage_limits.enable(cages.own_cgroup())
         dispatcher = Dispatcher(desk, place, options, own)
         clocks = Clocks(desk, place, options.clock == "synchronized")
         tell_of_itself(desk, place, options)
+        if (options.memory_limit or options.process_limit) and not has_limits:
+            end(0, NO_LIMITS)
         status = serve(dispatcher, clocks, Wakes(place), stops)
         part.close()
         return status
@@ -251,11 +281,12 @@ def use(options: argparse.Namespace, more: Dict[str, Optional[str]]) -> None:
     """Puts the settings that options, environment or files may have into the options."""
     for name, of, like in (
         *((it, time_of, "time, as '90 minutes'") for it in ("limit", "most", "retry", "keep_logs")),
-        *((it, limits.size_of, "size, as '100 MB'") for it in ("log_limit", "folder_limit")),
+        *((it, limits.size_of, "size, as '100 MB'") for it in SIZES),
+        ("process_limit", count_of, "count, as 500"),
     ):
         text = more[name] or MORE[name][1]
         try:
-            setattr(options, name, of(text))
+            setattr(options, name, 0 if text == NO_LIMIT == MORE[name][1] else of(text))
         except ValueError as fault:
             raise settings.BadSettings(f"{name}: {text!r} is no {like} is one") from fault
     options.limit = min(options.limit, options.most)
@@ -285,6 +316,13 @@ def numbers_of(text: str) -> List[int]:
     if not all(0 < it < 10**9 for it in numbers):
         raise ValueError
     return numbers
+
+
+def count_of(text: str) -> int:
+    number = int(text)
+    if not 0 < number < 10**9:
+        raise ValueError
+    return number
 
 
 def seconds(text: str) -> float:

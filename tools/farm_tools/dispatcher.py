@@ -46,8 +46,8 @@ class Dispatcher:
         own: Optional[settings.Settings] = None,
     ):
         """`options` has `command`, `check`, `every`, `grace`, `infra`, `keep`, `keep_logs`,
-        `limit`, `most`, `retry`, `cage`, `serves`, `log_limit` and `folder_limit`; `own` are the
-        settings by which it asks, where it may ask as others too."""
+        `limit`, `most`, `retry`, `cage`, `serves`, `log_limit`, `folder_limit`, `memory_limit` and
+        `process_limit`; `own` are the settings by which it asks, where it may ask as others too."""
         self.desk, self.place, self.options = desk, place, options
         self.starts = Starts((options.command, options.check), options.retry)
         self.groups = Groups(place, options)
@@ -430,7 +430,7 @@ class Dispatcher:
     def _outcome_of(self, ended: str) -> str:
         if ended == "status 0":
             return "Complete"
-        if ended.startswith((folders.TIME_LIMIT, folders.FOLDER_LIMIT)):
+        if ended.startswith((folders.TIME_LIMIT, folders.FOLDER_LIMIT, folders.MEMORY_LIMIT)):
             return "Incomplete"
         if ended.startswith("status ") and ended != f"status {self.options.infra}":
             return "Incomplete"

@@ -43,6 +43,7 @@ GROUPS, JOBS, CAGES = "groups", "jobs", "cages"
 READABLE = 0o644  # by the proxy's user and other tools too
 # How `ended` begins then.
 NOT_STARTED, TIME_LIMIT, FOLDER_LIMIT = "not started", "time limit", "folder limit"
+MEMORY_LIMIT = "memory limit"
 
 
 def sync_folder(folder: str) -> None:

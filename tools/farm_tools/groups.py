@@ -1,6 +1,7 @@
 """What becomes of a group on this machine: its folders, the process that runs its command, and what
 that started. Nothing of this asks the desk."""
 import argparse
+import contextlib
 import json
 import os
 import re
@@ -11,7 +12,7 @@ import sys
 import time
 from typing import Any, Dict, List, NamedTuple, Optional, Set
 
-from farm_tools import cages, folders, limits, parts, runner, strangers
+from farm_tools import cage_limits, cages, folders, limits, parts, runner, strangers
 from farm_tools.members import Rows
 from farm_tools.past import Past
 
@@ -52,6 +53,8 @@ class Groups:
         self.open = {it for it in self._numbers() if not self.of(it).files.has(folders.FINISHED)}
         self.runners: Dict[int, "subprocess.Popen[bytes]"] = {}
         self.left: Set[str] = set()  # marks of cages that are empty, but for the runner that ends
+        for number in self.open:
+            self.of(number).set_limits()
 
     def of(self, number: int) -> "Group":
         return Group(self, number)
@@ -240,6 +243,8 @@ class Group:
             options.log_limit,
             options.folder_limit,
             self.files.text(folders.MADE) or "",
+            options.memory_limit,
+            options.process_limit,
         )
         words = [sys.executable, "-m", "farm_tools.runner", self.files.state, order.word()]
         try:
@@ -276,6 +281,13 @@ class Group:
         """The group's cgroup, named by its number, so that it is found without the folder."""
         name = f"farm-{self.groups.identity}-{self.number}"
         return os.path.join(self.groups.cgroup, name) if self.groups.cgroup else ""
+
+    def set_limits(self) -> None:
+        """Sets the limits of a group that runs: they are gone where the controllers were."""
+        options = self.groups.options
+        if self.cgroup():
+            with contextlib.suppress(OSError):
+                cage_limits.set_most(self.cgroup(), options.memory_limit, options.process_limit)
 
     def mark(self) -> str:
         """The mark of what its command started; nothing where it started nothing, or an earlier

@@ -28,7 +28,7 @@ BLOCK = 65536
 @dataclasses.dataclass(frozen=True)
 class Order:
     """What the dispatcher says of a group's run: `place` is its folder, `form` and `cgroup` how the
-    command is caged, times are in seconds and sizes in bytes."""
+    command is caged, times are in seconds and sizes in bytes; 0 is no limit."""
 
     place: str
     form: str
@@ -39,6 +39,8 @@ class Order:
     log_limit: int
     folder_limit: int
     made: str
+    memory_limit: int = 0
+    process_limit: int = 0
 
     def word(self) -> str:
         return json.dumps(dataclasses.asdict(self))
@@ -50,6 +52,7 @@ def main(words: Sequence[str]) -> int:
     try:
         if order.form == cages.CGROUP:
             cages.enter(order.cgroup)
+            cage_limits.set_most(order.cgroup, order.memory_limit, order.process_limit)
         lock = lock_of(state)
         if lock is None or (files.text(folders.MADE) or "") != order.made:
             return 0
@@ -98,7 +101,7 @@ class Run:
         lock = f"{files.mark}.lock"
         self.cage = cages.Cage(order.form, order.cgroup, files.work, lock)
         self.mark = ""
-        self.counts: cage_limits.Counts = {}
+        self.meter = cage_limits.Meter("")
         self.over = time.monotonic() + limit.seconds
         self.measure = time.monotonic() + MEASURES
         self.told: Optional[float] = None  # since when it is told to end
@@ -127,7 +130,7 @@ class Run:
         self._wait(keeper, ends, said, log)
         how = self._ended(ends)
         read_all(said, log)
-        for met in cage_limits.met_since(self.mark, self.counts):
+        for met in self.meter.met:
             log.note(met)
         log.close(self.order.place)
         return f"{self.late}, {how}" if self.late else how
@@ -141,7 +144,7 @@ class Run:
         ends = Ends(keeper.told)
         try:
             self.mark = ends.after("mark")
-            self.counts = cage_limits.counts_of(self.mark)
+            self.meter = cage_limits.Meter(self.mark)
             note = f"{self.mark}\n"
             room.with_room(self.order.place, lambda: folders.write_synced(self.files.mark, note))
             os.write(keeper.go, b"g")
@@ -158,10 +161,13 @@ class Run:
         if self.order.form == cages.NONE:
             ends.wait_for_close(DIES_WITHIN)
         cages.empty(self.mark, self.cage, DIES_WITHIN)
+        self.meter.look()
         how = ends.how or f"signal {int(signal.SIGKILL)}"
-        is_killed = how == f"signal {int(signal.SIGKILL)}"
-        had_no_memory = is_killed and cage_limits.was_out_of_memory(self.mark)
-        return f"{how}, out of memory" if had_no_memory else how
+        if how != f"signal {int(signal.SIGKILL)}" or not self.meter.was_out_of_memory:
+            return how
+        if self.meter.own_most and not self.late:
+            self.late = f"{folders.MEMORY_LIMIT} of {self.meter.own_most}"
+        return f"{how}, out of memory"
 
     def _wait(self, keeper: cages.Kept, ends: "Ends", said: int, log: logs.Log) -> None:
         """Waits until the command has ended, and tells it to end once the folder says so or a limit
@@ -199,6 +205,7 @@ class Run:
         if now >= self.over:
             return f"{folders.TIME_LIMIT} of {self.limit.words()}"
         if now >= self.measure:
+            self.meter.look()
             if strangers.size_of(self.files.work) > self.order.folder_limit:
                 return f"{folders.FOLDER_LIMIT} of {limits.size_words(self.order.folder_limit)}"
             self.measure = time.monotonic() + MEASURES

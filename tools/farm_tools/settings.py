@@ -21,7 +21,8 @@ LOOPBACK = ("127.0.0.1", "localhost", "::1")
 WORDS = ("server", "user", "password_file", "ca_file", "timeout")
 OF_DESK = ("history",)
 OF_DISPATCH = (
-    "limit", "most", "retry", "clock", "keep_logs", "cage", "log_limit", "folder_limit", "serves",
+    "limit", "most", "retry", "clock", "keep_logs", "cage", "log_limit", "folder_limit",
+    "memory_limit", "process_limit", "serves",
 )
 # The sections of a file, each with its settings.
 SECTIONS = {
