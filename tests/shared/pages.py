@@ -218,7 +218,8 @@ def until(opened: Page, what: str, test: Callable[[Shown], object]) -> Shown:
         found: Shown = opened.ask(SHOWN)
         return found if test(found) else {}
 
-    return wait_until(what, shown)
+    there: Shown = wait_until(what, shown)
+    return there
 
 
 def names(shown: Shown, table: str = "boards") -> List[str]:

@@ -10,7 +10,7 @@ import socket
 import subprocess
 import sys
 import time
-from typing import Any, Callable, Dict, List, Optional, Sequence, Tuple, TypeVar
+from typing import Any, Callable, Dict, List, Optional, Sequence, Tuple
 
 TOP = os.path.realpath(os.path.join(os.path.dirname(__file__), "../.."))
 TOOLS = os.path.join(TOP, "tools")
@@ -32,7 +32,6 @@ for more, words in calls:
     given.append([status, output.getvalue(), errors.getvalue()])
 print(json.dumps(given))
 """
-Found = TypeVar("Found")
 Board = Tuple[str, str, Sequence[str]]
 
 
@@ -52,7 +51,7 @@ def demand(what: str, wanted: object, found: object) -> None:
     assert found == wanted, f"{what}: wanted {wanted!r}, got {found!r}"
 
 
-def wait_until(what: str, call: Callable[[], Found], limit: float = 60) -> Found:
+def wait_until(what: str, call: Callable[[], Any], limit: float = 60) -> Any:
     """Waits until a call gives something true, and returns that. It asks less often the longer it waits."""
     until, pause = time.monotonic() + limit, 0.02
     while True:

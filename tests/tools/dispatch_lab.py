@@ -108,7 +108,7 @@ class Lab:
 
     def first_line(self, dispatcher: Tool) -> str:
         """A dispatcher's first line, once it is there."""
-        return wait_until("its first line", dispatcher.output)
+        return str(wait_until("its first line", dispatcher.output))
 
     def shell(self, run: str) -> "subprocess.Popen[bytes]":
         """A process of the test's own."""
@@ -160,7 +160,8 @@ class Lab:
 
     def running(self, seconds: int) -> List[int]:
         """The same, once there is one: a job's begin is noted before its command starts."""
-        return wait_until(f"sleep {seconds} runs", lambda: self.sleepers(seconds))
+        found: List[int] = wait_until(f"sleep {seconds} runs", lambda: self.sleepers(seconds))
+        return found
 
     def closes(self, dispatcher: Tool) -> None:
         """Tells a dispatcher to end, and kills the farm."""

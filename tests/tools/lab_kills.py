@@ -133,7 +133,7 @@ class Kills:
     def run(self) -> None:
         """Submits all jobs while it kills, and waits until each has ended."""
         self.tools = [self.dispatch(it) for it in (0, 1)]
-        began, open_ = time.monotonic(), set()
+        began, open_ = time.monotonic(), set[int]()
         while len(self.members) < self.options.jobs or open_ or sum(self.killed.values()) < self.options.kills:
             if len(self.members) < self.options.jobs and len(open_) < 2 * self.options.boards:
                 before = len(self.members)

@@ -22,7 +22,7 @@ from typing import Any, Dict, List, Tuple, cast
 import pytest
 from dispatch_lab import AT_IT, BOARDS, COMMAND, Lab, MakeLab, jobs_of, one_line_each, read_words, replace
 from dispatch_lab import lab_fixture, make_lab_fixture  # noqa: F401
-from farm_tools import cages, folders, groups, limits, runner
+from farm_tools import cages, folders, limits, runner
 from farm_tools import clocks as clocks_module
 from farm_tools.clocks import Clocks
 from farm_tools.dispatcher import Dispatcher
@@ -642,19 +642,19 @@ def test_no_process_left(tmp_path: pathlib.Path, monkeypatch: pytest.MonkeyPatch
     """Without a process for it nothing is finished; one group after another is tried again. A dispatcher that
     can't make a process, and a runner that doesn't come up."""
     desk = DeskOfThree()
-    started = groups.subprocess.Popen
+    started = subprocess.Popen
     with contextlib.redirect_stdout(io.StringIO()):  # (what becomes of jobs)
         dispatcher = Dispatcher(cast(Any, desk), tempfile.mkdtemp(dir=tmp_path), OPTIONS)
-        monkeypatch.setattr(groups.subprocess, "Popen", no_process)
+        monkeypatch.setattr(subprocess, "Popen", no_process)
         try:
             dispatcher.round(True)
             told = dispatcher.starts.fault
             dispatcher.round(True)
             asked = list(desk.given)
-            monkeypatch.setattr(groups.subprocess, "Popen", lambda words, **more: started(["false"]))
+            monkeypatch.setattr(subprocess, "Popen", lambda words, **more: started(["false"]))
             tries = [tried(dispatcher) for _ in range(3)]
         finally:
-            monkeypatch.setattr(groups.subprocess, "Popen", started)
+            monkeypatch.setattr(subprocess, "Popen", started)
         assert "Resource temporarily unavailable" in told, "what it tells"
         assert asked == ["/pass", ("start", 1, None)], "what it asks"
         assert tries == [1, 2, 3], "which ones are tried, one after another"
@@ -785,14 +785,14 @@ def test_times(tmp_path: pathlib.Path) -> None:
     ]
     for said, seconds in right:
         assert limits.time_of(said) == seconds, f"the time {said!r}"
-    wrong = [
+    wrong: List[object] = [
         "", "soon", "15", "15 min", "minutes", "-1 minutes", "0 minutes", "15 minutes or so", 15,
         True, {}, [], {"minutes": "15"}, {"minute": 15}, {"minutes": True}, {"minutes": -1},
         {"seconds": 0}, {"seconds": float("nan")},
     ]
-    for said in wrong:
+    for it in wrong:
         with pytest.raises(limits.BadTime):
-            limits.time_of(said)
+            limits.time_of(it)
     texts = [
         ("", 3600, ""), ("job_name = 'x'", 3600, ""), ("[timeouts]\njob = '1 minute'", 60, ""),
         ("[timeouts.job]\nminutes = 2", 120, ""), ("[timeouts]\naction = 3", 3600, "no 'job'"),
@@ -805,9 +805,9 @@ def test_times(tmp_path: pathlib.Path) -> None:
         assert limit.seconds == seconds, f"the limit of {text[:40]!r}"
         assert (len(limit.remarks) == 1) == bool(remark), f"the remarks of {text[:40]!r}"
         assert remark in "".join(limit.remarks), f"what they say of {text[:40]!r}"
-    words = {90061: "1 day 1 hour", 3600: "1 hour", 61: "1 minute 1 second", 0.5: "0.5 seconds"}
-    for seconds, told in words.items():
-        assert limits.words_of(seconds) == told, f"{seconds} in words"
+    words: Dict[float, str] = {90061: "1 day 1 hour", 3600: "1 hour", 61: "1 minute 1 second", 0.5: "0.5 seconds"}
+    for count, told in words.items():
+        assert limits.words_of(count) == told, f"{count} in words"
 
 
 # ---- settings and clocks
@@ -817,7 +817,7 @@ def test_misspelt_settings(tmp_path: pathlib.Path) -> None:
     """A setting that there isn't is told with what it may mean, and the status is 2."""
     folder = tempfile.mkdtemp(dir=tmp_path)
     file = os.path.join(folder, "desk.ini")
-    runs = [
+    runs: List[Tuple[str, Dict[str, str], str]] = [
         ("[dispatch]\nserber = x\n", {}, "serber in [dispatch] is no setting: is server meant?"),
         ("[dispach]\nserver = x\n", {}, "[dispach] is no section: is [dispatch] meant?"),
         ("[dispatch]\npassword-file = x\n", {}, "is password_file meant?"),
@@ -834,10 +834,11 @@ def test_misspelt_settings(tmp_path: pathlib.Path) -> None:
         assert wanted in tool.errors(), f"what is told: {wanted}"
     with open(file, "w", encoding="utf-8") as settings_file:
         settings_file.write("[desk]\nusr = ann\n[dispatch]\nserver = http://127.0.0.1:1\n")
-    for words, around, wanted in (
+    calls: List[Tuple[List[str], Dict[str, str], str]] = [
         (["desk", "--config", file, "boards"], {}, "usr in [desk] is no setting: is user meant?"),
         (["desk", "boards"], {"DESK_USR": "ann"}, "is DESK_USER meant?"),
-    ):
+    ]
+    for words, around, wanted in calls:
         own = tempfile.mkdtemp(dir=tmp_path)
         tool = Tool(words, own, **around)
         assert tool.ends() == 2, f"the status of {words}"
@@ -921,11 +922,12 @@ def test_clock_not_set(lab: Lab) -> None:
     dispatcher = lab.dispatch(**own)
     assert lab.finished(lab.farm.submit("true")) == "Complete", "one of the next dispatcher"
     lab.stops(dispatcher)
-    for words, answer in (
+    answers: List[Tuple[List[str], str]] = [
         (["--clock", "any"], "NTP=yes\nNTPSynchronized=no\n"),
         ([], "NTP=no\nNTPSynchronized=no\n"),
         ([], "Failed to connect to bus\n"),
-    ):
+    ]
+    for words, answer in answers:
         tell(said, answer)
         forget(os.path.join(lab.place, "synchronized"))
         dispatcher = lab.dispatch(*words, **own)

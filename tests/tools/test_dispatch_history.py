@@ -2,6 +2,7 @@
 and the logs that a proxy serves."""
 from __future__ import annotations
 
+import functools
 import json
 import os
 import random
@@ -10,8 +11,9 @@ import subprocess
 import sys
 import tempfile
 import time
-from typing import Any, Dict, List, Optional, Set, Tuple, cast
+from typing import Any, Dict, List, Optional, Set, Tuple
 
+import pytest
 from dispatch_lab import Lab, jobs_of, lines_of, one_line_each
 from dispatch_lab import lab_fixture, make_lab_fixture  # noqa: F401
 from farm_tools import submissions
@@ -173,8 +175,10 @@ def test_torn_lines(lab: Lab) -> None:
     leaves at the history's end."""
     file = os.path.join(lab.place, "history.jsonl")
     os.makedirs(lab.place)
-    whole = {**dict.fromkeys(JOB_FIELDS), "kind": "job", "job": 900, "boards": [], "began": 5,
-             "owner": "zoe", "name": "old", "outcome": "Complete", "reason": ""}
+    whole: Dict[str, Any] = {
+        **dict.fromkeys(JOB_FIELDS), "kind": "job", "job": 900, "boards": [], "began": 5, "owner": "zoe", "name": "old",
+        "outcome": "Complete", "reason": "",
+    }
     rows = [{**whole, "job": 700 + place} for place in range(250)]
     text = "".join(f"{json.dumps(it)}\n" for it in rows)
     for tail, stays in ((json.dumps(whole)[:40], 0), (json.dumps(whole), 1), ("{" * 70_000, 0)):
@@ -184,7 +188,7 @@ def test_torn_lines(lab: Lab) -> None:
         number = lab.farm.submit("true")
         assert lab.finished(number) == "Complete", "a job"
         mark = lab.file(number, "finished")
-        wait_until("all is done", lambda it=mark: os.path.exists(it))
+        wait_until("all is done", functools.partial(os.path.exists, mark))
         found = [it["job"] for it in jobs_of(lab)[len(rows) :]]
         assert found == [900] * stays + [number], f"the lines behind {tail[:20]!r}"
         assert jobs_of(lab)[: len(rows)] == rows, "the lines before"
@@ -242,7 +246,7 @@ def test_changes_of_health(lab: Lab) -> None:
 
 def last_of(lab: Lab, board: str) -> str:
     """The health that the last line of a board tells, or nothing."""
-    return ([it["to"] for it in healths_of(lab) if it["board"] == board] or [""])[-1]
+    return str(([it["to"] for it in healths_of(lab) if it["board"] == board] or [""])[-1])
 
 
 def test_room_and_other_farms(lab: Lab) -> None:
@@ -281,31 +285,28 @@ class Clock:
         return self.now
 
 
-def test_moments_of_submission(lab: Lab) -> None:
+def test_moments_of_submission(lab: Lab, monkeypatch: pytest.MonkeyPatch) -> None:
     """When a job was submitted is known where the desk was looked at before and after. What looks at the number
     that is given next tell, over restarts and another farm."""
     lab.farm.kill()
     os.makedirs(lab.place)
     clock = Clock()
-    real, submissions.time = submissions.time, cast(Any, clock)
-    try:
-        seen = submissions.Submissions(lab.place)
-        look_at(seen, clock, [(0, 5), (5, 5), (10, 8), (110, 9)])
-        assert moments(seen, 9) == [None] * 4 + [1_000_010] * 3 + [None] * 2, "what it knows"
-        with open(os.path.join(lab.place, "numbers"), "a", encoding="ascii") as file:
-            file.write("12 100")
-        seen = submissions.Submissions(lab.place)
-        look_at(seen, clock, [(120, 9), (125, 10), (170, 11)])
-        wanted = [1_000_010, None, 1_000_125, 1_000_170, None]
-        assert moments(seen, 11)[6:] == wanted, "over a restart"
-        look_at(seen, clock, [(175, 2), (180, 7)])
-        assert moments(seen, 7) == [None] + [1_000_180] * 5 + [None], "of another farm"
-        look_at(seen, clock, [(181 + it, 8 + it) for it in range(submissions.MOST)])
-        with open(os.path.join(lab.place, "numbers"), encoding="ascii") as file:
-            assert len(file.readlines()) <= submissions.MOST, "looks that are kept"
-        assert moments(seen, 7 + submissions.MOST)[-2] == 1_000_180 + submissions.MOST, "the last"
-    finally:
-        submissions.time = real
+    monkeypatch.setattr(submissions, "time", clock)
+    seen = submissions.Submissions(lab.place)
+    look_at(seen, clock, [(0, 5), (5, 5), (10, 8), (110, 9)])
+    assert moments(seen, 9) == [None] * 4 + [1_000_010] * 3 + [None] * 2, "what it knows"
+    with open(os.path.join(lab.place, "numbers"), "a", encoding="ascii") as file:
+        file.write("12 100")
+    seen = submissions.Submissions(lab.place)
+    look_at(seen, clock, [(120, 9), (125, 10), (170, 11)])
+    wanted = [1_000_010, None, 1_000_125, 1_000_170, None]
+    assert moments(seen, 11)[6:] == wanted, "over a restart"
+    look_at(seen, clock, [(175, 2), (180, 7)])
+    assert moments(seen, 7) == [None] + [1_000_180] * 5 + [None], "of another farm"
+    look_at(seen, clock, [(181 + it, 8 + it) for it in range(submissions.MOST)])
+    with open(os.path.join(lab.place, "numbers"), encoding="ascii") as file:
+        assert len(file.readlines()) <= submissions.MOST, "looks that are kept"
+    assert moments(seen, 7 + submissions.MOST)[-2] == 1_000_180 + submissions.MOST, "the last"
 
 
 def look_at(seen: submissions.Submissions, clock: Clock, looks: List[Tuple[int, int]]) -> None:
@@ -328,7 +329,7 @@ def test_folders_that_lack_it(lab: Lab) -> None:
     for number in (gone, old, others):
         lab.begun(number)
     dispatcher.kill()
-    os.kill(lab.runner(gone), signal.SIGKILL)
+    lab.kill_runner(gone)
     os.rename(os.path.dirname(lab.file(gone, "log")), os.path.join(lab.folder, "gone"))
     os.unlink(lab.file(old, "about.json"))
     lab.farm.tell("admin", f"/jobs/{others}/finish", {"outcome": "Complete"})

@@ -14,7 +14,7 @@ import subprocess
 import sys
 import threading
 import time
-from typing import Callable, Dict, Iterator, List, Tuple
+from typing import Any, Callable, Dict, Iterator, List, Tuple
 
 import pytest
 from desks import write
@@ -195,11 +195,13 @@ def test_a_small_farms_text_with_a_history_and_passes(small: Farm, folder: str) 
 def test_a_reader_of_prometheus_takes_it(small: Farm, folder: str) -> None:
     """Python's client library reads a text with a history and one without: each metric has its type and its words."""
     wants_modules("prometheus_client")
-    from prometheus_client.parser import text_string_to_metric_families
+    import prometheus_client.parser as reader
+
+    families_of: Any = reader.text_string_to_metric_families
 
     for history in (write_history(folder), f"{folder}/none/none"):
         text = metrics(small.server, "--history", history)[1]
-        families = list(text_string_to_metric_families(text))
+        families = list(families_of(text))
         shown = {line.split("{")[0].split(" ")[0] for line in text.splitlines() if line and not line.startswith("#")}
         assert {it.name for family in families for it in family.samples} == shown
         assert [it.name for it in families if it.type not in ("gauge", "counter") or not it.documentation] == []
