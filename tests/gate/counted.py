@@ -1,8 +1,9 @@
 """What each process of Python does under `make coverage` as it starts (coverage.sh): it counts, and keeps what it
 counted also where it ends in a way that coverage doesn't see.
 
-These are os._exit, SIGKILL to itself, and SIGKILL by another of these processes, which first sends SAVES to one that
-catches it, and gives it a moment to keep what it has.
+These are os._exit, and a signal that ends it, by itself or by another of these processes, which first sends SAVES to one
+that catches that, and gives it a moment to keep what it has. (Coverage's own setting for SIGTERM catches it, so programs
+that ask what stands there would go another way than without it.)
 """
 from __future__ import annotations
 
@@ -14,7 +15,8 @@ import time
 from typing import Callable
 
 SAVES = signal.SIGRTMAX - 1
-MOMENT = 2.0  # seconds that a process has to keep what it counted
+ENDS = (signal.SIGKILL, signal.SIGTERM, signal.SIGINT, signal.SIGHUP, signal.SIGQUIT)
+MOMENT = 10.0  # seconds at most that a process has to keep what it counted
 FOLDER = pathlib.Path(os.environ.get("COVERAGE_PROCESS_START", "/")).parent
 PLAIN_EXIT, PLAIN_KILL = os._exit, os.kill
 
@@ -51,8 +53,8 @@ def replace_ends(save: Callable[[], None]) -> None:
     def save_and_kill(pid: int, number: int) -> None:
         if number == signal.SIGKILL and pid == os.getpid():
             save()
-        elif number == signal.SIGKILL and pid > 0:
-            ask(pid)
+        elif number in ENDS and pid > 0:
+            ask(pid, number)
         PLAIN_KILL(pid, number)
 
     def answer(*_: object) -> None:
@@ -70,13 +72,14 @@ def said_by(pid: object) -> pathlib.Path:
     return FOLDER / f"said-{pid}"
 
 
-def ask(pid: int) -> None:
-    """Lets another process keep what it counted, where it is one of these, and runs."""
+def ask(pid: int, number: int) -> None:
+    """Lets another process that a signal ends keep what it counted, where it is one of these, and runs."""
     try:
         lines = pathlib.Path(f"/proc/{pid}/status").read_text(encoding="utf-8", errors="replace").splitlines()
         about = dict(it.split(":\t", 1) for it in lines if ":\t" in it)
-        catches = int(about["SigCgt"], 16) >> (SAVES - 1) & 1
-        if not catches or about["State"][0] in "TtZX":
+        catches = int(about["SigCgt"], 16)
+        is_its_end = not (catches | int(about["SigIgn"], 16)) >> (number - 1) & 1
+        if not (is_its_end and catches >> (SAVES - 1) & 1) or about["State"][0] in "TtZX":
             return
         said_by(pid).unlink(missing_ok=True)
         PLAIN_KILL(pid, SAVES)

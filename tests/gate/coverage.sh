@@ -24,7 +24,6 @@ cat > "$folder/settings" << WORDS
 [run]
 branch = True
 parallel = True
-sigterm = True
 data_file = $folder/data
 source =
     $PWD/tools
