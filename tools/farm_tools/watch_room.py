@@ -47,7 +47,6 @@ class Room:
         for path in self.rules.paths:
             try:
                 found.setdefault(os.stat(path).st_dev, []).append(path)
-                self.troubled.discard(path)
             except OSError as fault:
                 self._tell(path, fault)
         for paths in found.values():
@@ -56,6 +55,7 @@ class Room:
             except OSError as fault:
                 self._tell(paths[0], fault)
                 continue
+            self.troubled -= set(paths)
             unit = about.f_frsize
             yield FileSystem(tuple(paths), about.f_bavail * unit, about.f_blocks * unit)
 
