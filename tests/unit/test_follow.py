@@ -2,13 +2,16 @@
 from __future__ import annotations
 
 import contextlib
+import os
 import pathlib
 import shutil
 import sqlite3
-from typing import Iterator, List
+import time
+import types
+from typing import BinaryIO, Callable, Iterator, List, Optional
 
 import pytest
-from farm_tools import copying, follow
+from farm_tools import copying, folders, follow, wal
 
 
 class Pair:
@@ -133,3 +136,150 @@ def test_a_standby_that_was_served_is_left_alone(tmp_path: pathlib.Path, monkeyp
     found = follower(tmp_path, monkeypatch, 11, 9)
     with pytest.raises(follow.InUse, match="has 11 commands, and .* 9: it was served"):
         found._compare_with_former(copying.Farm(str(tmp_path / "copy" / "farm.db"), "false"))
+
+
+# ---- a log that isn't whole, or goes on meanwhile
+
+
+@pytest.fixture
+def waits(monkeypatch: pytest.MonkeyPatch) -> List[float]:
+    """How long was waited for a header, without a wait."""
+    slept: List[float] = []
+    monkeypatch.setattr(follow, "time", types.SimpleNamespace(sleep=slept.append, time=time.time, monotonic=time.monotonic))
+    return slept
+
+
+def test_a_copy_without_a_whole_log_is_no_standby_and_stays_free(pair: Pair) -> None:
+    (pair.folder / "other").mkdir()
+    copy = pair.farm.within(str(pair.folder / "other"))
+    shutil.copy(pair.farm.db, copy.db)
+    for said in (b"", b"x" * 100):
+        (pair.folder / "other" / "farm.db-wal").write_bytes(said)
+        with pytest.raises(follow.Anew):
+            follow.Standby(pair.farm, copy)
+    (pair.folder / "other" / "farm.db-wal").unlink()
+    with pytest.raises(FileNotFoundError):
+        follow.Standby(pair.farm, copy)
+    shutil.copy(pair.farm.log, copy.log)
+    follow.Standby(pair.farm, copy).close()
+
+
+def test_a_header_that_is_being_written_is_waited_for(pair: Pair, waits: List[float], monkeypatch: pytest.MonkeyPatch) -> None:
+    pair.changes(1, 1)
+    heads = [None, None]
+    plain = wal.head_of
+    monkeypatch.setattr(wal, "head_of", lambda said: heads.pop() if heads else plain(said))
+    pair.standby.ship()
+    assert waits == [follow.HEADER_WAIT] * 2 and pair.turns() == [1, 0, 0]
+    monkeypatch.setattr(wal, "head_of", lambda said: None)
+    with pytest.raises(follow.Anew):
+        pair.standby.ship()
+    assert len(waits) == 2 + follow.HEADER_TRIES
+
+
+def test_a_log_that_begins_anew_while_it_is_read_is_copied_from_its_beginning(
+    pair: Pair, monkeypatch: pytest.MonkeyPatch
+) -> None:
+    pair.changes(1, 1)
+    plain = follow._read_from
+
+    def read(log: BinaryIO, offset: int) -> bytes:
+        said = plain(log, offset)
+        pair.carries()
+        pair.changes(2, 2)
+        return said
+
+    monkeypatch.setattr(follow, "_read_from", read)
+    with pytest.raises(follow.Anew):
+        pair.standby.ship()
+    assert pair.turns() == [0, 0, 0], "nothing of it was added"
+
+
+def test_a_log_whose_frames_were_changed_behind_it_is_copied_from_its_beginning(pair: Pair) -> None:
+    pair.changes(1, 1)
+    pair.standby.ship()
+    with open(pair.farm.log, "r+b") as log:
+        log.seek(pair.standby.place.offset - wal.FRAME - 4096)
+        log.write(b"\0" * wal.FRAME)
+    with pytest.raises(follow.Anew):
+        pair.standby.ship()
+
+
+@pytest.mark.parametrize("look", [0, 1])
+def test_a_farm_that_changes_while_its_pages_are_compared_is_copied_anew(
+    pair: Pair, monkeypatch: pytest.MonkeyPatch, look: int
+) -> None:
+    """Of another size before the look at its pages, or written meanwhile."""
+    pair.changes(1, 1)
+    pair.standby.ship()
+    pair.carries()
+    pair.changes(2, 2)
+    plain, looks = copying.Farm.see, [0]
+
+    def see(farm: copying.Farm) -> copying.Seen:
+        seen = plain(farm)
+        looks[0] += 1
+        return seen._replace(file=(*seen.file[:2], seen.file[2] + 4096, seen.file[3])) if looks[0] > look else seen
+
+    monkeypatch.setattr(copying.Farm, "see", see)
+    with pytest.raises(follow.Anew):
+        pair.standby.ship()
+    assert looks == [look + 1]
+
+
+def test_a_log_that_cant_be_begun_anew_leaves_no_file_open(pair: Pair, monkeypatch: pytest.MonkeyPatch) -> None:
+    pair.changes(1, 1)
+    pair.standby.ship()
+    pair.carries()
+    pair.changes(2, 2)
+
+    def fails(folder: str) -> None:
+        raise OSError(5, "Input/output error")
+
+    before = len(os.listdir("/proc/self/fd"))
+    monkeypatch.setattr(folders, "sync_folder", fails)
+    with pytest.raises(OSError, match="Input/output error"):
+        pair.standby.ship()
+    assert len(os.listdir("/proc/self/fd")) == before
+
+
+# ---- what a follower tells
+
+
+class Rounds(follow.Follower):
+    """A follower whose shippings are the test's: faults, or none."""
+
+    def __init__(self, folder: pathlib.Path, *faults: Optional[Exception]) -> None:
+        self.said: List[str] = []
+        super().__init__(copying.Farm(str(folder / "farm.db"), "false"), str(folder), 1, self.said.append)
+        self.faults = list(faults)
+
+    def _ship_or_copy(self) -> None:
+        fault = self.faults.pop(0)
+        if fault:
+            raise fault
+
+
+def test_a_trouble_is_told_once_and_that_it_goes_on(tmp_path: pathlib.Path, capsys: pytest.CaptureFixture[str]) -> None:
+    away = copying.NoCopy("no room")
+    found = Rounds(tmp_path, away, away, OSError(5, "Input/output error"), None, None)
+    for _ in range(5):
+        found._round(time.time())
+    assert found.said == ["nothing is shipped: no room", "nothing is shipped: [Errno 5] Input/output error", "it goes on"]
+    assert capsys.readouterr().out.startswith(f"{tmp_path}/farm.db follows {tmp_path}/farm.db every 1 s: ")
+    assert (tmp_path / follow.AS_OF).read_text().endswith("Z\n")
+
+
+def test_a_copy_whose_log_isnt_whole_is_thrown_away(tmp_path: pathlib.Path, monkeypatch: pytest.MonkeyPatch) -> None:
+    def copied(farm: copying.Farm, folder: str, tell: Callable[[str], None]) -> str:
+        place = pathlib.Path(folder, "new-1")
+        place.mkdir()
+        for name in ("farm.db", "farm.db-wal"):
+            (place / name).touch()
+        return str(place)
+
+    monkeypatch.setattr(copying, "new_copy", copied)
+    found = follow.Follower(copying.Farm(str(tmp_path / "farm.db"), "false"), str(tmp_path), 1, lambda text: None)
+    with pytest.raises(copying.NoCopy, match="^the copy's log has no whole header$"):
+        found._copy()
+    assert os.listdir(tmp_path) == []
