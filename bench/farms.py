@@ -26,7 +26,7 @@ class Rows(NamedTuple):
 
     table: str
     first: int
-    count: int
+    many: int
     values: dict[str, str]
 
 
@@ -42,7 +42,7 @@ def insertion(path: str, wanted: Rows) -> str:
     terms = [wanted.values.get(name, "0" if kind == "INTEGER" else "''") for name, kind in columns]
     return f"""
         INSERT INTO {wanted.table}
-            WITH RECURSIVE n(i) AS (SELECT {wanted.first} UNION ALL SELECT i + 1 FROM n LIMIT {wanted.count})
+            WITH RECURSIVE n(i) AS (SELECT {wanted.first} UNION ALL SELECT i + 1 FROM n LIMIT {wanted.many})
             SELECT {", ".join(terms)} FROM n;
     """
 
@@ -66,7 +66,8 @@ def fill(farm: str, path: str, count: int, *added: Rows | str) -> None:
     rows or statements."""
     clear(path)
     subprocess.run([farm, "init", "--db", path], stdout=subprocess.DEVNULL, check=True)
-    statements = [insertion(path, it) if isinstance(it, Rows) else it for it in (TYPES, boards(count), *added)]
+    parts: list[Rows | str] = [TYPES, boards(count), *added]
+    statements = [insertion(path, it) if isinstance(it, Rows) else it for it in parts]
     last = """
         UPDATE meta SET value = 1700000000 WHERE name = 'clock';
         UPDATE meta SET value = 1 + (SELECT count(*) FROM jobs) + (SELECT count(*) FROM reservations) WHERE name = 'next';

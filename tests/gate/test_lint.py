@@ -1,6 +1,7 @@
 """What linters say of the files of the project: nothing."""
 from __future__ import annotations
 
+import os
 import pathlib
 import subprocess
 
@@ -9,8 +10,16 @@ from served import TOP
 from wants import wants, wants_python_with
 
 SHELLS = ("#!/bin/sh", "#!/bin/bash", "#!/usr/bin/env bash")
-# What mypy reads at once, by the folder that it is called in.
-TYPED = {"tools": ["farm_tools"], "python/src": ["fizgruk"]}
+# What mypy reads at once, by the folder that it is called in. (Of tests/gate these are what the others import.)
+TYPED = {
+    "tools": ["farm_tools"],
+    "python/src": ["fizgruk"],
+    "tests/unit": ["."],
+    "tests/tools": ["."],
+    "tests/gate": ["counted.py", "functions.py", "toolchain.py", "waves.py", "waves_test.py"],
+}
+# Where the tests find what they import, as pytest.ini says.
+IMPORTED = ("tools", "python/src", "bench", "tests/shared", "tests/tools", "tests/gate")
 
 
 def files_of_the_project() -> list[pathlib.Path]:
@@ -28,11 +37,11 @@ def first_line(file: pathlib.Path) -> str:
         return opened.readline(200).decode(errors="replace").rstrip("\n")
 
 
-def said(*words: object, where: str = ".") -> str:
-    """What a linter prints, where it ends with another status than 0."""
+def said(*words: object, where: str = ".", **more: str) -> str:
+    """What a linter prints, with more in its environment, where it ends with another status than 0."""
     ran = subprocess.run(
         [str(it) for it in words], cwd=pathlib.Path(TOP, where), stdin=subprocess.DEVNULL, stdout=subprocess.PIPE,
-        stderr=subprocess.STDOUT, text=True, check=False,
+        stderr=subprocess.STDOUT, text=True, check=False, env={**os.environ, **more},
     )
     return ran.stdout if ran.returncode else ""
 
@@ -55,5 +64,6 @@ def test_shellcheck_finds_nothing_in_shell_scripts() -> None:
 @pytest.mark.parametrize("folder", TYPED)
 def test_mypy_finds_no_wrong_type(folder: str, tmp_path: pathlib.Path) -> None:
     python = wants_python_with("mypy")
-    found = said(python, "-m", "mypy", "--strict", "--cache-dir", tmp_path, *TYPED[folder], where=folder)
+    imported = {"MYPYPATH": ":".join(os.path.join(TOP, it) for it in IMPORTED)} if folder.startswith("tests/") else {}
+    found = said(python, "-m", "mypy", "--strict", "--cache-dir", tmp_path, *TYPED[folder], where=folder, **imported)
     assert found == ""

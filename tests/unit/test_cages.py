@@ -257,3 +257,108 @@ def test_the_processes_that_run_a_groups_folder_are_found_by_their_words(tmp_pat
     finally:
         process.kill()
         process.communicate()
+
+
+# ---- who starts a command, and waits for it
+
+
+class Keeper:
+    """A keeper in this process, whose signals' handlers aren't set; what it tells is read at its end."""
+
+    def __init__(self, folder: pathlib.Path, monkeypatch: pytest.MonkeyPatch) -> None:
+        self.folder = folder
+        (folder / "work").mkdir()
+        kept: Any = types.SimpleNamespace(**{**vars(signal), "signal": lambda number, handler: None})
+        monkeypatch.setattr(cages, "signal", kept)
+        self.told, self.tells = os.pipe()
+        self.goes, self.go = os.pipe()
+        self.keeper = cages._Keeper(cage_of(folder), self.tells, self.goes)
+
+    def runs(self, *command: str, goes: bytes = b"g") -> List[str]:
+        """What it tells, line by line, of a run of this command."""
+        os.write(self.go, goes)
+        os.close(self.go)
+        self.keeper.run(command, dict(os.environ), os.open(self.folder / "output", os.O_WRONLY | os.O_CREAT))
+        os.close(self.tells)
+        with open(self.told, encoding="utf-8") as lines:
+            return lines.read().splitlines()
+
+
+@pytest.fixture
+def keeper(tmp_path: pathlib.Path, monkeypatch: pytest.MonkeyPatch) -> Keeper:
+    return Keeper(tmp_path, monkeypatch)
+
+
+@pytest.mark.parametrize("command, how", [("exit 3", "status 3"), ("kill -9 $$", "signal 9"), ("pwd", "status 0")])
+def test_a_keeper_tells_its_mark_the_start_and_the_end(
+    tmp_path: pathlib.Path, keeper: Keeper, command: str, how: str
+) -> None:
+    assert keeper.runs("sh", "-c", command) == [f"mark cgroup:{tmp_path}/farm-1", "started", how]
+    assert (tmp_path / "farm-1" / "command" / "cgroup.procs").read_text() == "0", "it is in the command's cgroup"
+    assert (tmp_path / "output").read_text() == (f"{tmp_path}/work\n" if command == "pwd" else "")
+
+
+def test_a_keeper_that_isnt_told_to_go_on_starts_nothing(tmp_path: pathlib.Path, keeper: Keeper) -> None:
+    """Its caller was killed before the mark was noted."""
+    assert keeper.runs("sh", "-c", "echo ran", goes=b"") == [f"mark cgroup:{tmp_path}/farm-1"]
+    assert (tmp_path / "output").read_text() == ""
+
+
+def test_a_command_that_cant_be_started_is_a_fault(tmp_path: pathlib.Path, keeper: Keeper) -> None:
+    lines = keeper.runs("/not/there")
+    assert lines[1:] == ["fault [Errno 2] No such file or directory: '/not/there'"]
+
+
+def test_a_keeper_that_is_told_to_end_before_the_start_hands_that_on(keeper: Keeper) -> None:
+    keeper.keeper._hand_on()
+    assert keeper.runs("sleep", "600")[1:] == ["started", "signal 15"]
+    keeper.keeper._hand_on()
+
+
+def test_whoever_ends_meanwhile_is_waited_for_too() -> None:
+    first, other = (os.posix_spawnp("sh", ["sh", "-c", f"exit {it}"], dict(os.environ)) for it in (3, 4))
+    os.waitid(os.P_PID, first, os.WEXITED | os.WNOWAIT)
+    assert cages._waited_for(other) == 4
+    with pytest.raises(ChildProcessError):
+        os.waitpid(first, 0)
+
+
+def test_a_namespace_that_cant_be_made_is_a_fault(tmp_path: pathlib.Path, monkeypatch: pytest.MonkeyPatch) -> None:
+    monkeypatch.setattr(cages, "_unshare", lambda: False)
+    with pytest.raises(OSError, match="^no namespace of processes can be made$"):
+        cages.keep(cage_of(tmp_path, cages.NAMESPACE), ["true"], {}, 1)
+
+
+def test_whatever_a_keeper_meets_is_told(tmp_path: pathlib.Path, monkeypatch: pytest.MonkeyPatch) -> None:
+    def fails(*_: object) -> None:
+        raise ValueError("a fault\nin two lines")
+
+    monkeypatch.setattr(cages, "_Keeper", fails)
+    kept = cages.keep(cage_of(tmp_path, cages.NONE), ["true"], {}, 1)
+    assert os.read(kept.told, 1000) == b"fault a fault in two lines\n"
+    assert os.waitpid(kept.pid, 0)[1] == 0
+    os.close(kept.told)
+    os.close(kept.go)
+
+
+def test_a_trial_of_a_namespace_leaves_no_process(monkeypatch: pytest.MonkeyPatch) -> None:
+    before = cages._below(os.getpid())
+    monkeypatch.setattr(cages, "_unshare", lambda: False)
+    assert not cages._can_unshare()
+    monkeypatch.setattr(cages, "_unshare", lambda: True)
+    assert not cages._can_unshare(), "the child isn't the first process of a namespace"
+    assert cages._below(os.getpid()) == before
+
+
+def test_all_that_lives_below_a_process_is_killed() -> None:
+    child = os.fork()
+    if not child:
+        status = 1
+        try:
+            os.setpgid(0, 0)
+            below = [os.posix_spawnp("sh", ["sh", "-c", "sleep 600 & sleep 600"], dict(os.environ)) for _ in range(2)]
+            cages._kill_below(os.getpid())
+            status = 0 if not any(map(cages.started_at, below)) else 2
+        finally:
+            os._exit(status)
+    assert os.waitstatus_to_exitcode(os.waitpid(child, 0)[1]) == 0

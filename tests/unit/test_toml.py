@@ -129,3 +129,8 @@ def test_a_lab_file_is_read_without_pythons_own_reader(monkeypatch: pytest.Monke
     monkeypatch.setattr(toml_text, "READERS", [small_toml.loads])
     assert lab_import.additions_of(text) == wanted
     assert toml_text.line_of(text, ["types", "rpi4b"]) == 9
+
+
+@pytest.mark.parametrize("text, line", [("= no TOML", 1), ("[types]\n= no TOML\n", 2), ("a = [\n1,\n", 1)])
+def test_in_a_text_that_stays_no_toml_a_line_is_the_first_behind_what_is_one(text: str, line: int) -> None:
+    assert toml_text.line_of(text, ["types", "bbb"]) == line

@@ -8,8 +8,8 @@ from farm_tools import small_toml
 READERS: List[Callable[[str], Dict[str, Any]]] = [small_toml.loads]
 try:
     import tomllib
-except ImportError:
-    pass  # before Python 3.11
+except ImportError:  # pragma: no cover (before Python 3.11)
+    pass
 else:
     READERS.insert(0, tomllib.loads)
 
