@@ -230,11 +230,11 @@ def test_the_keeper_is_killed_after_the_others(tmp_path: pathlib.Path) -> None:
         below = int(keeper.stdout.readline())
         mark, cage = f"none:{cages.name_of(keeper.pid)}", cage_of(tmp_path, cages.NONE)
         cages.kill(mark, cage)
-        assert keeper.poll() is None
         until = time.monotonic() + 60
         while cages.started_at(below) and time.monotonic() < until:
             time.sleep(0.01)
         assert not cages.started_at(below)
+        assert keeper.poll() is None and cages.first_of(mark.partition(":")[2]) == keeper.pid
         assert cages.empty(mark, cage, 60)
         assert keeper.wait(60) == -signal.SIGKILL
     finally:
