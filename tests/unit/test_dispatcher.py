@@ -167,8 +167,7 @@ def test_how_a_command_ended_says_its_outcome(lab: Lab, how: str, result: str) -
 def test_one_that_somebody_else_started_is_left_and_its_folder_goes(lab: Lab, capsys: pytest.CaptureFixture[str]) -> None:
     lab.desk.job(1, "Scheduled")
     lab.desk.refusals["/jobs/1/start"] = WRONG
-    for _ in range(2):
-        lab.dispatcher.round(False)
+    lab.dispatcher.round(False)
     assert said(capsys) == ["job 1 was started by somebody else"] and lab.launched == []
     assert not lab.files(1).are_there()
 
