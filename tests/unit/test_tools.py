@@ -82,6 +82,13 @@ def test_a_copy_gets_its_name_and_the_oldest_go(copies: Copies, capsys: pytest.C
     assert capsys.readouterr().out.splitlines()[-1] == f"{copies.folder}/{names[-1]}"
 
 
+def test_a_new_copy_stays_where_the_clock_was_set_back(copies: Copies) -> None:
+    for day in (28, 29):
+        (copies.folder / f"farm-202611{day}T000000Z").mkdir()
+    copies.runs("--keep", "1")
+    assert sorted(os.listdir(copies.folder)) == ["farm-20261120T000000Z", "farm-20261129T000000Z", "latest"]
+
+
 def test_a_copy_that_has_less_than_the_desk_is_thrown_away(copies: Copies) -> None:
     copies.count = 8
     with pytest.raises(copying.NoCopy, match="^the copy has 8 commands, and the desk had done 9: it is thrown away"):
