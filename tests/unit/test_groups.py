@@ -12,11 +12,12 @@ from typing import Any, Dict, List, Optional, Union
 
 import pytest
 from farm_tools import cages, calls, folders, groups, past, records, strangers, submissions
+from served import wait_until
 
 NOW = 1_800_000_000
 OPTIONS = argparse.Namespace(
-    cage=cages.NONE, serves="", grace=30.0, limit=60.0, most=60.0, log_limit=1000, folder_limit=1000, command=["true"],
-    check=["false"],
+    cage=cages.NONE, serves="", grace=30.0, limit=60.0, most=60.0, log_limit=1000, folder_limit=1000, memory_limit=0,
+    process_limit=0, command=["true"], check=["false"],
 )
 VIEW: Dict[str, Any] = {
     "number": 7, "group": 7, "owner": "ann", "kind": "ordinary", "text": "job_name = 'boot'\n", "board": "b1", "type": "bbb",
@@ -131,6 +132,21 @@ def test_a_group_that_began_isnt_dropped(lab: Lab) -> None:
     lab.prepares()
     folders.claim(lab.group.files.state, 60)
     assert not lab.group.drop() and lab.group.files.are_there()
+
+
+def test_a_folder_that_is_made_while_an_earlier_one_of_its_number_is_removed_stays(
+    lab: Lab, monkeypatch: pytest.MonkeyPatch
+) -> None:
+    removed: List[str] = []
+    monkeypatch.setattr(lab.groups.removals, "add", removed.append)
+    lab.prepares()
+    assert lab.group.drop()
+    assert not os.path.lexists(lab.group.files.work) and os.path.isdir(removed[0])
+    lab.prepares()
+    strangers.Removals().add(removed[0])
+    wait_until("the earlier one is gone", lambda: not os.path.lexists(removed[0]))
+    assert os.path.isfile(os.path.join(lab.group.files.work, folders.LOG))
+    assert not (set(os.listdir(lab.place / folders.JOBS)) - {"7"})
 
 
 def test_a_group_without_a_folder_has_nothing_to_be_dropped(lab: Lab) -> None:

@@ -74,7 +74,7 @@ class Groups:
         oldest = time.time() - days * DAY
         for name in os.listdir(os.path.join(self.place, folders.JOBS)):
             if _last_of(self.place, name) < oldest:
-                self.removals.add(os.path.join(self.place, folders.JOBS, name))
+                self.remove_work(name)
         for name in os.listdir(os.path.join(self.place, folders.GROUPS)):
             is_left = os.path.lexists(os.path.join(self.place, folders.JOBS, name))
             if not is_left and _last_of(self.place, name) < oldest:
@@ -84,6 +84,16 @@ class Groups:
             ours = name.startswith(f"farm-{self.identity}-") and number.isdigit()
             if ours and int(number) not in self.open:
                 cages.remove(f"{cages.CGROUP}:{os.path.join(self.cgroup, name)}")
+
+    def remove_work(self, name: str) -> None:
+        """Removes a job's own folder, in the background and under another name, so that a new one of
+        that number may be made meanwhile."""
+        folder = os.path.join(self.place, folders.JOBS, name)
+        if not name.startswith(NEW):
+            removed = os.path.join(os.path.dirname(folder), f"{NEW}{name}-{secrets.token_hex(8)}")
+            os.rename(folder, removed)
+            folder = removed
+        self.removals.add(folder)
 
     def _remove_state(self, name: str) -> None:
         state = os.path.join(self.place, folders.GROUPS, name)
@@ -210,7 +220,7 @@ class Group:
                 os.rename(self.files.state, dropped)
             shutil.rmtree(dropped, ignore_errors=True)
         if os.path.lexists(self.files.work):
-            self.groups.removals.add(self.files.work)
+            self.groups.remove_work(str(self.number))
         self.forget()
         return True
 
