@@ -14,7 +14,7 @@ from desks import (
     BOARDS, GROUP, JOB, at_a_terminal, desk, number_of, passes, prints, tell_at, waiting_tool, waits, write,
 )
 from farm_tools import job_file
-from served import Farm, Tool, wait_until
+from served import Farm, Tool, read, wait_until
 
 SIGNALS = (signal.SIGINT, signal.SIGTERM, signal.SIGHUP, signal.SIGQUIT)
 EACH_SIGNAL = pytest.mark.parametrize("number", SIGNALS, ids=[it.name for it in SIGNALS])
@@ -146,6 +146,72 @@ def test_a_wait_for_a_job_that_is_interrupted_says_that_the_job_goes_on(farm: Fa
         assert each.ends() == 130
         assert each.errors().endswith(f"desk: job {number} goes on; desk cancel {number} ends it\n")
     assert farm.job(number)["state"] == "Submitted"
+
+
+# ---- a board that is lost
+
+# A command that waits for its child, which does something at first: each writes its number into a file.
+CHILD = 'echo begun; sh -c "%s; echo \\$\\$ > %s/child; while :; do sleep 0.1; done" & echo $$ > %s/own; wait'
+
+
+def lost_with(farm: Farm, folder: str, *command: str) -> Tool:
+    """A `desk with` whose board an admin takes away."""
+    tool = with_hdmi(farm, folder, *command)
+    farm.tell("admin", "/reservations/1/cancel")
+    return tool
+
+
+def is_running(folder: str, name: str) -> bool:
+    """Whether a process runs that wrote its number there."""
+    try:
+        with open(f"/proc/{int(read(os.path.join(folder, name)))}/stat", encoding="utf-8") as stat:
+            return stat.read().rpartition(")")[2].split()[0] != "Z"
+    except (OSError, ValueError):
+        return False
+
+
+def test_a_board_that_is_lost_ends_the_command_and_its_children(farm: Farm, folder: str) -> None:
+    tool = with_hdmi(farm, folder, "sh", "-c", CHILD % (":", folder, folder))
+    wait_until("its child", lambda: is_running(folder, "child") and is_running(folder, "own"))
+    farm.tell("admin", "/reservations/1/cancel")
+    assert tool.ends() == 125
+    assert tool.errors().endswith("desk: board b1 is lost: reservation 1 is canceled: the command is ended\n")
+    assert not is_running(folder, "own") and not is_running(folder, "child")
+    assert farm.reservation(1)["state"] == "canceled"
+
+
+@pytest.mark.slow(15)
+def test_what_takes_no_notice_is_killed_where_its_board_is_lost(farm: Farm, folder: str) -> None:
+    told = os.path.join(folder, "told")
+    tool = with_hdmi(farm, folder, "sh", "-c", CHILD % (f"trap 'echo > {told}' TERM", folder, folder))
+    wait_until("its child", lambda: is_running(folder, "child"))
+    farm.tell("admin", "/reservations/1/cancel")
+    assert (tool.ends(), is_running(folder, "own"), is_running(folder, "child")) == (125, False, False)
+    assert os.path.exists(told), "it was told before"
+
+
+def test_a_board_that_is_lost_just_before_the_command_ends_is_told_too(farm: Farm, folder: str) -> None:
+    """Its end comes before the next look, or the look before its end."""
+    end = os.path.join(folder, "end")
+    loop = f"trap 'exit 0' TERM; echo begun; until [ -e {end} ]; do sleep 0.1; done"
+    tool = lost_with(farm, folder, "sh", "-c", loop)
+    write(folder, "end", "")
+    assert tool.ends() == 125
+    assert re.search(r"desk: board b1 is lost: reservation 1 (had ended before the command|is canceled: the c.*)\n$",
+                     tool.errors())
+
+
+@pytest.mark.slow(10)
+def test_while_the_desk_is_away_no_board_is_lost(farm: Farm, folder: str) -> None:
+    end = os.path.join(folder, "end")
+    tool = with_hdmi(farm, folder, "sh", "-c", f"echo begun; until [ -e {end} ]; do sleep 0.1; done; exit 5")
+    farm.kill()
+    time.sleep(5)  # two looks at least
+    farm.start()
+    time.sleep(3)
+    assert (tool.process.poll(), farm.board("b1")["holder"]) == (None, "reservation 1")
+    write(folder, "end", "")
+    assert (tool.ends(), "lost" in tool.errors(), farm.board("b1")["holder"]) == (5, False, "none")
 
 
 # ---- why it waits (tests/unit/test_wants.py has more reasons, without a server)

@@ -14,7 +14,7 @@ import subprocess
 import sys
 import threading
 import time
-from typing import Any, Callable, Dict, List, Tuple, Type, cast
+from typing import Any, Callable, Dict, Iterator, List, Optional, Tuple, Type, cast
 
 import pytest
 
@@ -542,6 +542,121 @@ def test_desk_that_is_killed(farm: Farm) -> None:
 def held_once(client: fizgruk.Client) -> str:
     with client.board("hdmi", every=0.1) as board:
         return board.name
+
+
+# ---- boards that are lost
+
+LOST = "^board b1 is lost: reservation 1 is canceled$"
+
+
+@pytest.fixture
+def handler() -> Iterator[None]:
+    """The test's own process handles the signal of a loss as it did before."""
+    before = signal.getsignal(signal.SIGURG)
+    yield
+    signal.signal(signal.SIGURG, before)
+
+
+@pytest.mark.usefixtures("handler")
+@pytest.mark.parametrize("call", [
+    lambda: time.sleep(300), lambda: subprocess.run(["sleep", "300"], check=True), lambda: threading.Event().wait(300),
+], ids=["sleep", "process", "event"])
+def test_board_that_is_lost(call: Callable[[], object], farm: Farm, caplog: pytest.LogCaptureFixture) -> None:
+    """What a block of the main thread waits for is interrupted, though it takes errors for its own, and raised."""
+    ended: List[bool] = []
+    with Passer(farm), pytest.raises(fizgruk.HoldLost, match=LOST):
+        with client_of(farm.server).board("hdmi", every=0.1):
+            farm.tell("admin", "/reservations/1/cancel")
+            try:
+                call()
+            except Exception:
+                pytest.fail("it is no error of the block's")
+            finally:
+                ended.append(True)
+    assert (ended, caplog.messages[-1]) == ([True], "board b1 is lost: reservation 1 is canceled")
+    time.sleep(0.1)  # nothing comes any more
+    with Passer(farm), client_of(farm.server).board("hdmi", every=0.1) as board:
+        assert board.reservation == 2
+
+
+@pytest.mark.usefixtures("handler")
+def test_board_that_is_lost_in_a_thread(farm: Farm) -> None:
+    """The block of another thread goes on, may ask, and raises at its end; the main thread isn't interrupted."""
+    raised: List[object] = []
+
+    def hold() -> None:
+        one = client_of(farm.server).board("hdmi", every=0.1)
+        try:
+            with one:
+                assert one.lost == ""
+                farm.tell("admin", "/reservations/1/cancel")
+                wait_until("it knows", lambda: one.lost)
+                raised.append(one.lost)
+        except fizgruk.HoldLost as fault:
+            raised.append(str(fault))
+
+    thread = threading.Thread(target=hold)
+    with Passer(farm):
+        thread.start()
+        thread.join(300)
+    assert raised == ["board b1 is lost: reservation 1 is canceled"] * 2
+
+
+@pytest.mark.usefixtures("handler")
+@pytest.mark.parametrize("fault, kind", [
+    (None, fizgruk.HoldLost), (ValueError, fizgruk.HoldLost), (KeyboardInterrupt, KeyboardInterrupt),
+    (SystemExit, SystemExit),
+])
+def test_board_that_is_lost_at_the_end(
+    fault: Optional[Type[BaseException]], kind: Type[BaseException], farm: Farm
+) -> None:
+    """A loss that nobody saw before is raised at the block's end, in the place of its errors; what ends the program
+    goes on."""
+    with Passer(farm), pytest.raises(kind) as raised:
+        with client_of(farm.server).board("hdmi", every=0.1):
+            farm.tell("admin", "/reservations/1/cancel")
+            if fault:
+                raise fault
+    if kind is fizgruk.HoldLost:
+        assert re.match(LOST, str(raised.value))
+        assert isinstance(raised.value.__cause__, fault or type(None))
+
+
+@pytest.mark.usefixtures("handler")
+def test_one_of_two_boards_that_is_lost(farm: Farm) -> None:
+    """The block of the other one is interrupted too, and that is given back."""
+    ann = client_of(farm.server)
+    with Passer(farm), pytest.raises(fizgruk.HoldLost, match=LOST):
+        with ann.board("name=b1", every=0.1), ann.board("name=b2", every=0.1):
+            farm.tell("admin", "/reservations/1/cancel")
+            time.sleep(300)
+    assert states(farm) == ["canceled", "canceled"]
+
+
+@pytest.mark.usefixtures("handler")
+def test_signal_that_is_the_programs_own(farm: Farm) -> None:
+    """Where the program has its own use of the signal the block goes on, and raises at its end."""
+    signal.signal(signal.SIGURG, lambda *_: None)
+    hold = client_of(farm.server).board("hdmi", every=0.1)
+    with Passer(farm), pytest.raises(fizgruk.HoldLost, match=LOST):
+        with hold:
+            farm.tell("admin", "/reservations/1/cancel")
+            wait_until("it knows", lambda: hold.lost)
+
+
+@pytest.mark.usefixtures("handler")
+@pytest.mark.slow(10)
+def test_desk_that_is_away_while_a_board_is_held(front: Front, farm: Farm) -> None:
+    """No board is lost while the desk is away, and looks have a connection of their own that is kept."""
+    with Passer(farm), client_of(front.url).board("hdmi", every=0.1):
+        opened = front.connections
+        farm.kill()
+        wait_until("looks", lambda: front.paths()[-2:] == ["GET /boards"] * 2)
+        farm.start()
+        seen = len(front.asked)
+        wait_until("looks again", lambda: len(front.asked) > seen + 1)
+        assert front.connections == opened + 1
+    assert states(farm) == ["canceled"]
 
 
 # ---- programs that hold a board

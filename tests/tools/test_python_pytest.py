@@ -220,6 +220,56 @@ def test_signals_while_the_desk_is_away(farm: Farm, start: Start) -> None:
     assert states(farm) == ["canceled"]
 
 
+LOSES = """import time, pytest
+def lost(board):
+    print("holds", file=open("holds", "w"))
+    try:
+        time.sleep(300)
+    except Exception:
+        pass
+@pytest.fixture
+def console(board):
+    open("console", "a").write("x")
+    yield
+def test_one(board):
+    lost(board)
+def test_two(console):
+    pass
+def test_three():
+    pass
+"""
+ENDS = """import time
+def test_one(board, farm_client):
+    print("holds", file=open("holds", "w"))
+    while farm_client.reservations()[0].state == "acquired":
+        time.sleep(0.05)
+"""
+
+
+@pytest.mark.slow(5)
+def test_board_that_is_lost(farm: Farm, start: Start) -> None:
+    """The test that runs on a board which an admin gives to others is interrupted, and fails with HoldLost, and those
+    after it that ask for the board don't begin."""
+    with Passer(farm):
+        session = start(LOSES, "--farm", "hdmi")
+        session.holds()
+        farm.tell("admin", "/reservations/1/cancel")
+        told = "HoldLost: board b1 is lost: reservation 1 is canceled"
+        said = (f"  fizgruk.errors.{told}", ">           time.sleep(300)\n", "ERROR test_it.py::test_two")
+        session.ends(1, "1 failed, 1 passed, 1 error in ", *said)
+    assert not os.path.exists(os.path.join(session.folder, "console"))
+    assert states(farm) == ["canceled"]
+
+
+def test_board_that_is_lost_at_the_end(farm: Farm, start: Start) -> None:
+    """A test that ends before the loss of its board was seen fails by it all the same, as the board is given back."""
+    with Passer(farm):
+        session = start(ENDS, "--farm", "hdmi")
+        session.holds()
+        farm.tell("admin", "/reservations/1/cancel")
+        session.ends(1, "board b1 is lost: reservation 1 is canceled\n")
+
+
 @pytest.mark.slow(8)
 def test_sessions_at_once(farm: Farm, start: Start, folder: str) -> None:
     """Six sessions at once share two boards, and never one at a time."""

@@ -395,7 +395,7 @@ def await_board(
     """Waits for a reservation's board, acquires it where that is asked for, and prints it."""
     board = waiting.wait_for_board(reservation.desk, number, reservation.tags, options)
     if options.acquire:
-        reservation.acquire()
+        reservation.acquire(board["name"])
     if options.json:
         views.print_json({"board": board["name"], "number": number})
     else:

@@ -27,7 +27,11 @@ STATUSES = (
         "No answer from the desk, or bad settings, or a file that can't be read, or an output that "
         "can't be written.",
     ),
-    ("125", "Of 'with': no board for the command, or the board couldn't be given back."),
+    (
+        "125",
+        "Of 'with': no board for the command, or the board was lost before its end, or couldn't be "
+        "given back.",
+    ),
     ("126", "Of 'with': the command can't be run."),
     ("127", "Of 'with': there is no such command."),
     ("128+N", "Ended by signal N: 130 by SIGINT, 143 by SIGTERM, 129 by SIGHUP, 131 by SIGQUIT."),
@@ -83,8 +87,11 @@ Run a command with a board, and give the board back. It reserves, waits, acquire
 COMMAND with 'BOARD', 'BOARD_TYPE', 'BOARD_TAGS' and 'RESERVATION' in its environment. When that \
 has ended, or a signal came, the board is given back. SIGINT, SIGTERM, SIGHUP and SIGQUIT are \
 handed on to the command. (Killed by SIGKILL it can't give the board back: 'desk \
-cancel-reservation'.) The exit status is that of the command, 128 and the number of the signal \
-that killed it, or 125 to 127 where it wasn't run.""",
+cancel-reservation'.) Every two seconds it looks whether the reservation still holds the board. \
+Where an admin or farm-watch(8) has ended it, it says so, sends SIGTERM to the command and to what \
+descends from it, SIGKILL to what still runs ten seconds later, and ends with 125. While the desk \
+is away no hold changes, and the command goes on. The exit status is that of the command, 128 and \
+the number of the signal that killed it, or 125 to 127 as below.""",
 }
 
 OF_AN_ADMIN = {

@@ -7,13 +7,15 @@ import subprocess
 import time
 from typing import Any, Dict, List, Optional, Sequence, Tuple, Union
 
-from farm_tools import calls, clocks, waiting
+from farm_tools import calls, clocks, loss, waiting
 from farm_tools.interrupts import SIGNALS, Interrupted, check
 
 OF_ITSELF, NOT_RUN, NOT_FOUND = 125, 126, 127
 GIVES_UP = 60
 # Signals that keys of a terminal stand for, and the code of those that the system sends.
 KEYS, SI_KERNEL = (signal.SIGINT, signal.SIGQUIT), 0x80
+# What a reservation that has ended, and so holds nothing, is refused for.
+ENDED = (calls.EXPIRED, calls.WRONG_RESERVATION_STATE, calls.NO_RESERVATION)
 
 
 class Reservation:
@@ -29,6 +31,8 @@ class Reservation:
             self.body["priority"] = priority
         self.key = calls.fresh_key()
         self.number: Optional[int] = None
+        self.board = ""  # what it has acquired
+        self.is_lost = False  # whether it had ended before it was given back
 
     def ask(self) -> int:
         """Reserves. Asked again, it is the same reservation."""
@@ -36,10 +40,11 @@ class Reservation:
         self.number = number
         return number
 
-    def acquire(self) -> None:
+    def acquire(self, board: str) -> None:
         """Makes the board that it was given its owner's."""
         try:
             self.desk.tell(f"/reservations/{self.number}/acquire", key=calls.fresh_key())
+            self.board = board
         except calls.Refused as refusal:
             if refusal.code == calls.EXPIRED:
                 raise waiting.Gone(f"reservation {self.number} has expired") from refusal
@@ -56,8 +61,9 @@ class Reservation:
                 self.desk.tell(f"/reservations/{number}/cancel", key=key)
                 return True
             except calls.Refused as refusal:
-                if refusal.code in (calls.EXPIRED, calls.WRONG_RESERVATION_STATE):
-                    return True  # it has ended already, and holds nothing
+                if refusal.code in ENDED:
+                    self.is_lost = bool(self.board)
+                    return True
                 fault: Exception = refusal
             except calls.NoAnswer as silence:
                 fault = silence
@@ -95,6 +101,10 @@ def run_with_board(desk: calls.Desk, options: argparse.Namespace) -> int:
         raise
     if asked and not reservation.give_back():
         return OF_ITSELF
+    if reservation.is_lost and status != OF_ITSELF:
+        how = f"reservation {reservation.number} had ended before the command"
+        clocks.tell(f"board {reservation.board} is lost: {how}")
+        return OF_ITSELF
     return status
 
 
@@ -114,17 +124,17 @@ def ran_with(reservation: Reservation, options: argparse.Namespace) -> int:
         number = reservation.ask()
         options.clock.note_own()
         board = waiting.wait_for_board(reservation.desk, number, reservation.tags, options)
-        reservation.acquire()
+        reservation.acquire(board["name"])
         check()
-        return run(options.words, board, number)
+        return run(reservation.desk, options.words, board, number)
     except (calls.Refused, calls.NoAnswer, waiting.Gone) as fault:
         clocks.tell(f"{fault}")
         return OF_ITSELF
 
 
-def run(words: Sequence[str], board: Dict[str, Any], number: int) -> int:
-    """Runs a command, and hands signals on to it. Returns its exit status, 128 and the number for a
-    signal.
+def run(desk: calls.Desk, words: Sequence[str], board: Dict[str, Any], number: int) -> int:
+    """Runs a command, and hands signals on to it; where its board is lost, it is ended. Returns its
+    exit status, 128 and the number for a signal.
 
     Signals are blocked from here on. A terminal sends what its keys stand for to the command too;
     all others are handed on, the terminal's hangup among them, which comes to its session's leader
@@ -148,9 +158,28 @@ def run(words: Sequence[str], board: Dict[str, Any], number: int) -> int:
     except (OSError, subprocess.SubprocessError) as fault:
         clocks.tell(f"{fault}")
         return NOT_RUN
-    while child.poll() is None:
+    watch = loss.Watch(desk, board["name"], number)
+    watch.start()
+    wait_for_end(child, watch)
+    watch.end()
+    if watch.lost:
+        clocks.tell(f"{watch.lost}: the command is ended")
+        end(child)
+        return OF_ITSELF
+    return child.returncode if child.returncode >= 0 else 128 - child.returncode
+
+
+def wait_for_end(child: "subprocess.Popen[bytes]", watch: loss.Watch) -> None:
+    """Waits until a command has ended or its board is lost, and hands signals on meanwhile."""
+    while child.poll() is None and not watch.lost:
         came = signal.sigwaitinfo((*SIGNALS, signal.SIGCHLD))
         of_a_key = came.si_signo in KEYS and came.si_code == SI_KERNEL
         if came.si_signo != signal.SIGCHLD and not of_a_key:
             child.send_signal(came.si_signo)
-    return child.returncode if child.returncode >= 0 else 128 - child.returncode
+
+
+def end(child: "subprocess.Popen[bytes]") -> None:
+    """Ends a command and what it started."""
+    ending = loss.Ending(child)
+    while not ending.is_over():
+        time.sleep(loss.PAUSE)

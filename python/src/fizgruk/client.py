@@ -78,6 +78,12 @@ class Client:
         other.patience = seconds
         return other
 
+    def alone(self: Own) -> Own:
+        """The same client over connections of its own, for a thread. Its calls are sent once."""
+        other = self.of_patience(0)
+        other._wire = self._wire.alone()
+        return other
+
     # ---- views
 
     def types(self) -> List[TypeView]:
@@ -211,6 +217,7 @@ class Client:
         Reserves a board that has all of these tags (`power="pdu2"` stands for `power=pdu2`, and
         `name="rpi4b-02"` for that board), waits for it, for `timeout` seconds at most, acquires it,
         and gives it back at the end, whatever happens. What the wait has come to is told to `tell`.
+        Raises `HoldLost` where an admin or farm-watch ends the reservation meanwhile.
         """
         asked = [*tags, *(f"{name}={value}" for name, value in wants.items())]
         return Hold(self, asked, priority, timeout, every, tell)

@@ -64,6 +64,10 @@ class ReservationEnded(FizgrukError):
     """A reservation ended before its board was acquired."""
 
 
+class HoldLost(FizgrukError):
+    """A board was lost while it was held: an admin or farm-watch ended its reservation."""
+
+
 class NotGivenBack(FizgrukError):
     """A board may be held still, since no answer came when it was given back."""
 

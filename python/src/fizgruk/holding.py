@@ -6,9 +6,18 @@ import time
 from types import TracebackType
 from typing import TYPE_CHECKING, Optional, Sequence, Set, Type, Union
 
-from fizgruk.errors import Code, FizgrukError, NotGivenBack, Refused, ReservationEnded, Unreachable
+from fizgruk.errors import (
+    Code,
+    FizgrukError,
+    HoldLost,
+    NotGivenBack,
+    Refused,
+    ReservationEnded,
+    Unreachable,
+)
 from fizgruk.models import Board
 from fizgruk.waiting import LEASE, Tell, Wait, wait_for_board
+from fizgruk.watching import Interrupt, Watch
 from fizgruk.wire import fresh_key
 
 if TYPE_CHECKING:
@@ -19,6 +28,7 @@ LOG = logging.getLogger("fizgruk")
 GIVES_UP = 60.0
 PAUSE = 1.0
 ENDED = (Code.RESERVATION_EXPIRED, Code.WRONG_RESERVATION_STATE)
+NONE_HELD = (*ENDED, Code.NO_SUCH_RESERVATION)
 MOST_INTERRUPTS = 1000
 OPEN: Set["Hold"] = set()
 
@@ -39,6 +49,12 @@ class Hold:
         self._key = fresh_key()
         self._number: Optional[int] = None
         self._process = 0
+        self.watch: Optional[Watch] = None
+
+    @property
+    def lost(self) -> str:
+        """Why the board isn't yours any more, or nothing."""
+        return self.watch.lost if self.watch else ""
 
     def __enter__(self) -> Board:
         if self._process:
@@ -49,6 +65,7 @@ class Hold:
             return self._acquired()
         except BaseException as fault:
             self.end(fault)
+            self._raise_loss(fault)
             raise
 
     def __exit__(
@@ -56,6 +73,15 @@ class Hold:
         trace: Optional[TracebackType],
     ) -> None:
         self.end(fault)
+        self._raise_loss(fault)
+
+    def _raise_loss(self, fault: Optional[BaseException]) -> None:
+        """Raises that the board was lost, in the place of what came of that; what ends the program
+        goes on."""
+        if not self.lost:
+            return
+        if fault is None or isinstance(fault, (Exception, Interrupt)):
+            raise HoldLost(self.lost) from fault
 
     def _acquired(self) -> Board:
         number = self._ask(self._client.patience)
@@ -68,6 +94,8 @@ class Hold:
             if refusal.code in ENDED:
                 raise ReservationEnded(f"reservation {number} has ended") from refusal
             raise
+        self.watch = Watch(self._client, board.name, number)
+        self.watch.begin()
         return Board(board.name, board.type, board.tags, number)
 
     def _ask(self, patience: float) -> int:
@@ -84,6 +112,8 @@ class Hold:
         process that reserved it gives nothing back."""
         if not self.is_own():
             return
+        if self.watch:
+            self.watch.end()
         until = time.monotonic() + GIVES_UP
         key = fresh_key()
         came: Optional[BaseException] = None
@@ -118,13 +148,22 @@ class Hold:
                 self._client.of_patience(0).cancel_reservation(number, key=key)
                 return
             except Refused as refusal:
-                if self._number is None or refusal.code in ENDED:
-                    return  # there is none, or it has ended already, and holds nothing
+                if self._number is None:
+                    return  # there is none
+                if refusal.code in NONE_HELD:
+                    self._note_loss()
+                    return
                 raise NotGivenBack(self._left(refusal)) from refusal
             except Unreachable as silence:
                 if self._number is None or time.monotonic() > until:
                     raise NotGivenBack(self._left(silence)) from silence
             time.sleep(PAUSE)
+
+    def _note_loss(self) -> None:
+        """Notes that the reservation had ended before it was given back. One that had a board was
+        lost then."""
+        if self.watch and not self.watch.lost:
+            self.watch.note(self.watch.text(self._client.of_patience(0)))
 
     def _left(self, fault: FizgrukError) -> str:
         if self._number is None:

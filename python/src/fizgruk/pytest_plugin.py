@@ -1,23 +1,27 @@
 """Tests on a board of the farm: `pytest --farm hdmi`, and the fixture `board`.
 
 The board is reserved for the session as the first test asks for it, and given back at the end, also
-after Ctrl-C, SIGTERM and SIGHUP. Tests that ask for it are skipped where --farm isn't given.
+after Ctrl-C, SIGTERM and SIGHUP. Tests that ask for it are skipped where --farm isn't given. Where it
+is lost meanwhile, the test that runs with it is interrupted, and fails with HoldLost, and so do those
+after it.
 """
 import contextlib
 import signal
 import threading
 from types import FrameType
-from typing import Iterator, List, Optional, Union
+from typing import Any, Callable, Generator, Iterator, List, Optional, TypeVar, Union
 
 import pytest
 
 from fizgruk import holding
 from fizgruk.client import Client
-from fizgruk.errors import FizgrukError
+from fizgruk.errors import FizgrukError, HoldLost
 from fizgruk.models import Board
+from fizgruk.watching import Interrupt, Watch
 
 # Signals that end a process without a word, and here end the session as Ctrl-C does.
 SIGNALS = (signal.SIGTERM, signal.SIGHUP)
+Hook = TypeVar("Hook", bound=Callable[..., Any])
 
 
 class Ended(KeyboardInterrupt):
@@ -77,6 +81,92 @@ def end(number: int, frame: Optional[FrameType]) -> None:
     raise Ended(f"ended by {signal.Signals(number).name}")
 
 
+def first(function: Hook) -> Hook:
+    """Marks a hook that goes before those of others."""
+    marked: Hook = pytest.hookimpl(tryfirst=True)(function)
+    return marked
+
+
+def around(function: Hook) -> Hook:
+    """Marks a hook that goes around those of others."""
+    marked: Hook = pytest.hookimpl(hookwrapper=True, tryfirst=True)(function)
+    return marked
+
+
+class Guard:
+    """Lets the tests that ask for the session's board fail with HoldLost once it is lost. Another
+    test isn't interrupted, and neither is a teardown."""
+
+    def __init__(self, watch: Watch) -> None:
+        self.watch = watch
+        self.watch.interrupts = False
+        self.told: Optional[pytest.Item] = None
+
+    @around
+    def pytest_runtest_setup(self, item: pytest.Item) -> Generator[None, Any, None]:
+        yield from self._guarded(item)
+
+    @around
+    def pytest_runtest_call(self, item: pytest.Item) -> Generator[None, Any, None]:
+        yield from self._guarded(item)
+
+    @around
+    def pytest_runtest_teardown(self, item: pytest.Item) -> Generator[None, Any, None]:
+        outcome = yield
+        if self.watch.lost and self.told is not item and asks_for_board(item):
+            self._fail(item, outcome)
+
+    def _guarded(self, item: pytest.Item) -> Generator[None, Any, None]:
+        if not asks_for_board(item):
+            yield
+            return
+        self.watch.interrupts = True
+        outcome = yield
+        self.watch.interrupts = False
+        if self.watch.lost:
+            self._fail(item, outcome)
+
+    def _fail(self, item: pytest.Item, outcome: Any) -> None:
+        """Puts the loss in the place of what came of a test, but for what ends the session."""
+        came = outcome.excinfo[1] if outcome.excinfo else None
+        if isinstance(came, (KeyboardInterrupt, pytest.exit.Exception)):
+            if not isinstance(came, Interrupt):
+                return
+        self.told = item
+        self.watch.is_told = True
+        if isinstance(came, HoldLost):
+            return
+        fault = HoldLost(self.watch.lost).with_traceback(came.__traceback__ if came else None)
+        fault.__cause__ = None if isinstance(came, Interrupt) else came
+        if not hasattr(outcome, "force_exception"):  # pluggy before 1.1
+            raise fault
+        outcome.force_exception(fault)
+
+
+class Gate:
+    """Lets no test begin that asks for the session's board once that is lost."""
+
+    def __init__(self, watch: Watch) -> None:
+        self.watch = watch
+
+    @first
+    def pytest_runtest_setup(self, item: pytest.Item) -> None:
+        self._demand_held(item)
+
+    @first
+    def pytest_runtest_call(self, item: pytest.Item) -> None:
+        self._demand_held(item)
+
+    def _demand_held(self, item: pytest.Item) -> None:
+        if self.watch.lost and asks_for_board(item):
+            raise HoldLost(self.watch.lost)
+
+
+def asks_for_board(item: pytest.Item) -> bool:
+    """Whether a test asks for the fixture `board`, itself or by another fixture."""
+    return "board" in getattr(item, "fixturenames", ())
+
+
 @pytest.fixture(scope="session")
 def farm_client() -> Iterator[Client]:
     """The desk, as the user sees whom the settings name."""
@@ -102,11 +192,28 @@ def board(pytestconfig: pytest.Config, request: pytest.FixtureRequest) -> Iterat
         tell=lambda text: tell(pytestconfig, text),
     )
     try:
-        with hold as held:
+        with hold as held, guarded(pytestconfig, hold):
             tell(pytestconfig, f"{held.name} is held by reservation {held.reservation}")
             yield held
     except FizgrukError as fault:
-        pytest.fail(str(fault), pytrace=False)
+        is_told = hold.watch is not None and hold.watch.is_told
+        if not (isinstance(fault, HoldLost) and is_told):
+            pytest.fail(str(fault), pytrace=False)
+
+
+@contextlib.contextmanager
+def guarded(config: pytest.Config, hold: holding.Hold) -> Iterator[None]:
+    """Lets tests fail once the board of a hold is lost."""
+    if hold.watch is None:
+        raise FizgrukError("there is no board to be guarded")
+    guards = [Guard(hold.watch), Gate(hold.watch)]
+    for it in guards:
+        config.pluginmanager.register(it)
+    try:
+        yield
+    finally:
+        for it in guards:
+            config.pluginmanager.unregister(it)
 
 
 def tell(config: pytest.Config, text: str) -> None:

@@ -1,6 +1,7 @@
 """HTTP to the desk: connections that are kept where the server keeps them, and requests that are
 sent again, a command under its key, where no answer came."""
 import base64
+import copy
 import http.client
 import json
 import logging
@@ -69,6 +70,12 @@ class Wire:
             self._fields["authorization"] = "Basic " + base64.b64encode(pair).decode()
         self._idle: List[Tuple[http.client.HTTPConnection, float]] = []
         self._process = os.getpid()
+
+    def alone(self) -> "Wire":
+        """The same desk and user, over connections of its own."""
+        other = copy.copy(self)
+        other._idle = []
+        return other
 
     def close(self) -> None:
         """Closes the connections that are kept; the next request opens one again."""
