@@ -44,7 +44,7 @@ _desk() {
     local line=${COMP_LINE:0:COMP_POINT} word command= before= each place words reach=()
     word=${line##*[[:space:]]}
     local reservations="wait acquire release refresh extend cancel-reservation"
-    local commands="boards queue jobs reservations submit resubmit cancel reserve with"
+    local commands="boards types queue jobs reservations submit resubmit cancel reserve with"
     commands="$commands $reservations log history usage health tags add-type add-board import"
     for each in ${line%"$word"}; do
         case $before in

@@ -26,7 +26,7 @@ from desks import (
 from farm_tools import client
 from served import TOOLS, Farm, Tool, environment, free_port, wait_until
 
-HEAD = "NAME TYPE HEALTH STATE HOLDER TAGS\n"
+HEAD = "NAME TYPE HEALTH STATE HOLDER CHECKED TAGS\n"
 COLLECTING = """\
 NUMBER GROUP KIND     STATE      RESULT BOARD TYPE ROLE PRIORITY OWNER TAGS
      2     2 ordinary Scheduling -      b2    bbb  a          50 ann
@@ -57,14 +57,30 @@ def farm(make_farm: Callable[..., Farm]) -> Farm:
 
 
 @pytest.mark.parametrize("tags, rows", [
-    ([], "b1   bbb  Good   Idle  -      hdmi serial\nb2   bbb  Good   Idle  -      serial\nc1   ccc  Good   Idle  -\n"),
-    (["hdmi"], "b1   bbb  Good   Idle  -      hdmi serial\n"),
-    (["serial", "hdmi"], "b1   bbb  Good   Idle  -      hdmi serial\n"),
-    (["name=c1"], "c1   ccc  Good   Idle  -\n"),
+    ([], "b1   bbb  Good   Idle  -      -       hdmi serial\nb2   bbb  Good   Idle  -      -       serial\nc1   ccc  Good   Idle  -      -\n"),
+    (["hdmi"], "b1   bbb  Good   Idle  -      -       hdmi serial\n"),
+    (["serial", "hdmi"], "b1   bbb  Good   Idle  -      -       hdmi serial\n"),
+    (["name=c1"], "c1   ccc  Good   Idle  -      -\n"),
     (["name=c1", "hdmi"], ""),
 ])
 def test_boards_are_shown_all_or_by_their_tags(farm: Farm, tags: Sequence[str], rows: str) -> None:
     prints(farm, HEAD + rows, "boards", *tags)
+
+
+def test_types_are_shown_with_their_checks_and_boards_with_their_last_one(make_farm: Callable[..., Farm]) -> None:
+    farm = make_farm()
+    assert desk(farm, "types")[:2] == (0, "NAME CHECK\n")
+    farm.tell("admin", "/types", {"name": "rpi", "check": "hours", "every": 24})
+    farm.tell("admin", "/types", {"name": "bbb"})
+    prints(farm, "NAME CHECK\nbbb  -\nrpi  every 24 hours\n", "types")
+    assert json.loads(desk(farm, "types", "--json")[1]) == farm.look("/types")
+    farm.tell("admin", "/boards", {"name": "r1", "type": "rpi"})
+    farm.tell("admin", "/boards/r1/health", {"health": "Unknown"})
+    passes(farm)
+    farm.tell("dispatcher", "/jobs/1/start")
+    farm.tell("dispatcher", "/jobs/1/finish", {"outcome": "Complete"})
+    at = time.strftime("%Y-%m-%d %H:%M", time.localtime(farm.board("r1")["last_check"]))
+    assert desk(farm, "boards")[1].splitlines()[1].split() == ["r1", "rpi", "Good", "Idle", "-", *at.split()]
 
 
 def test_queue_and_jobs_are_shown_as_lines_and_as_json(farm: Farm) -> None:

@@ -97,6 +97,31 @@ def test_open_jobs_and_those_that_ended_are_listed_the_newest_first(farm: Farm, 
     )], "open": [farm.job(4), farm.job(2), farm.job(1)]}
 
 
+def test_some_jobs_are_shown_with_their_past(farm: Farm, folder: str) -> None:
+    """Of those that ended the history has name, times and reason, also where that is long; a desk by itself has none."""
+    farm.submit("true")
+    passes(farm)
+    farm.tell("dispatcher", "/jobs/1/start")
+    farm.tell("dispatcher", "/jobs/1/finish", {"outcome": "Infra"})
+    prints(farm, "2\n", "submit", "-", given=JOB)
+    line = job_line(1, name="boot", outcome="Infra", reason="status 75", held=3723)
+    rows = [job_line(place) for place in range(1000, 1400)]
+    began = time.strftime("%Y-%m-%d %H:%M", time.localtime(line["began"])).split()
+    for past in (past_of(folder, line), past_of(folder, line, *rows)):
+        status, said, errors = desk(farm, "--history", past, "jobs", "1", "2")
+        assert (status, errors) == (0, "")
+        head, first, second = cells(said)
+        assert head[-5:] == ["TAGS", "BEGAN", "TOOK", "NAME", "REASON"]
+        assert first[:6] == ["1", "1", "ordinary", "Finished", "Infra", "b1"]
+        assert (first[-6:], second[-3:]) == ([*began, "1:02:03", "boot", "status", "75"], ["-", "-", "one"])
+        found = json.loads(desk(farm, "--history", past, "jobs", "1", "--json")[1])
+        assert found == {"jobs": [farm.job(1)], "ended": [line]}
+    status, said, errors = desk(farm, "jobs", "1")
+    assert (status, cells(said)[1][:5]) == (0, ["1", "1", "ordinary", "Finished", "Infra"])
+    assert errors.startswith("desk: times and reasons aren't shown: 52 no such route: ")
+    assert desk(farm, "jobs", "2")[2] == ""
+
+
 def test_as_many_jobs_of_a_long_history_as_are_asked_for(farm: Farm, folder: str) -> None:
     rows = [job_line(place + 1, "zoe" if place % 100 else "ann") for place in range(1000)]
     numbers = [it["job"] for it in rows][::-1]

@@ -21,7 +21,7 @@ from wants import wants
 pytestmark = pytest.mark.xdist_group("manual")  # one process asks for each help once
 DOCS = os.path.join(TOP, "docs")
 COMMANDS = [
-    "boards", "queue", "reservations", "jobs", "submit", "cancel", "resubmit", "log", "history",
+    "boards", "types", "queue", "reservations", "jobs", "submit", "cancel", "resubmit", "log", "history",
     "usage", "reserve", "wait", "acquire", "release", "refresh", "extend", "cancel-reservation",
     "with", "health", "tags", "add-type", "add-board", "import",
 ]

@@ -30,9 +30,17 @@ def test_numbers_stand_at_the_right_and_no_line_ends_with_spaces() -> None:
 @pytest.mark.parametrize("state, deadline, left", [
     ("waiting", 1060, "60 s"), ("allocated", 1001, "1 s"), ("waiting", 990, "0 s"), ("acquired", 1060, "-"),
     ("expired", 990, "-"), ("canceled", 1060, "-"),
+    ("waiting", 1119, "119 s"), ("waiting", 1120, "2 minutes"), ("allocated", 1000 + 3 * 86400 + 7260, "3 days 2 hours"),
 ])
 def test_the_time_that_a_lease_has_left(state: str, deadline: int, left: str) -> None:
     assert tables.time_left({"state": state, "deadline": deadline}, 1000.9) == left
+
+
+@pytest.mark.parametrize("check, every, told", [
+    ("none", 0, "-"), ("hours", 24, "every 24 hours"), ("jobs", 10000, "every 10,000 jobs"), ("jobs", 1, "every 1 job"),
+])
+def test_how_often_boards_are_checked(check: str, every: int, told: str) -> None:
+    assert tables.check_of({"check": check, "every": every}) == told
 
 
 def test_moments_and_spans() -> None:

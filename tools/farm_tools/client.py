@@ -183,6 +183,7 @@ its lines that was put aside; without it, the server is asked."""
 
 def add_views(command: Command) -> None:
     add_tags(command("boards", views.show_boards))
+    command("types", views.show_types)
     command("queue", views.show_queue)
     rows = command("reservations", views.show_reservations)
     rows.add_argument("--all", action="store_true", help="Those that have ended too.")
@@ -298,7 +299,7 @@ def show_jobs(desk: calls.Desk, options: argparse.Namespace) -> int:
     if options.numbers:
         if options.mine or options.last:
             options.parser.error("--mine and --last go without numbers")
-        return views.show_jobs(desk, options)
+        return past_jobs.show_jobs(desk, options)
     if options.text:
         options.parser.error("--text: give numbers")
     return past_jobs.list_jobs(desk, options)

@@ -38,7 +38,10 @@ STATUSES = (
 )
 
 OF_ALL = {
-    "boards": "Show the boards, or those that have all of these tags.",
+    "boards": """\
+Show the boards, or those that have all of these tags. 'CHECKED' is when the last health check of a \
+board ended.""",
+    "types": "Show the types, and after how many hours or jobs their boards are checked.",
     "queue": """\
 Show what waits for boards, in the order in which it is served. There is a column 'NOTE' where a \
 group collects boards, or where a claim waits for boards of which none can come: no list of boards \
@@ -47,10 +50,11 @@ out of use, for the group that collects and for the first fifty claims, as far a
 asked for in three seconds.""",
     "reservations": """\
 Show the reservations that haven't ended. 'LEFT' is how long a lease still runs by this machine's \
-clock.""",
+clock: more than a minute where the farm's is ahead.""",
     "jobs": """\
 Show the jobs that are open and those that ended, or some. Those that ended come last, the newest \
-first. With numbers it shows those of them that there are, and tells the others. A group that \
+first. With numbers it shows those of them that there are, and tells the others; of those that \
+ended also when they began, how long they took, their name and why they ended so. A group that \
 waits has one line; what it is called is asked of the desk for the first fifty that wait.""",
     "submit": """\
 Submit a job file, and print the job's number. Where the desk refuses it, it says which rule the \

@@ -113,6 +113,7 @@ def row_of_ended(row: Dict[str, Any]) -> Dict[str, Any]:
     }
 
 
+NOTHING = {"began": "-", "took": "-", "reason": ""}
 COLUMNS = [
     ("NUMBER", lambda it: it["number"]),
     ("STATE", lambda it: it["state"]),
@@ -124,6 +125,48 @@ COLUMNS = [
     ("NAME", lambda it: tables.printable(it["name"]) or "-"),
     ("REASON", lambda it: tables.printable(it["reason"])),
 ]
+PAST = COLUMNS[-4:]
+
+
+# ---- some jobs
+
+
+def show_jobs(desk: calls.Desk, options: argparse.Namespace) -> int:
+    """Shows jobs by their numbers, and of those that ended what the history has."""
+    rows, status = views.jobs_of(desk, options.numbers)
+    if options.text:
+        sys.stdout.write("".join(it["text"] for it in rows))
+    elif rows:
+        ended = {it["number"] for it in rows if it["state"] == "Finished"}
+        found = lines_of(desk, options, ended) if ended else {}
+        if options.json:
+            more = {"ended": [found[it] for it in sorted(found)]} if found else {}
+            views.print_json({"jobs": rows, **more})
+        else:
+            rows = [{**row_of_ended(found[it["number"]]), **it} if it["number"] in found
+                    else {**NOTHING, "name": name_of(it), **it} for it in rows]
+            views.show(options, {}, rows, tables.JOBS + (PAST if ended else []))
+    return status
+
+
+def lines_of(
+    desk: calls.Desk, options: argparse.Namespace, numbers: Set[int]
+) -> Dict[int, Dict[str, Any]]:
+    """The lines that the history has of jobs that ended, by their numbers; where there is none,
+    that is told."""
+    try:
+        past = history.history_of(desk, options)
+        newest = reversed(past.newest())
+        found = {it["job"]: it for it in newest if it["job"] in numbers}
+        if found.keys() != numbers:
+            rows = past.rows(TAIL)
+            found = {it["job"]: it for it in rows if it["kind"] == "job" and it["job"] in numbers}
+        return found
+    except calls.Refused as refusal:
+        if refusal.status != calls.NOT_FOUND:
+            raise
+        print(f"desk: times and reasons aren't shown: {refusal}", file=sys.stderr, flush=True)
+        return {}
 
 
 # ---- a board

@@ -2,6 +2,8 @@
 import time
 from typing import Any, Callable, Dict, List, Sequence, Tuple
 
+from farm_tools import limits
+
 # The columns of each view: title, and what a row has there.
 Column = Tuple[str, Callable[[Dict[str, Any]], Any]]
 BOARDS: List[Column] = [
@@ -10,7 +12,12 @@ BOARDS: List[Column] = [
     ("HEALTH", lambda it: it["health"]),
     ("STATE", lambda it: it["state"]),
     ("HOLDER", lambda it: it["holder"].replace("none", "-")),
+    ("CHECKED", lambda it: moment(it["last_check"]) if it["last_check"] else "-"),
     ("TAGS", lambda it: " ".join(it["tags"])),
+]
+TYPES: List[Column] = [
+    ("NAME", lambda it: it["name"]),
+    ("CHECK", lambda it: check_of(it)),
 ]
 QUEUE: List[Column] = [
     ("PLACE", lambda it: it["place"]),
@@ -47,6 +54,7 @@ RESERVATIONS: List[Column] = [
 LEASED = ("waiting", "allocated")
 ENDED = ("expired", "canceled")
 WIDEST = 60  # a job's name, or a reason
+SHORT = 120  # seconds that are shown as such
 
 
 def time_left(reservation: Dict[str, Any], now: float) -> str:
@@ -54,7 +62,16 @@ def time_left(reservation: Dict[str, Any], now: float) -> str:
     end."""
     if reservation["state"] not in LEASED:
         return "-"
-    return f"{max(0, reservation['deadline'] - int(now))} s"
+    left = max(0, reservation["deadline"] - int(now))
+    return f"{left} s" if left < SHORT else limits.words_of(left)
+
+
+def check_of(row: Dict[str, Any]) -> str:
+    """How often a type's boards are checked: `every 24 hours`."""
+    if row["check"] == "none":
+        return "-"
+    unit = row["check"] if row["every"] != 1 else row["check"][:-1]
+    return f"every {row['every']:,} {unit}"
 
 
 def moment(seconds: int) -> str:

@@ -2,7 +2,7 @@
 import argparse
 import json
 import sys
-from typing import Any, Dict, Sequence
+from typing import Any, Dict, List, Sequence, Tuple
 
 from farm_tools import calls, tables, wants
 
@@ -31,6 +31,11 @@ def show_boards(desk: calls.Desk, options: argparse.Namespace) -> int:
     return show(options, {"boards": rows}, rows, tables.BOARDS)
 
 
+def show_types(desk: calls.Desk, options: argparse.Namespace) -> int:
+    said = desk.look("/types")
+    return show(options, said, said["types"], tables.TYPES)
+
+
 def show_queue(desk: calls.Desk, options: argparse.Namespace) -> int:
     said = desk.look("/queue")
     if options.json:
@@ -54,10 +59,10 @@ def show_reservations(desk: calls.Desk, options: argparse.Namespace) -> int:
     return show(options, {"reservations": rows}, rows, tables.RESERVATIONS)
 
 
-def show_jobs(desk: calls.Desk, options: argparse.Namespace) -> int:
-    """Shows the jobs that are there; those that aren't are told."""
+def jobs_of(desk: calls.Desk, numbers: Sequence[int]) -> Tuple[List[Dict[str, Any]], int]:
+    """The views of the jobs that are there, and the exit status; those that aren't are told."""
     rows, status = [], 0
-    for number in options.numbers:
+    for number in numbers:
         try:
             rows.append(desk.look(f"/jobs/{number}"))
         except calls.Refused as refusal:
@@ -66,8 +71,4 @@ def show_jobs(desk: calls.Desk, options: argparse.Namespace) -> int:
             desk.tell_where()
             print(f"desk: job {number}: refused: {refusal}", file=sys.stderr, flush=True)
             status = REFUSED
-    if options.text:
-        sys.stdout.write("".join(it["text"] for it in rows))
-    elif rows:
-        show(options, {"jobs": rows}, rows, tables.JOBS)
-    return status
+    return rows, status
