@@ -71,7 +71,7 @@ _desk() {
         *:--server:*) words="http://127.0.0.1:8080 https://" ;;
         *:--check:*) words="none hours jobs" ;;
         *:--by:*) words="owner board type" ;;
-        *:--user:* | *:--timeout:* | *:--every:* | *:--last:* | *:--since:*) words= ;;
+        *:--user:* | *:--timeout:* | *:--every:* | *:--last:* | *:--limit:* | *:--since:*) words= ;;
         *:--config:* | *:--password-file:* | *:--ca-file:* | *:--history:* | import:*:[!-]* | \
             import:*: | submit:*:[!-]* | submit:*:)
             mapfile -t COMPREPLY < <(compgen -f -- "$word")
@@ -82,6 +82,7 @@ _desk() {
             words="$words --version --help"
             ;;
         :*) words=$commands ;;
+        queue:*:-*) words="--mine --limit --json --help" ;;
         jobs:*:-*) words="--mine --last --text --json --help" ;;
         log:*:-*) words="--follow --every --help" ;;
         history:*:-*) words="--last --json --help" ;;
@@ -98,6 +99,7 @@ _desk() {
         health:*) words="$(_desk_boards) Good Bad Unknown Maintenance Retired" ;;
         tags:tags:* | history:history:*) words=$(_desk_boards) ;;
         history:* | usage:*) words= ;;
+        queue:queue:*) words=$(_desk_types) ;;
         cancel:*) words=$(_desk_jobs number) ;;
         jobs:* | log:* | resubmit:*) words=$(_desk_jobs 'job\|number') ;;
         tags:*) words=$(_desk_tags | grep -v ^name=) ;;

@@ -17,7 +17,7 @@ import socket
 import subprocess
 import sys
 import time
-from typing import Callable, Dict, Optional, Sequence, Set, Tuple
+from typing import Callable, Dict, List, Optional, Sequence, Set, Tuple
 
 import pytest
 from desks import (
@@ -57,7 +57,8 @@ def farm(make_farm: Callable[..., Farm]) -> Farm:
 
 
 @pytest.mark.parametrize("tags, rows", [
-    ([], "b1   bbb  Good   Idle  -      -       hdmi serial\nb2   bbb  Good   Idle  -      -       serial\nc1   ccc  Good   Idle  -      -\n"),
+    ([], "b1   bbb  Good   Idle  -      -       hdmi serial\n"
+         "b2   bbb  Good   Idle  -      -       serial\nc1   ccc  Good   Idle  -      -\n"),
     (["hdmi"], "b1   bbb  Good   Idle  -      -       hdmi serial\n"),
     (["serial", "hdmi"], "b1   bbb  Good   Idle  -      -       hdmi serial\n"),
     (["name=c1"], "c1   ccc  Good   Idle  -      -\n"),
@@ -90,10 +91,10 @@ def test_queue_and_jobs_are_shown_as_lines_and_as_json(farm: Farm) -> None:
     prints(farm, "2\n", "submit", "-", given=GROUP)
     prints(farm, "4\n", "reserve", "hdmi", "--priority", "high")
     prints(farm, """\
-PLACE NUMBER KIND        PRIORITY BOARDS OWNER
-    1      4 reservation      100      1 ann
-    2      1 group             50      1 ann
-    3      2 group             50      2 ann
+PLACE NUMBER KIND        PRIORITY BOARDS OWNER TYPE WAITED NAME
+    1      4 reservation      100      1 ann   -    -      -
+    2      1 group             50      1 ann   bbb  -      one
+    3      2 group             50      2 ann   bbb  -      two
 """, "queue")
     prints(farm, """\
 NUMBER GROUP KIND     STATE     RESULT BOARD TYPE ROLE PRIORITY OWNER TAGS
@@ -102,6 +103,48 @@ NUMBER GROUP KIND     STATE     RESULT BOARD TYPE ROLE PRIORITY OWNER TAGS
 """, "jobs", "1", "3")
     prints(farm, JOB, "jobs", "--text", "1")
     assert json.loads(desk(farm, "jobs", "2", "--json")[1]) == {"jobs": [farm.job(2)]}
+
+
+def places(farm: Farm, *words: str) -> Tuple[List[int], str]:
+    """The numbers of the claims that are shown, and what is told beside."""
+    status, said, errors = desk(farm, "queue", *words)
+    assert status == 0
+    return [int(line.split()[1]) for line in said.splitlines()[1:]], errors
+
+
+def test_of_the_queue_those_are_shown_that_are_asked_for(farm: Farm) -> None:
+    """By owner, by type, and how many; each of them with its type and its name, however many they are."""
+    texts = [JOB, JOB.replace("bbb", "ccc"), GROUP, f"{GROUP}[roles.b]\ndevice_type = 'ccc'\ncount = 1\n"]
+    numbers = [farm.tell(who, "/jobs", text.encode())["number"] for who in ("ann", "bob") for text in texts]
+    held = farm.tell("ann", "/reservations", {"tags": []})["number"]
+    assert places(farm) == ([*numbers, held], "")
+    assert places(farm, "--mine") == ([*numbers[:4], held], "")
+    assert places(farm, "ccc") == ([numbers[it] for it in (1, 3, 5, 7)], "")
+    assert places(farm, "ccc", "--mine", "--limit", "2") == ([numbers[1], numbers[3]], "")
+    three = [numbers[it] for it in (1, 3, 5)]
+    assert places(farm, "ccc", "--limit", "3") == (three, "desk: more wait than these 3: --limit\n")
+    rows = json.loads(desk(farm, "queue", "ccc", "--mine", "--json")[1])["queue"]
+    assert [it["number"] for it in rows] == [numbers[1], numbers[3]] and "place" not in rows[0]
+    for _ in range(45):
+        farm.tell("cat", "/jobs", JOB.encode())
+    assert places(farm)[0][:8] == numbers and len(places(farm)[0]) == 50
+    assert places(farm)[1] == "desk: more wait than these 50: --limit\n"
+    assert len(json.loads(desk(farm, "queue", "--json")[1])["queue"]) == 54
+    last = desk(farm, "queue", "--limit", "60")[1].splitlines()[-1].split()
+    assert (last[0], last[-4:]) == ("54", ["cat", "bbb", "-", "one"])
+    kinds = desk(farm, "queue", "--mine", "--limit", "4")[1].splitlines()[-1].split()
+    assert kinds[-4:] == ["bbb", "ccc", "-", "two"]
+
+
+def test_for_how_long_it_waits_is_what_the_dispatcher_saw(farm: Farm, folder: str) -> None:
+    numbers = [farm.submit("true") for _ in range(3)]
+    now = int(time.time())
+    looks = [f"{numbers[0] + 1} {now - 500} 0", f"{numbers[1] + 1} {now - 400} {now - 401}"]
+    write(folder, "numbers", "".join(f"{it}\n" for it in looks))
+    write(folder, "history.jsonl", "")
+    said = desk(farm, "--history", folder, "queue")[1].splitlines()[1:]
+    waited = [line.split()[-2] for line in said]
+    assert waited[::2] == ["-", "-"] and re.fullmatch("0:0[67]:..", waited[1]), "the first look knows of no begin"
 
 
 def test_a_reservation_is_shown_with_the_time_that_is_left(farm: Farm) -> None:

@@ -282,10 +282,10 @@ def test_claims_that_no_boards_can_come_for_are_marked_in_the_queue_and_in_waits
     prints(farm, "3\n", "reserve", "name=b2")
     prints(farm, "4\n", "reserve", "name=c1", "--priority", "low")
     prints(farm, f"""\
-PLACE NUMBER KIND        PRIORITY BOARDS OWNER NOTE
-    1      1 group             50      2 ann   collects boards; {lack}
-    2      3 reservation       50      1 ann   no board with name=b2 can come: b2 is in Maintenance
-    3      4 reservation        0      1 ann
+PLACE NUMBER KIND        PRIORITY BOARDS OWNER TYPE WAITED NAME NOTE
+    1      1 group             50      2 ann   bbb  -      two  collects boards; {lack}
+    2      3 reservation       50      1 ann   -    -      -    no board with name=b2 can come: b2 is in Maintenance
+    3      4 reservation        0      1 ann   -    -      -
 """, "queue")
     prints(farm, "", "cancel-reservation", "3")
     farm.tell("admin", "/boards/b2/health", {"health": "Good"})

@@ -6,6 +6,7 @@ from __future__ import annotations
 import http.server
 import json
 import os
+import re
 import ssl
 import threading
 import time
@@ -108,7 +109,7 @@ def kept(farm: Farm, site: Site, start_tool: Callable[..., Tool]) -> str:
 
 
 def test_history_and_logs_are_served_to_those_who_have_a_password(kept: str, site: Site) -> None:
-    for path in ("/logs/1", "/history.json", "/history.jsonl"):
+    for path in ("/logs/1", "/history.json", "/history.jsonl", "/numbers"):
         status, fields, body = site.got(path)
         with open(kept + path, "rb") as file:
             assert (status, body) == (200, file.read()), path
@@ -130,13 +131,13 @@ def test_nothing_else_of_the_dispatchers_folder_is_served(site: Site) -> None:
     folder = f"{site.folder}/dispatch"
     for name in ("logs", "jobs/1"):
         os.makedirs(f"{folder}/{name}")
-    for name in ("secret", "healths.json", "lock", "numbers", "jobs/1/job.toml", "history.json", "logs/01", "logs/1"):
+    for name in ("secret", "healths.json", "lock", "numbers.new", "jobs/1/job.toml", "history.json", "logs/01", "logs/1"):
         write(folder, name, "secret", 0o644)
     os.symlink(f"{folder}/secret", f"{folder}/logs/900")
     for path in (
         "/logs/", "/logs", "/logs/901", "/logs/900", "/logs/0", "/logs/01", "/logs/../secret", "/logs/%2e%2e/secret",
         "/logs/..%2fsecret", "/logs//secret", "/logs/1/../../secret", "/logs/1/", "/logs/1%00", "/secret",
-        "/healths.json", "/lock", "/numbers", "/logs/../jobs/1/job.toml", "/jobs/1/job.toml",
+        "/healths.json", "/lock", "/numbers.new", "/logs/../jobs/1/job.toml", "/jobs/1/job.toml",
         "/history.json/../secret",
     ):
         status, _, body = site.got(path)
@@ -153,6 +154,10 @@ def test_the_client_finds_history_and_logs_beside_the_desk(kept: str, farm: Farm
     assert json.loads(site.desk("--json", "history", "b1")[1])["history"][0] == row
     used = json.loads(site.desk("--json", "usage")[1])["usage"]
     assert [(it["name"], it["complete"]) for it in used] == [("ann", 1)]
+    number = farm.submit("true", user="bob")
+    write(f"{site.folder}/dispatch", "numbers", f"{number + 1} {int(time.time()) - 90} {int(time.time()) - 91}\n", 0o644)
+    waited = site.desk("queue")[1].splitlines()[1].split()[-2]
+    assert re.fullmatch("0:0[1-9]:..", waited), waited
     again = int(site.desk("resubmit", "1")[1])
     assert farm.job(again)["text"] == farm.job(1)["text"]
 

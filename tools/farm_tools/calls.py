@@ -7,7 +7,7 @@ import secrets
 import ssl
 import time
 import urllib.parse
-from typing import Any, Callable, Dict, Iterator, Optional, Tuple, Union
+from typing import Any, Callable, Dict, Iterator, Optional, Protocol, Tuple, Union
 
 from farm_tools.settings import Settings
 
@@ -59,6 +59,26 @@ def fresh_key() -> str:
 def part(name: str) -> str:
     """A name as a part of a path, also where it is none that the desk takes."""
     return urllib.parse.quote(name, safe="", errors="surrogateescape")
+
+
+class Looker(Protocol):
+    """What shows a desk's views."""
+
+    def look(self, path: str) -> Dict[str, Any]:
+        ...
+
+
+class Remembered:
+    """A desk whose views are asked for once each."""
+
+    def __init__(self, desk: Looker):
+        self.desk = desk
+        self.seen: Dict[str, Dict[str, Any]] = {}
+
+    def look(self, path: str) -> Dict[str, Any]:
+        if path not in self.seen:
+            self.seen[path] = self.desk.look(path)
+        return self.seen[path]
 
 
 class Desk:

@@ -7,6 +7,7 @@ from typing import Any, Callable, Dict, Optional, Sequence, TextIO, Union
 from farm_tools import (
     admin,
     calls,
+    claims,
     clocks,
     desk_texts,
     holding,
@@ -184,7 +185,12 @@ its lines that was put aside; without it, the server is asked."""
 def add_views(command: Command) -> None:
     add_tags(command("boards", views.show_boards))
     command("types", views.show_types)
-    command("queue", views.show_queue)
+    queue = command("queue", claims.show_queue)
+    about = "Those that want a board of this type; reservations want none."
+    queue.add_argument("type", metavar="TYPE", nargs="?", default="", help=about)
+    queue.add_argument("--mine", action="store_true", help="Those of the user alone.")
+    about = f"How many, at most (default {claims.LAST}; with --json all)."
+    queue.add_argument("--limit", metavar="N", type=number, help=about)
     rows = command("reservations", views.show_reservations)
     rows.add_argument("--all", action="store_true", help="Those that have ended too.")
     rows.add_argument("--mine", action="store_true", help="Those of the user alone.")

@@ -39,11 +39,13 @@ STATUSES = (
 
 OF_ALL = {
     "boards": """\
-Show the boards, or those that have all of these tags. 'CHECKED' is when the last health check of a \
-board ended.""",
+Show the boards, or those that have all of these tags. 'CHECKED' is when the last health check of \
+a board ended.""",
     "types": "Show the types, and after how many hours or jobs their boards are checked.",
     "queue": """\
-Show what waits for boards, in the order in which it is served. There is a column 'NOTE' where a \
+Show what waits for boards, in the order in which it is served. 'WAITED' is for how long, where \
+farm-dispatch(8) saw when it was submitted, and its folder or the proxy says so. There is a column \
+'NOTE' where a \
 group collects boards, or where a claim waits for boards of which none can come: no list of boards \
 that aren't Retired, Bad or in Maintenance meets it. It says what is wanted and which boards are \
 out of use, for the group that collects and for the first fifty claims, as far as they can be \

@@ -5,7 +5,7 @@ import collections
 import os
 from typing import Any, Dict, Iterator, List, Optional, Union
 
-from farm_tools import calls, records, settings
+from farm_tools import calls, records, settings, submissions
 
 NONE_SERVED = (
     "{} serves no history: ask through the proxy (examples/nginx.conf), or on the dispatcher's "
@@ -15,6 +15,7 @@ NONE_SERVED = (
 
 # So many bytes from a history's end the newest jobs are looked for, before all of it is read.
 TAIL = 500_000
+NUMBERS = 65_536  # bytes of the last lines of when numbers were given, some 2,000
 
 
 class NoLog(Exception):
@@ -55,6 +56,17 @@ class Served:
                 raise NoLog from refusal
             raise self._about(refusal)
 
+    def moments(self) -> submissions.Looks:
+        """When the last numbers were given, as far as it is known and served."""
+        said = b""
+        try:
+            for piece in self.desk.stream(f"/{submissions.FILE}", -NUMBERS):
+                said += piece
+        except (calls.Refused, calls.NoAnswer):
+            return []
+        lines = said.decode(errors="replace").splitlines(keepends=True)
+        return submissions.looks_of(lines if len(said) < NUMBERS else lines[1:])
+
     def _about(self, refusal: calls.Refused) -> calls.Refused:
         if refusal.status == calls.NOT_FOUND:
             return refusal.about(NONE_SERVED.format(self.desk.server))
@@ -84,6 +96,10 @@ class Kept:
         del last
         return iter(records.rows_of(self.lines))
 
+    def moments(self) -> submissions.Looks:
+        """When numbers were given, as far as it is known."""
+        return submissions.looks_in(os.path.join(self.folder, submissions.FILE))
+
     def log(self, number: int, begin: int) -> Iterator[bytes]:
         """What a job's log has, from a byte on."""
         try:
@@ -99,6 +115,14 @@ class Kept:
 
 
 Past = Union[Served, Kept]
+
+
+def moments_of(desk: calls.Desk, options: argparse.Namespace) -> submissions.Looks:
+    """When the last numbers were given, as far as it is known."""
+    try:
+        return history_of(desk, options).moments()
+    except settings.BadSettings:
+        return []  # it has no history
 
 
 def history_of(desk: calls.Desk, options: argparse.Namespace) -> Past:

@@ -16,13 +16,13 @@ Process = Tuple[int, str]  # a process's number, and when it began
 
 
 class Watch:
-    """Looks, in a thread of its own, whether a reservation still holds its board, and wakes the main
-    thread by SIGCHLD, which that waits for, once it doesn't.
+    """Looks, in a thread of its own, whether a reservation still holds its board, and wakes the
+    main thread by SIGCHLD, which that waits for, once it doesn't.
 
-    A look is one view of the boards, of which a farm has 256 at most (42 kB, some 10 ms);
-    that of the reservations, which has all that ever were, is asked for once, at a loss. A look that
-    isn't answered finds nothing: while the desk is away no hold changes. Each call has a connection
-    of its own, so that the threads share none.
+    A look is one view of the boards, of which a farm has 256 at most (42 kB, some 10 ms); that of
+    the reservations, which has all that ever were, is asked for once, at a loss. A look that isn't
+    answered finds nothing: while the desk is away no hold changes. Each call has a connection of
+    its own, so that the threads share none.
     """
 
     def __init__(self, desk: calls.Desk, board: str, number: int):
@@ -48,7 +48,8 @@ class Watch:
 
 
 def loss_of(desk: calls.Desk, board: str, number: int) -> str:
-    """That a reservation doesn't hold this board any more; nothing where it does, or nobody knows."""
+    """That a reservation doesn't hold this board any more; nothing where it does, or nobody can
+    tell."""
     try:
         boards = desk.look("/boards")["boards"]
     except (calls.NoAnswer, calls.Refused):

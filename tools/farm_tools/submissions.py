@@ -4,10 +4,11 @@ the two."""
 import bisect
 import os
 import time
-from typing import List, NamedTuple, Optional
+from typing import Iterable, List, NamedTuple, Optional
 
 from farm_tools import folders
 
+FILE = "numbers"
 MOST = 20_000  # looks that are kept: as many as find a new number
 SURE = 60  # seconds between two looks, at most: else it isn't known when a number was given
 
@@ -21,12 +22,15 @@ class Look(NamedTuple):
     since: int
 
 
+Looks = List[Look]  # the oldest first
+
+
 class Submissions:
     """The looks at a desk's numbers, kept in a file over restarts."""
 
     def __init__(self, place: str):
-        self.file = os.path.join(place, "numbers")
-        self.looks: List[Look] = _looks_in(self.file)
+        self.file = os.path.join(place, FILE)
+        self.looks: List[Look] = looks_in(self.file)
         self.since = 0
         self._trim()
 
@@ -51,11 +55,7 @@ class Submissions:
 
     def moment_of(self, number: int) -> Optional[int]:
         """When a number was given, or None where nobody looked then."""
-        place = bisect.bisect_right(self.looks, (number, float("inf"), 0))
-        if place == len(self.looks):
-            return None
-        look = self.looks[place]
-        return look.at if look.since and look.at - look.since <= SURE else None
+        return moment_in(self.looks, number)
 
     def _trim(self) -> None:
         if len(self.looks) > MOST:
@@ -76,21 +76,35 @@ class Submissions:
             pass  # as above
 
 
+def moment_in(looks: Looks, number: int) -> Optional[int]:
+    """When a number was given by these looks, or None where nobody looked then."""
+    place = bisect.bisect_right(looks, (number, float("inf"), 0))
+    if place == len(looks):
+        return None
+    look = looks[place]
+    return look.at if look.since and look.at - look.since <= SURE else None
+
+
 def _line_of(look: Look) -> str:
     return f"{look.next} {look.at} {look.since}\n"
 
 
-def _looks_in(file: str) -> List[Look]:
+def looks_in(file: str) -> Looks:
     """The looks that a file has; a line that a stop cut is passed over."""
-    looks: List[Look] = []
     try:
         with open(file, encoding="ascii", errors="replace") as lines:
-            for line in lines:
-                words = line.split()
-                if line.endswith("\n") and len(words) == 3 and all(it.isdigit() for it in words):
-                    look = Look(*map(int, words))
-                    if not looks or look.next > looks[-1].next:
-                        looks.append(look)
+            return looks_of(lines)
     except OSError:
-        pass
+        return []
+
+
+def looks_of(lines: Iterable[str]) -> Looks:
+    """The looks of a file's lines, but for a line that was cut."""
+    looks: Looks = []
+    for line in lines:
+        words = line.split()
+        if line.endswith("\n") and len(words) == 3 and all(it.isdigit() for it in words):
+            look = Look(*map(int, words))
+            if not looks or look.next > looks[-1].next:
+                looks.append(look)
     return looks

@@ -26,6 +26,9 @@ QUEUE: List[Column] = [
     ("PRIORITY", lambda it: it["priority"]),
     ("BOARDS", lambda it: it["boards"]),
     ("OWNER", lambda it: it["owner"]),
+    ("TYPE", lambda it: it["type"]),
+    ("WAITED", lambda it: it["waited"]),
+    ("NAME", lambda it: printable(it["name"])),
 ]
 # where a claim of the queue has one
 NOTE: List[Column] = [("NOTE", lambda it: it["note"])]

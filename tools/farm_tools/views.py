@@ -36,20 +36,6 @@ def show_types(desk: calls.Desk, options: argparse.Namespace) -> int:
     return show(options, said, said["types"], tables.TYPES)
 
 
-def show_queue(desk: calls.Desk, options: argparse.Namespace) -> int:
-    said = desk.look("/queue")
-    if options.json:
-        print_json(said)
-        return 0
-    notes = wants.notes_of(desk, said["queue"])
-    rows = [
-        {**it, "place": place, "note": notes.get(it["number"], "")} for place, it in enumerate(
-            said["queue"], 1
-        )
-    ]
-    return show(options, said, rows, tables.QUEUE + (tables.NOTE if any(notes.values()) else []))
-
-
 def show_reservations(desk: calls.Desk, options: argparse.Namespace) -> int:
     rows = desk.look("/reservations")["reservations"]
     if not options.all:

@@ -45,7 +45,7 @@ def listed(boards: List[Dict[str, Any]], text_of: Callable[[Dict[str, Any]], str
 class Lab:
     """A desk's boards at one moment, and what is asked of the desk about those who hold them."""
 
-    def __init__(self, desk: calls.Desk, checked: Set[str], owners: Dict[str, str]):
+    def __init__(self, desk: calls.Looker, checked: Set[str], owners: Dict[str, str]):
         """`checked` are the types that have a check; `owners` is filled, and kept by the caller."""
         self.desk = desk
         self.checked = checked
@@ -140,7 +140,7 @@ def lacking(some: Tuple[Want, ...], able: int, out: List[Dict[str, Any]]) -> str
     return f"of {len(some)} boards ({wanted}) only {able} can come: {why}"
 
 
-def checked_types(desk: calls.Desk) -> Set[str]:
+def checked_types(desk: calls.Looker) -> Set[str]:
     """The names of the types that have a check."""
     return {it["name"] for it in desk.look("/types")["types"] if it["check"] != "none"}
 
@@ -152,7 +152,7 @@ def checked_types(desk: calls.Desk) -> Set[str]:
 MOST_ASKED, LONGEST_ASKED = 50, 3.0
 
 
-def notes_of(desk: calls.Desk, queue: List[Dict[str, Any]]) -> Dict[int, str]:
+def notes_of(desk: calls.Looker, queue: List[Dict[str, Any]]) -> Dict[int, str]:
     """What is to be said of claims in the queue, by their numbers: the one that collects boards,
     and those that wait for boards of which none can come."""
     if not queue:
@@ -176,7 +176,7 @@ def notes_of(desk: calls.Desk, queue: List[Dict[str, Any]]) -> Dict[int, str]:
 
 
 def wants_of(
-    desk: calls.Desk, claim: Dict[str, Any], reservations: Dict[int, Dict[str, Any]]
+    desk: calls.Looker, claim: Dict[str, Any], reservations: Dict[int, Dict[str, Any]]
 ) -> List[Want]:
     """What a claim of the queue wants. A group's members have consecutive numbers."""
     if claim["kind"] == "reservation":
