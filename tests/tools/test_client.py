@@ -374,7 +374,7 @@ def test_with_that_is_interrupted_while_it_waits_leaves_no_reservation(farm: Far
     (["hdmi", "--", "no-such-command"], 127, "desk: no-such-command: no such command\n"),
     (["hdmi", "--", "/etc/passwd"], 126, "desk: /etc/passwd: it can't be run\n"),
     (["hdmi", "--", "/etc"], 126, "desk: /etc: it can't be run\n"),
-    (["usb", "--", "true"], 125, "desk: 22 no such boards\n"),
+    (["usb", "--", "true"], 125, "desk: 22 no such boards: no board has the tag usb\n"),
     (["hdmi"], 2, None),
     (["hdmi", "--"], 2, None),
 ])

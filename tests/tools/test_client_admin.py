@@ -46,7 +46,7 @@ def test_types_are_added(lab: Farm) -> None:
 def test_boards_are_added_and_have_tags(lab: Farm) -> None:
     lab.tell("admin", "/types", {"name": "rpi"})
     assert admin(lab, "add-board", "r1", "rpi", "hdmi", "serial") == (0, "", "")
-    assert admin(lab, "add-board", "r3", "ccc") == (3, "", "desk: refused: 10 no such type\n")
+    assert admin(lab, "add-board", "r3", "ccc") == (3, "", "desk: refused: 10 no such type: ccc\n")
     assert lab.board("r1")["tags"] == ["hdmi", "serial"]
     assert admin(lab, "tags", "r1", "usb", "rack=2") == (0, "", "")
     assert lab.board("r1")["tags"] == ["rack=2", "usb"]
@@ -124,7 +124,7 @@ def test_a_lab_file_of_toml_1_1_is_read_as_the_program_reads_it(lab: Farm, folde
 @pytest.mark.parametrize("lines, user, told, left", [
     (
         ["[types.bbb]", "", "[boards.b2]", 'type = "bbb"', "", "[boards.b1]", "tags = [", "]", 'type = "x"'], "",
-        "line 6: board b1: 10 no such type; before it: accepted 1, kept 0", ["bbb", "rpi"],
+        "line 6: board b1: 10 no such type: x; before it: accepted 1, kept 0", ["bbb", "rpi"],
     ),
     (
         ["[types]", "bbb = {}", "rpi = {}"], "",

@@ -329,6 +329,45 @@ def test_what_is_wrong_with_a_job_file_that_the_desk_refuses_is_told(
     assert re.match(rf"desk: refused: {code} bad [a-z ]+: {re.escape(why)}", errors)
 
 
+@pytest.mark.parametrize("text, told", [
+    (JOB.replace("bbb", "ddd"), "10 no such type: ddd"),
+    (f"{GROUP}[roles.b]\ndevice_type = 'ddd'\ncount = 1\n", "10 no such type: ddd"),
+    (f"{JOB}tags = ['serial', 'vga', 'usb']", "22 no such boards: no bbb has the tags vga usb"),
+    (f"{JOB}tags = ['name=c1']", "22 no such boards: no bbb has the tag name=c1"),
+    (f"{JOB}tags = ['hdmi', 'name=b2']", "22 no such boards: no bbb has all of hdmi name=b2"),
+    (GROUP.replace("2", "3"), "22 no such boards: of 3 boards (bbb) there are 2"),
+    (f"{JOB}# {'x' * 65536}", "51 too large: it has more than 65,536 bytes"),
+])
+def test_a_refusal_names_the_type_the_tag_or_the_limit(farm: Farm, text: str, told: str) -> None:
+    assert desk(farm, "submit", "-", given=text) == (3, "", f"desk: refused: {told}\n")
+
+
+def test_a_type_without_boards_is_told(farm: Farm) -> None:
+    farm.tell("admin", "/types", {"name": "ddd"})
+    told = "desk: refused: 22 no such boards: there is no board of the type ddd\n"
+    assert desk(farm, "submit", "-", given=JOB.replace("bbb", "ddd")) == (3, "", told)
+    assert desk(farm, "reserve", "usb") == (3, "", "desk: refused: 22 no such boards: no board has the tag usb\n")
+
+
+@pytest.mark.parametrize("text, why", [
+    ("timeouts.job = 'soon'", "timeouts.job can't be read: 'soon' isn't like '1 hour 30 minutes'"),
+    ("timeouts.job = 90", "timeouts.job can't be read: 90 has no unit"),
+    ("[timeouts]\njob = {minute = 3}", "timeouts.job can't be read: 'minute' is none of days, hours, minutes, seconds"),
+    ("timeouts = {\n  job = '0 hours',\n}", "timeouts.job can't be read: '0 hours' is no time"),
+    ("timeouts = '1 hour'", "timeouts isn't a table"),
+])
+def test_a_time_limit_that_is_none_isnt_submitted(farm: Farm, text: str, why: str) -> None:
+    assert desk(farm, "submit", "-", given=f"{JOB}{text}\n") == (3, "", f"desk: nothing is submitted: {why}\n")
+    assert farm.look("/status")["jobs"] == 0
+    number = farm.tell("ann", "/jobs", f"{JOB}{text}\n".encode())["number"]
+    assert desk(farm, "resubmit", str(number)) == (3, "", f"desk: nothing is submitted: {why}\n")
+
+
+@pytest.mark.parametrize("text", ["[timeouts]\njob = '1 hour'", "timeouts = {\n job = {minutes = 90},\n}", "[timeouts]\nx = 1"])
+def test_a_time_limit_is_submitted(farm: Farm, text: str) -> None:
+    prints(farm, "1\n", "submit", "-", given=f"{JOB}{text}\n")
+
+
 @pytest.mark.parametrize("text", [JOB, GROUP, JOB.replace("bbb", "ccc") + "priority = 0\ntags = []\n"])
 def test_no_fault_is_found_in_a_job_file_that_the_desk_takes(farm: Farm, text: str) -> None:
     prints(farm, "1\n", "submit", "-", given=text)

@@ -81,7 +81,10 @@ def add_type(desk: calls.Desk, options: argparse.Namespace) -> int:
 
 def add_board(desk: calls.Desk, options: argparse.Namespace) -> int:
     body = {"name": options.name, "type": options.type, "tags": options.tags}
-    return give(desk, options, "/boards", body)
+    try:
+        return give(desk, options, "/boards", body)
+    except calls.Refused as refusal:
+        raise refusal.about(options.type) if refusal.code == calls.NO_TYPE else refusal
 
 
 def give(desk: calls.Desk, options: argparse.Namespace, path: str, body: Dict[str, Any]) -> int:

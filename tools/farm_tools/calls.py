@@ -12,9 +12,12 @@ from typing import Any, Callable, Dict, Iterator, Optional, Protocol, Tuple, Uni
 from farm_tools.settings import Settings
 
 NOT_LET_IN, NOT_FOUND, NOTHING_BEYOND = 401, 404, 416
+TOO_LARGE = 413
 FORBIDDEN = 3
 FULL = 4
+NO_TYPE = 10
 NO_JOB = 20
+NO_BOARDS = 22
 WRONG_JOB_STATE = 21
 BAD_JOB_FILE = (5, 6, 7, 23, 70)
 NO_RESERVATION = 30

@@ -329,13 +329,15 @@ def resubmit_job(desk: calls.Desk, options: argparse.Namespace) -> int:
 
 def submit_text(desk: calls.Desk, options: argparse.Namespace, text: bytes) -> int:
     """Submits a job file, prints its number, and waits for its end where that is asked for."""
+    fault = job_file.limit_fault_of(text)
+    if fault:
+        return told(REFUSED, f"nothing is submitted: {fault}")
     if options.wait:
         options.clock.look()
     try:
         said = desk.tell("/jobs", text, calls.fresh_key())
     except calls.Refused as refusal:
-        fault = job_file.fault_of(text) if refusal.code in calls.BAD_JOB_FILE else None
-        raise refusal.about(fault) if fault else refusal
+        raise job_file.why_refused(desk, refusal, text)
     options.clock.note_own()
     print_number(options, said)
     return await_end(desk, options, said["number"]) if options.wait else 0

@@ -60,7 +60,8 @@ ended also when they began, how long they took, their name and why they ended so
 waits has one line; what it is called is asked of the desk for the first fifty that wait.""",
     "submit": """\
 Submit a job file, and print the job's number. Where the desk refuses it, it says which rule the \
-file breaks.""",
+file breaks, which type there isn't, or which tag no board has. Where its 'timeouts.job' is no \
+time, of which the desk knows nothing, nothing is submitted.""",
     "resubmit": """\
 Submit a job's text again, and print the new number. It may be anybody's job; its text is the one \
 that the desk keeps.""",

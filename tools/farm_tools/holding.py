@@ -7,7 +7,7 @@ import subprocess
 import time
 from typing import Any, Dict, List, Optional, Sequence, Tuple, Union
 
-from farm_tools import calls, clocks, loss, waiting
+from farm_tools import calls, clocks, loss, waiting, wants
 from farm_tools.interrupts import SIGNALS, Interrupted, check
 
 OF_ITSELF, NOT_RUN, NOT_FOUND = 125, 126, 127
@@ -36,7 +36,12 @@ class Reservation:
 
     def ask(self) -> int:
         """Reserves. Asked again, it is the same reservation."""
-        number = int(self.desk.tell("/reservations", self.body, self.key)["number"])
+        try:
+            number = int(self.desk.tell("/reservations", self.body, self.key)["number"])
+        except calls.Refused as refusal:
+            if refusal.code == calls.NO_BOARDS and self.tags is not None:
+                raise wants.told(self.desk, refusal, [wants.Want("", tuple(self.tags))])
+            raise
         self.number = number
         return number
 

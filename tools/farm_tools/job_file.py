@@ -1,8 +1,9 @@
 """Which rule a job file breaks that the desk refused without a word on it."""
-from typing import Any, Dict, Optional
+from typing import Any, Dict, List, Optional
 
-from farm_tools import toml_text, words
+from farm_tools import calls, limits, toml_text, wants, words
 from farm_tools.lab_file import HIGHEST_PRIORITY, LONGEST_JOB_FILE, MOST_WANTS
+from farm_tools.wants import Want
 from farm_tools.words import BadFile
 
 PRIORITIES = ("low", "medium", "high")
@@ -19,6 +20,49 @@ def fault_of(data: bytes) -> Optional[str]:
     except (BadFile, toml_text.NotToml) as fault:
         return str(fault)
     return None
+
+
+def limit_fault_of(data: bytes) -> Optional[str]:
+    """Why the time limit that a job file asks for can't be one, of which the desk knows nothing; None
+    where it asks for none, or can't be read."""
+    try:
+        timeouts = toml_text.tree_of(data.decode()).get("timeouts", {})
+        if not isinstance(timeouts, dict):
+            return "timeouts isn't a table"
+        if "job" in timeouts:
+            limits.time_of(timeouts["job"])
+    except limits.BadTime as fault:
+        return f"timeouts.job can't be read: {fault}"
+    except (UnicodeDecodeError, toml_text.NotToml):
+        pass  # the desk refuses it
+    return None
+
+
+def wants_of(data: bytes) -> List[Want]:
+    """The boards that a job file which follows the rules asks for."""
+    tree = toml_text.tree_of(data.decode())
+    if "roles" not in tree:
+        return [Want(tree["device_type"], tuple(tree.get("tags", ())))]
+    roles = [tree["roles"][it] for it in sorted(tree["roles"], key=str.encode)]
+    wanted = [(Want(it["device_type"], tuple(it.get("tags", ()))), it["count"]) for it in roles]
+    return [want for want, count in wanted for _ in range(count)]
+
+
+def why_refused(desk: calls.Looker, refusal: calls.Refused, data: bytes) -> calls.Refused:
+    """A refusal of a job file, and what is known of why."""
+    if refusal.code in calls.BAD_JOB_FILE or refusal.status == calls.TOO_LARGE:
+        fault = fault_of(data)
+        return refusal.about(fault) if fault else refusal
+    if refusal.code == calls.NO_BOARDS:
+        return wants.told(desk, refusal, wants_of(data))
+    if refusal.code == calls.NO_TYPE:
+        try:
+            there = {it["name"] for it in desk.look("/types")["types"]}
+        except (calls.NoAnswer, calls.Refused):
+            return refusal
+        lacks = dict.fromkeys(it.kind for it in wants_of(data) if it.kind not in there)
+        return refusal.about(" ".join(lacks)) if lacks else refusal
+    return refusal
 
 
 def read(tree: Dict[str, Any]) -> None:

@@ -87,7 +87,7 @@ def import_lab(desk: calls.Desk, options: argparse.Namespace) -> int:
         except calls.Refused as refusal:
             line = toml_text.line_of(text, (each.section, each.name))
             before = f"before it: accepted {accepted}, kept {kept}"
-            return told(options.file, f"line {line}: {each.told()}: {why(refusal)}; {before}")
+            return told(options.file, f"line {line}: {each.told()}: {why(refusal, each)}; {before}")
         if (each.section, each.name) in there:
             kept += 1
         else:
@@ -119,7 +119,9 @@ def names_at(desk: calls.Desk) -> Set[Tuple[str, str]]:
     }
 
 
-def why(refusal: calls.Refused) -> str:
+def why(refusal: calls.Refused, each: Addition) -> str:
+    if refusal.code == calls.NO_TYPE:
+        return f"{refusal}: {each.body['type']}"
     if refusal.code in (TYPE_EXISTS, BOARD_EXISTS):
         return f"{refusal}, and no import added it"
     return str(refusal)

@@ -140,6 +140,41 @@ def lacking(some: Tuple[Want, ...], able: int, out: List[Dict[str, Any]]) -> str
     return f"of {len(some)} boards ({wanted}) only {able} can come: {why}"
 
 
+def why_none(desk: calls.Looker, wants: List[Want]) -> str:
+    """Why the desk refuses wants (22): of the boards that aren't Retired, held or free, no list meets
+    them."""
+    boards = [it for it in desk.look("/boards")["boards"] if it["health"] != "Retired"]
+    short = short_of(wants, boards)
+    if short is None:
+        return ""  # there are by now
+    if len(short) > 1:
+        wanted = "; ".join(dict.fromkeys(described(it) for it in short))
+        fitting = sum(any(fits(it, want) for want in short) for it in boards)
+        return f"of {len(short)} boards ({wanted}) there are {fitting}"
+    return _lacking_tags(short[0], boards)
+
+
+def told(desk: calls.Looker, refusal: calls.Refused, wants: List[Want]) -> calls.Refused:
+    """A refusal of wants (22), and why, as far as the desk says it."""
+    try:
+        why = why_none(desk, wants)
+    except (calls.NoAnswer, calls.Refused):
+        why = ""
+    return refusal.about(why) if why else refusal
+
+
+def _lacking_tags(want: Want, boards: List[Dict[str, Any]]) -> str:
+    """Which tags of a want no board of its type has, or that none has all of them."""
+    what = want.kind or "board"
+    boards = [it for it in boards if want.kind in ("", it["type"])]
+    lacks = [it for it in want.tags if not any(fits(board, Want("", (it,))) for board in boards)]
+    if not boards:
+        return f"there is no board of the type {want.kind}" if want.kind else "there is no board"
+    if lacks:
+        return f"no {what} has the tag{'s' if len(lacks) > 1 else ''} {' '.join(lacks)}"
+    return f"no {what} has all of {' '.join(want.tags)}"
+
+
 def checked_types(desk: calls.Looker) -> Set[str]:
     """The names of the types that have a check."""
     return {it["name"] for it in desk.look("/types")["types"] if it["check"] != "none"}
