@@ -93,6 +93,7 @@ _desk() {
         wait:*:-*) words="--every --json --help" ;;
         with:*:-*) words="--priority --every --help --" ;;
         add-type:*:-*) words="--check --every --json --help" ;;
+        health:*:-*) words="--yes --json --help" ;;
         tags:*:-*) words="--none --json --help" ;;
         *:-*) words="--json --help" ;;
         boards:* | reserve:* | with:*) words=$(_desk_tags) ;;

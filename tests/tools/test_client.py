@@ -403,15 +403,30 @@ def test_the_status_is_its_own_where_nothing_can_be_told(farm: Farm, words: Sequ
 
 
 def test_what_cant_be_printed_is_told(farm: Farm) -> None:
-    words = [sys.executable, DESK, "boards"]
-    with open("/dev/full", "w", encoding="utf-8") as full:
-        ran = subprocess.run(words, stdout=full, stderr=subprocess.PIPE, env=around(farm), timeout=120, check=False)
-    assert (ran.returncode, ran.stderr) == (4, b"desk: [Errno 28] No space left on device\n")
+    for words in (["boards"], ["queue", "--help"]):
+        with open("/dev/full", "w", encoding="utf-8") as full:
+            ran = subprocess.run([sys.executable, DESK, *words], stdout=full, stderr=subprocess.PIPE, env=around(farm),
+                                 timeout=120, check=False)
+        assert (ran.returncode, ran.stderr) == (4, b"desk: [Errno 28] No space left on device\n")
+
+
+@pytest.mark.parametrize("words, status", [
+    ("boards", 0), ("types", 0), ("queue", 0), ("reservations", 0), ("jobs 1", 0), ("jobs", 0), ("usage", 0),
+    ("history b1", 0), ("log 1", 0), ("--help", 0), ("queue --help", 0), ("queue --json", 0), ("reserve", 4),
+])
+def test_a_reader_that_has_enough_is_no_fault_of_what_is_shown(farm: Farm, folder: str, words: str, status: int) -> None:
+    """There is no trace, and Python's own status of an output that can't be written, 120, isn't it either."""
+    farm.submit("true")
+    passes(farm)
+    os.mkdir(os.path.join(folder, "logs"))
+    write(folder, "history.jsonl", "")
+    write(folder, "logs/1", "said\n")
     reader, writer = os.pipe()
     os.close(reader)
-    ran = subprocess.run(words, stdout=writer, stderr=subprocess.PIPE, env=around(farm), timeout=120, check=False)
+    ran = subprocess.run([sys.executable, DESK, *words.split()], stdout=writer, stderr=subprocess.PIPE,
+                         env=around(farm, DESK_HISTORY=folder), timeout=120, check=False)
     os.close(writer)
-    assert (ran.returncode, ran.stderr) == (4, b"")
+    assert (ran.returncode, ran.stderr) == (status, b"")
 
 
 # ---- a desk that goes away

@@ -3,12 +3,13 @@ from __future__ import annotations
 
 import os
 import re
+import select
 import subprocess
 import time
 from typing import Callable, List, Sequence
 
 import pytest
-from desks import BOARDS, DESK, desk, prints, write
+from desks import BOARDS, DESK, at_a_terminal, desk, prints, write
 from served import TOP, Farm, environment
 from wants import wants
 
@@ -64,6 +65,33 @@ def test_the_health_of_several_boards_is_set_and_those_that_arent_there_are_told
     assert admin(lab, "health", "r2", "Maintenance") == (0, "", "")
     assert lab.board("r2")["health"] == "Maintenance"
     assert admin(lab, "health", "r1", "r2", "Bad", user="ann") == (3, "", "desk: refused: 3 forbidden: asked as ann\n")
+
+
+@pytest.mark.parametrize("answer, words, status, healths", [
+    (b"y\r", ["b1", "b2"], 0, ["Retired", "Retired"]), (b"\r", ["b1"], 1, ["Good", "Good"]),
+    (b"n\r", ["b1", "b2"], 1, ["Good", "Good"]), (b"\x03", ["b1"], 130, ["Good", "Good"]),
+    (b"", ["b1", "--yes"], 0, ["Retired", "Good"]),
+])
+def test_at_a_terminal_it_asks_once_before_boards_are_retired(
+    make_farm: Callable[..., Farm], answer: bytes, words: List[str], status: int, healths: List[str]
+) -> None:
+    farm = make_farm(BOARDS)
+    process, line = at_a_terminal(farm, "--user", "admin", "health", *words, "Retired")
+    said = b""
+    if answer:
+        while b"[y/N]" not in said:
+            assert select.select([line], [], [], 60)[0], said
+            said += os.read(line, 4096)
+        os.write(line, answer)
+    assert process.wait(timeout=60) == status
+    os.close(line)
+    assert said.count(b"[y/N]") == bool(answer)
+    assert [farm.board(it)["health"] for it in ("b1", "b2")] == healths
+
+
+def test_elsewhere_it_doesnt_ask(make_farm: Callable[..., Farm]) -> None:
+    farm = make_farm(BOARDS)
+    assert (admin(farm, "health", "b1", "retired"), farm.board("b1")["health"]) == ((0, "", ""), "Retired")
 
 
 @pytest.mark.parametrize("name", ["r 1", "r\u00e9", "r/1", "..", "?"])

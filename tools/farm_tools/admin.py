@@ -1,14 +1,15 @@
 """What an admin tells the desk: types, boards, their tags and health, and a lab file."""
 import argparse
 import sys
-from typing import Any, Callable, Dict
+from typing import Any, Callable, Dict, List
 
 from farm_tools import calls, lab_import, views
 from farm_tools.lab_file import LONGEST_EVERY
 from farm_tools.parsers import Parser, one_of
 
-REFUSED = 3
-HEALTHS = ("Good", "Bad", "Unknown", "Maintenance", "Retired")
+ENDED, REFUSED = 1, 3
+RETIRED = "Retired"
+HEALTHS = ("Good", "Bad", "Unknown", "Maintenance", RETIRED)
 
 
 def add_commands(command: Callable[..., Parser]) -> None:
@@ -17,6 +18,8 @@ def add_commands(command: Callable[..., Parser]) -> None:
     health.add_argument("boards", metavar="BOARD", nargs="+", help="A board's name.")
     about = f"{', '.join(HEALTHS[:-1])}, or {HEALTHS[-1]}, which is for good."
     health.add_argument("health", metavar="HEALTH", type=health_called, help=about)
+    about = f"Ask nothing before boards are {RETIRED}, at a terminal too."
+    health.add_argument("--yes", action="store_true", help=about)
     tags = command("tags", set_tags)
     tags.add_argument("board", metavar="BOARD", help="The board's name.")
     tags.add_argument("tags", metavar="TAG", nargs="*", help="A tag of the board.")
@@ -53,6 +56,9 @@ def frequency(text: str) -> int:
 
 def set_health(desk: calls.Desk, options: argparse.Namespace) -> int:
     """Sets the health of one board after another; one that is refused keeps none of the others."""
+    if options.health == RETIRED and not options.yes and not is_confirmed(options.boards):
+        print("desk: nothing is done", file=sys.stderr, flush=True)
+        return ENDED
     status = 0
     for board in options.boards:
         try:
@@ -63,6 +69,15 @@ def set_health(desk: calls.Desk, options: argparse.Namespace) -> int:
             print(f"desk: board {board}: refused: {refusal}", file=sys.stderr, flush=True)
             status = REFUSED
     return status
+
+
+def is_confirmed(boards: List[str]) -> bool:
+    """Whether whoever sits at a terminal wants boards to be Retired; elsewhere nobody is asked."""
+    if not all(it is not None and it.isatty() for it in (sys.stdin, sys.stderr)):
+        return True
+    question = f"desk: {' '.join(boards)} can never be used again: Retired all the same? [y/N] "
+    print(question, end="", file=sys.stderr, flush=True)
+    return sys.stdin.readline().strip().lower() in ("y", "yes")
 
 
 def set_tags(desk: calls.Desk, options: argparse.Namespace) -> int:

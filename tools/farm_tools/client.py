@@ -2,7 +2,7 @@
 import argparse
 import os
 import sys
-from typing import Any, Callable, Dict, Optional, Sequence, TextIO, Union
+from typing import Any, Callable, Dict, Optional, Sequence, TextIO, Tuple, Union
 
 from farm_tools import (
     admin,
@@ -39,6 +39,9 @@ ACTIONS = {"extend": "refresh", "cancel-reservation": "cancel"}
 def main(words: Optional[Sequence[str]] = None) -> int:
     try:
         options = options_of(sys.argv[1:] if words is None else words)
+    except (SystemExit, BrokenPipeError) as end:
+        return after_help(end)
+    try:
         interrupts.catch_signals()
         status = status_of(options)
         interrupts.ignore_signals()  # nothing is left to be interrupted
@@ -46,6 +49,19 @@ def main(words: Optional[Sequence[str]] = None) -> int:
     except interrupts.Interrupted as it:
         let_go(sys.stdout)
         return it.status
+    finally:
+        let_go(sys.stderr)
+
+
+def after_help(end: BaseException) -> int:
+    """The exit status where help was printed, of which a reader may have enough, or words are bad."""
+    try:
+        print(end="", flush=True)
+        status = end.code if isinstance(end, SystemExit) else 0
+        return status if isinstance(status, int) else 0
+    except OSError as fault:
+        let_go(sys.stdout)
+        return 0 if isinstance(fault, BrokenPipeError) else told(FAULT, str(fault))
     finally:
         let_go(sys.stderr)
 
@@ -74,7 +90,7 @@ def status_of(options: argparse.Namespace) -> int:
         return told(fault_status, f"no answer from the desk at {where.server}: {fault}")
     except BrokenPipeError:
         let_go(sys.stdout)
-        return fault_status
+        return 0 if options.does in VIEWS else fault_status
     except (settings.BadSettings, OSError) as fault:
         let_go(sys.stdout)
         return told(fault_status, str(fault))
@@ -377,6 +393,13 @@ def await_end(desk: calls.Desk, options: argparse.Namespace, job: int) -> int:
         for it in members:
             print(f"{it['number']} {it['result']} {it['board'] or '-'}")
     return 0 if all(it["result"] == "Complete" for it in members) else ENDED
+
+
+# What shows something, of which a reader may have enough, as `head`.
+VIEWS: Tuple[Callable[..., int], ...] = (
+    views.show_boards, views.show_types, claims.show_queue, views.show_reservations, show_jobs,
+    past_jobs.show_log, past_jobs.show_history, usage.show_usage,
+)
 
 
 # ---- reservations

@@ -14,8 +14,16 @@ nothing but its own commands moved that clock for so long, or where free boards 
 so long. It warns too where that clock is more than a minute ahead of this machine's."""
 
 STATUSES = (
-    ("0", "Done; a job that was waited for ended Complete."),
-    ("1", "A job that was waited for ended otherwise, or a reservation before it had a board."),
+    (
+        "0",
+        "Done; a job that was waited for ended Complete; or who reads what is shown, as 'head', had "
+        "enough of it.",
+    ),
+    (
+        "1",
+        "A job that was waited for ended otherwise, or a reservation before it had a board; or "
+        "boards weren't to be Retired.",
+    ),
     ("2", "Bad words, or a setting that there isn't."),
     (
         "3",
@@ -103,7 +111,8 @@ the number of the signal that killed it, or 125 to 127 as below.""",
 
 OF_AN_ADMIN = {
     "health": """\
-Set the health of boards, as an admin. A board that is refused is told, and the others have it.""",
+Set the health of boards, as an admin. A board that is refused is told, and the others have it. At \
+a terminal it asks once before boards are Retired, which is for good.""",
     "tags": "Give a board these tags in the place of those it has, as an admin.",
     "add-type": """\
 Add a type, as an admin. Its boards are checked each N hours or jobs, or never.""",
