@@ -9,7 +9,7 @@ import time
 from typing import Callable, List, Sequence
 
 import pytest
-from desks import BOARDS, DESK, at_a_terminal, desk, prints, write
+from desks import BOARDS, DESK, Ran, at_a_terminal, desk, prints, write
 from served import TOP, Farm, environment
 from wants import wants
 
@@ -30,7 +30,7 @@ def lab(make_farm: Callable[..., Farm]) -> Farm:
     return make_farm()
 
 
-def admin(lab: Farm, *words: str, user: str = "") -> object:
+def admin(lab: Farm, *words: str, user: str = "") -> Ran:
     """What a command comes to that asks as the admin where nothing names another."""
     return desk(lab, *words, user=user)
 
@@ -187,6 +187,49 @@ def test_a_lab_file_that_is_refused_is_told_with_its_line(
     assert (status, said) == (3, "")
     assert errors == f"desk: {file}: {told}\n" or (told is None and errors.startswith(f"desk: {file}: bad lab file: "))
     assert [it["name"] for it in lab.look("/types")["types"]] == left
+
+
+IGNORED = """\
+site = "lab"
+[type.rpi]
+[types.bbb]
+every = 3
+[types.rpi]
+check = "hours"
+every = 3
+chekc = "jobs"
+[boards.b1]
+type = "bbb"
+tag = ["hdmi"]
+health = "Good"
+[boards.b2]
+type = "bbb"
+health = "Bad"
+"""
+
+
+def test_what_the_desk_ignores_of_a_lab_file_is_told(lab: Farm, folder: str) -> None:
+    file = write(folder, "lab.toml", IGNORED)
+    status, said, errors = admin(lab, "import", file)
+    assert (status, said) == (0, "accepted 4, kept 0\n")
+    assert errors.splitlines() == [f"desk: {file}: {it}" for it in (
+        "line 1: site is ignored",
+        "line 2: type is ignored: is types meant?",
+        "line 4: type bbb: every is ignored: it has no check",
+        "line 8: type rpi: chekc is ignored: is check meant?",
+        "line 11: board b1: tag is ignored: is tags meant?",
+        "line 12: board b1: health is ignored, and 1 more: desk health sets it",
+    )]
+
+
+@pytest.mark.parametrize("text, warnings", [
+    ("", ["it has neither types nor boards"]), ("[types]\n[boards]\n", ["it has neither types nor boards"]),
+    ("board.b1 = {type = 'x'}", ["line 1: board is ignored: is boards meant?", "it has neither types nor boards"]),
+])
+def test_a_lab_file_without_types_and_boards_is_told(lab: Farm, text: str, warnings: List[str]) -> None:
+    status, said, errors = desk(lab, "import", "-", given=text, user="")
+    assert (status, said) == (0, "accepted 0, kept 0\n")
+    assert errors.splitlines()[: len(warnings)] == [f"desk: -: {it}" for it in warnings]
 
 
 def test_what_is_no_lab_file(lab: Farm, folder: str) -> None:

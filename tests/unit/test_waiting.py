@@ -21,6 +21,7 @@ class Desk:
         self.now = 1000.0
         self.comes = 100.0  # after so many seconds
         self.state = "waiting"
+        self.queue: List[Dict[str, Any]] = []  # what waits besides
         self.faults: List[Optional[Exception]] = []
         self.refreshes: List[float] = []
         self.told: List[Tuple[str, Optional[str]]] = []
@@ -42,11 +43,11 @@ class Desk:
     def look(self, path: str) -> Dict[str, Any]:
         has_board = self.now >= 1000 + self.comes
         holder = "reservation 7" if has_board else "job 1"
-        queue = [] if has_board or self.state != "waiting" else [{"kind": "reservation", "number": 7}]
+        queue: List[Dict[str, Any]] = [] if has_board or self.state != "waiting" else [{"kind": "reservation", "number": 7}]
         row = {"number": 7, "state": self.state, "tags": [], "owner": "ann"}
         board = {"name": "b1", "type": "bbb", "tags": [], "health": "Good", "holder": holder}
         views: Dict[str, Dict[str, Any]] = {
-            "/status": {"clock": int(self.now), "count": int(self.now)}, "/queue": {"queue": queue},
+            "/status": {"clock": int(self.now), "count": int(self.now)}, "/queue": {"queue": queue + self.queue},
             "/boards": {"boards": [board]}, "/reservations": {"reservations": [row]}, "/jobs/1": {"owner": "bob"},
             "/types": {"types": []},
         }
@@ -81,6 +82,32 @@ def test_a_reservation_that_waits_is_refreshed_long_before_its_lease_ends(desk: 
     moments = [0.0, *desk.refreshes, desk.now - 1000]
     assert max(later - former for former, later in zip(moments, moments[1:])) <= LEASE * 2 / 3
     assert len(desk.refreshes) <= 5, "each refresh moves the desk's clock for all"
+
+
+def test_a_board_that_comes_between_two_views_is_its_own(desk: Desk, capsys: pytest.CaptureFixture[str]) -> None:
+    """A pass comes after the queue was shown, and before the boards are: no holder is told, least of all itself."""
+    look = desk.look
+
+    def look_and_pass(path: str) -> Dict[str, Any]:
+        seen = look(path)
+        if path == "/queue" and desk.now >= 1010:
+            desk.comes = 0.0
+        return seen
+
+    desk.look = look_and_pass  # type: ignore[method-assign]
+    assert wait(desk)["name"] == "b1"
+    told = capsys.readouterr().err
+    assert "reservation 7 of" not in told and "held by job 1 of bob" in told
+    assert desk.now == 1010, "it doesn't look once more"
+
+
+def test_a_job_that_gets_its_board_between_two_views_isnt_its_own_reason(desk: Desk) -> None:
+    desk.state, desk.queue = "canceled", [{"kind": "group", "number": 1}]
+    job = {"number": 1, "group": 1, "state": "Submitted", "type": "bbb", "tags": []}
+    waits = waiting.Wait(cast(calls.Desk, desk), clocks.Watch(cast(calls.Desk, desk)))
+    assert waiting.state_and_place(waits, [job]) == "Submitted, place 1 of 1 in the queue"
+    other = {**job, "number": 2}
+    assert waiting.state_and_place(waits, [other]).endswith(": 1 board fits, held by job 1 of bob")
 
 
 def test_a_reservation_that_expired_is_gone(desk: Desk) -> None:
@@ -159,4 +186,4 @@ def test_a_board_that_expired_before_it_was_acquired(desk: Desk) -> None:
     reservation.ask()
     desk.faults = [EXPIRED]
     with pytest.raises(waiting.Gone, match="^reservation 7 has expired$"):
-        reservation.acquire()
+        reservation.acquire("b1")

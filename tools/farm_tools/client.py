@@ -54,7 +54,8 @@ def main(words: Optional[Sequence[str]] = None) -> int:
 
 
 def after_help(end: BaseException) -> int:
-    """The exit status where help was printed, of which a reader may have enough, or words are bad."""
+    """The exit status where words are bad, or help was printed, of which a reader may have
+    enough."""
     try:
         print(end="", flush=True)
         status = end.code if isinstance(end, SystemExit) else 0

@@ -121,7 +121,8 @@ Add a type, as an admin. Its boards are checked each N hours or jobs, or never."
 Add the types and boards of a lab file, as an admin. It does so as 'farm import' does, under the \
 same keys, while the desk serves: what either of them added, the other keeps. It prints 'accepted \
 A, kept K', as 'farm import' does; kept are those of the file's types and boards that were there \
-when it began. Where the file has a fault nothing is added, and the fault's line is named. It ends \
+when it began. Each key that the desk will ignore is told, with its line; so is a file without \
+types and boards. Where the file has a fault nothing is added, and its line is named. It ends \
 at the first type or board that the desk refuses, and names its line in the file; a type or a \
 board that is there and that no import added is refused so.""",
 }

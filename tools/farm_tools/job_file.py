@@ -23,8 +23,8 @@ def fault_of(data: bytes) -> Optional[str]:
 
 
 def limit_fault_of(data: bytes) -> Optional[str]:
-    """Why the time limit that a job file asks for can't be one, of which the desk knows nothing; None
-    where it asks for none, or can't be read."""
+    """Why the time limit that a job file asks for can't be one, of which the desk knows nothing;
+    None where it asks for none, or can't be read."""
     try:
         timeouts = toml_text.tree_of(data.decode()).get("timeouts", {})
         if not isinstance(timeouts, dict):

@@ -1,13 +1,20 @@
 """A lab file's types and boards, added over HTTP as `farm import` adds them."""
 import argparse
+import difflib
 import sys
-from typing import Any, Dict, List, NamedTuple, Set, Tuple
+from typing import Any, Dict, List, NamedTuple, Sequence, Set, Tuple
 
 from farm_tools import calls, toml_text, views, words
 from farm_tools.lab_file import LONGEST_EVERY, LONGEST_LAB_FILE
 from farm_tools.words import BadFile
 
 CHECKS = ("none", "hours", "jobs")
+# The keys of a lab file's tables, and what is said of another that isn't misspelt.
+KEYS = {"types": ("check", "every"), "boards": ("type", "tags")}
+HINTS = {
+    ("boards", "health"): ": desk health sets it",
+    ("types", "every"): ": it has no check",
+}
 TYPE_EXISTS, BOARD_EXISTS = 11, 13
 REFUSED = 3
 
@@ -47,6 +54,42 @@ def additions_of(text: str) -> List[Addition]:
     return found
 
 
+def warnings_of(text: str) -> List[str]:
+    """What a lab file has that the desk will ignore, each key once, in the order of their lines;
+    and that it has nothing else."""
+    tree = toml_text.tree_of(text)
+    found: Dict[Tuple[str, str], List[Sequence[str]]] = {}
+    for section, rows in tree.items():
+        if section not in KEYS:
+            found.setdefault(("", section), []).append((section,))
+            continue
+        for name, row in rows.items():
+            for key in row:
+                if is_ignored(section, key, row):
+                    found.setdefault((section, key), []).append((section, name, key))
+    lines = sorted(
+        (toml_text.line_of(text, paths[0]), warning_of(it, paths)) for it, paths in found.items()
+    )
+    empty = [] if any(tree.get(it) for it in KEYS) else ["it has neither types nor boards"]
+    return [f"line {line}: {warning}" for line, warning in lines] + empty
+
+
+def is_ignored(section: str, key: str, row: Dict[str, Any]) -> bool:
+    if (section, key) == ("types", "every"):
+        return bool(row.get("check", "none") == "none")
+    return key not in KEYS[section]
+
+
+def warning_of(key: Tuple[str, str], paths: List[Sequence[str]]) -> str:
+    """That a key is ignored, at its first place, and how often more; and which one may be meant."""
+    section, word = key
+    where = f"{section[:-1]} {paths[0][1]}: " if section else ""
+    more = f", and {len(paths) - 1} more" if len(paths) > 1 else ""
+    meant = difflib.get_close_matches(word, KEYS.get(section, KEYS), 1)
+    hint = f": is {meant[0]} meant?" if meant and meant[0] != word else HINTS.get(key, "")
+    return f"{where}{word} is ignored{more}{hint}"
+
+
 def type_of(row: Dict[str, Any]) -> Dict[str, Any]:
     check = row.get("check", "none")
     if check not in CHECKS:
@@ -79,6 +122,8 @@ def import_lab(desk: calls.Desk, options: argparse.Namespace) -> int:
         additions = additions_of(text)
     except (BadFile, UnicodeDecodeError) as fault:
         return told(options.file, f"bad lab file: {fault}")
+    for warning in warnings_of(text):
+        told(options.file, warning)
     accepted = kept = 0
     there = names_at(desk)
     for each in additions:

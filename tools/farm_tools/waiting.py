@@ -82,11 +82,14 @@ class Wait:
                 return f"place {place} of {len(queue)} in the queue"
         return None
 
-    def reason(self, wanted: List[wants.Want]) -> str:
-        """Why these wants wait, behind a colon, or nothing."""
+    def lab(self) -> wants.Lab:
+        """The boards as they are now."""
         if self.checked is None:
             self.checked = wants.checked_types(self.desk)
-        lab = wants.Lab(self.desk, self.checked, self.owners)
+        return wants.Lab(self.desk, self.checked, self.owners)
+
+    def reason(self, lab: wants.Lab, wanted: List[wants.Want]) -> str:
+        """Why these wants wait, behind a colon, or nothing."""
         self.clock.note_met(lab.is_met(wanted))
         why = lab.reason(wanted)
         return f": {why}" if why else ""
@@ -151,7 +154,10 @@ def state_and_place(wait: Wait, members: List[Dict[str, Any]]) -> str:
     place = wait.place("group", members[0]["group"])
     if not place:
         return state
-    return f"{state}, {place}{wait.reason([wants.want_of_job(it) for it in members])}"
+    lab = wait.lab()
+    if len(members) == 1 and lab.held_by(f"job {members[0]['number']}"):
+        return f"{state}, {place}"  # it got its board after the queue was shown
+    return f"{state}, {place}{wait.reason(lab, [wants.want_of_job(it) for it in members])}"
 
 
 def board_of(desk: calls.Desk, number: int) -> Optional[Dict[str, Any]]:
@@ -181,15 +187,17 @@ def wait_for_board(
             if refusal.code == calls.EXPIRED:
                 raise Gone(f"reservation {number} has expired") from refusal
             raise
+        # (the boards are shown after the queue: a pass between the two gives it its board)
         place = wait.place("reservation", number)
-        board = None if place else board_of(wait.desk, number)
+        lab = wait.lab()
+        board = lab.held_by(f"reservation {number}")
         if board:
             return board
         if not place:
             progress.show(f"reservation {number} is {state_of(wait.desk, number)}")
             return None
         want = want or wants.want_of_reservation(row_of(wait.desk, number))
-        progress.show(f"reservation {number} is waiting, {place}{wait.reason([want])}")
+        progress.show(f"reservation {number} is waiting, {place}{wait.reason(lab, [want])}")
         return None
 
     return wait.until_there(look, min(options.every, REFRESH))

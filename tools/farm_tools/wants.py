@@ -52,6 +52,11 @@ class Lab:
         self.owners = owners
         self.boards = desk.look("/boards")["boards"]
 
+    def held_by(self, holder: str) -> Optional[Dict[str, Any]]:
+        """The board that `job 3` or `reservation 4` holds, or None."""
+        found: List[Dict[str, Any]] = [it for it in self.boards if it["holder"] == holder]
+        return found[0] if found else None
+
     def reason(self, wants: List[Want]) -> str:
         """Why these wants wait: nothing where boards for them are free, or may become so by
         themselves and nothing more is known."""
@@ -141,8 +146,8 @@ def lacking(some: Tuple[Want, ...], able: int, out: List[Dict[str, Any]]) -> str
 
 
 def why_none(desk: calls.Looker, wants: List[Want]) -> str:
-    """Why the desk refuses wants (22): of the boards that aren't Retired, held or free, no list meets
-    them."""
+    """Why the desk refuses wants (22): of the boards that aren't Retired, held or free, no list
+    meets them."""
     boards = [it for it in desk.look("/boards")["boards"] if it["health"] != "Retired"]
     short = short_of(wants, boards)
     if short is None:
