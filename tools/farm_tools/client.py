@@ -39,13 +39,12 @@ ACTIONS = {"extend": "refresh", "cancel-reservation": "cancel"}
 def main(words: Optional[Sequence[str]] = None) -> int:
     try:
         options = options_of(sys.argv[1:] if words is None else words)
-    except (SystemExit, BrokenPipeError) as end:
-        return after_help(end)
-    try:
         interrupts.catch_signals()
         status = status_of(options)
         interrupts.ignore_signals()  # nothing is left to be interrupted
         return status
+    except (SystemExit, BrokenPipeError) as end:
+        return after_help(end)
     except interrupts.Interrupted as it:
         let_go(sys.stdout)
         return it.status
@@ -63,8 +62,6 @@ def after_help(end: BaseException) -> int:
     except OSError as fault:
         let_go(sys.stdout)
         return 0 if isinstance(fault, BrokenPipeError) else told(FAULT, str(fault))
-    finally:
-        let_go(sys.stderr)
 
 
 def status_of(options: argparse.Namespace) -> int:
