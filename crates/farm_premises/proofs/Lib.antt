@@ -1,0 +1,2 @@
+mod MetLemmas
+mod FirstRows
