@@ -18,6 +18,7 @@ from farm_tools.past import Past
 
 ROOT = os.path.dirname(os.path.dirname(os.path.abspath(__file__)))
 NEW = "new-"  # how a group's folder is named until it is whole
+OLD = "old-"  # and how a job's own one while it is removed
 LOST, NOT_BEGUN = "lost, with its folder", "not begun"
 DAY = 86400
 KILLS_AFTER = 10  # seconds after which what was to be killed is told to live on
@@ -50,6 +51,9 @@ class Groups:
         for name in (folders.GROUPS, folders.JOBS):
             for cut in (it for it in os.listdir(os.path.join(place, name)) if it.startswith(NEW)):
                 shutil.rmtree(os.path.join(place, name, cut), ignore_errors=True)
+        for name in os.listdir(os.path.join(place, folders.JOBS)):
+            if name.startswith(OLD):
+                self.remove_work(name)
         self.open = {it for it in self._numbers() if not self.of(it).files.has(folders.FINISHED)}
         self.runners: Dict[int, "subprocess.Popen[bytes]"] = {}
         self.left: Set[str] = set()  # marks of cages that are empty, but for the runner that ends
@@ -89,8 +93,8 @@ class Groups:
         """Removes a job's own folder, in the background and under another name, so that a new one of
         that number may be made meanwhile."""
         folder = os.path.join(self.place, folders.JOBS, name)
-        if not name.startswith(NEW):
-            removed = os.path.join(os.path.dirname(folder), f"{NEW}{name}-{secrets.token_hex(8)}")
+        if not name.startswith(OLD):
+            removed = os.path.join(os.path.dirname(folder), f"{OLD}{name}-{secrets.token_hex(8)}")
             os.rename(folder, removed)
             folder = removed
         self.removals.add(folder)
