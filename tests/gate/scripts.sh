@@ -9,6 +9,9 @@ farm=$1 player=$2
 shift 2
 for python in python3 /usr/bin/python3; do
     "$python" -c 'import pytest, xdist, pytest_timeout' 2> /dev/null || continue
+    # (what they are compiled to is kept, since else each of the processes would compile all of them)
+    unset PYTHONDONTWRITEBYTECODE
+    "$python" -m pytest tests --farm "$farm" --collect-only -q > /dev/null 2>&1
     # shellcheck disable=SC2093 # (the next one is tried only where this one has no pytest)
     exec "$python" -m pytest tests --farm "$farm" --player "$player" -q -n "$(($(nproc) * 3))" --dist loadgroup "$@"
 done
