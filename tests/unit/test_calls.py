@@ -340,10 +340,10 @@ def test_one_whose_number_never_came_ends_by_itself(monkeypatch: pytest.MonkeyPa
 def test_a_board_that_was_taken_back_meanwhile_is_gone(monkeypatch: pytest.MonkeyPatch) -> None:
     desk = Cancels(monkeypatch, calls.Refused(409, calls.EXPIRED, "expired"), calls.Refused(401, 0, "no"))
     with pytest.raises(waiting.Gone, match="^reservation 7 has expired$"):
-        reservation_of(desk).acquire()
+        reservation_of(desk).acquire("b1")
     with pytest.raises(calls.Refused, match="401"):
-        reservation_of(desk).acquire()
-    reservation_of(desk).acquire()
+        reservation_of(desk).acquire("b1")
+    reservation_of(desk).acquire("b1")
     assert desk.asked == ["/reservations/7/acquire"] * 3
 
 

@@ -217,7 +217,7 @@ def test_a_programs_answers_are_objects(capsys: pytest.CaptureFixture[str], monk
     assert called(client.cancel_job, Desk()) == 0
     assert called(client.change_reservation, Desk(), action="release") == 0
     monkeypatch.setattr(waiting, "wait_for_board", lambda *_: {"name": "b1"})
-    reservation: Any = types.SimpleNamespace(desk=None, tags=[], acquire=lambda: None)
+    reservation: Any = types.SimpleNamespace(desk=None, tags=[], acquire=lambda _: None)
     options = argparse.Namespace(json=True, acquire=True)
     assert client.await_board(reservation, 7, options) == 0
     assert [json.loads(it) for it in capsys.readouterr().out.splitlines()] == [
@@ -268,12 +268,12 @@ def test_how_wide_a_line_is_where_there_is_no_terminal(monkeypatch: pytest.Monke
     ("Scheduling", [{"kind": "group", "number": 7}], "Scheduling, place 1 of 1 in the queue"),
 ])
 def test_a_wait_says_where_a_job_stands(monkeypatch: pytest.MonkeyPatch, state: str, queue: List[Any], told: str) -> None:
-    desk: Any = Desk(queue={"queue": queue})
+    desk: Any = Desk(queue={"queue": queue}, boards={"boards": []}, types={"types": []})
     desk.of_patience = lambda seconds: desk
-    monkeypatch.setattr(waiting.Wait, "reason", lambda wait, wanted: "")
+    monkeypatch.setattr(waiting.Wait, "reason", lambda wait, lab, wanted: "")
     monkeypatch.setattr(wants, "want_of_job", lambda view: None)
     clock: Any = None
-    assert waiting.state_and_place(waiting.Wait(desk, clock), [{"state": state, "group": 7}]) == told
+    assert waiting.state_and_place(waiting.Wait(desk, clock), [{"state": state, "number": 7, "group": 7}]) == told
 
 
 # ---- a command with a board

@@ -84,7 +84,9 @@ def test_a_reservation_that_waits_is_refreshed_long_before_its_lease_ends(desk: 
     assert len(desk.refreshes) <= 5, "each refresh moves the desk's clock for all"
 
 
-def test_a_board_that_comes_between_two_views_is_its_own(desk: Desk, capsys: pytest.CaptureFixture[str]) -> None:
+def test_a_board_that_comes_between_two_views_is_its_own(
+    desk: Desk, monkeypatch: pytest.MonkeyPatch, capsys: pytest.CaptureFixture[str]
+) -> None:
     """A pass comes after the queue was shown, and before the boards are: no holder is told, least of all itself."""
     look = desk.look
 
@@ -94,7 +96,7 @@ def test_a_board_that_comes_between_two_views_is_its_own(desk: Desk, capsys: pyt
             desk.comes = 0.0
         return seen
 
-    desk.look = look_and_pass  # type: ignore[method-assign]
+    monkeypatch.setattr(desk, "look", look_and_pass)
     assert wait(desk)["name"] == "b1"
     told = capsys.readouterr().err
     assert "reservation 7 of" not in told and "held by job 1 of bob" in told
@@ -103,7 +105,7 @@ def test_a_board_that_comes_between_two_views_is_its_own(desk: Desk, capsys: pyt
 
 def test_a_job_that_gets_its_board_between_two_views_isnt_its_own_reason(desk: Desk) -> None:
     desk.state, desk.queue = "canceled", [{"kind": "group", "number": 1}]
-    job = {"number": 1, "group": 1, "state": "Submitted", "type": "bbb", "tags": []}
+    job: Dict[str, Any] = {"number": 1, "group": 1, "state": "Submitted", "type": "bbb", "tags": []}
     waits = waiting.Wait(cast(calls.Desk, desk), clocks.Watch(cast(calls.Desk, desk)))
     assert waiting.state_and_place(waits, [job]) == "Submitted, place 1 of 1 in the queue"
     other = {**job, "number": 2}
