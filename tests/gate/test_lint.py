@@ -60,10 +60,17 @@ def test_shellcheck_finds_nothing_in_shell_scripts() -> None:
     assert said("shellcheck", "--severity=warning", *files) == ""
 
 
-@pytest.mark.slow(20)
+@pytest.fixture(scope="module")
+def mypy_cache(tmp_path_factory: pytest.TempPathFactory) -> pathlib.Path:
+    """Where mypy keeps what it read, which the next one takes."""
+    return tmp_path_factory.mktemp("mypy")
+
+
+@pytest.mark.slow(40)
+@pytest.mark.xdist_group("mypy")
 @pytest.mark.parametrize("folder", TYPED)
-def test_mypy_finds_no_wrong_type(folder: str, tmp_path: pathlib.Path) -> None:
+def test_mypy_finds_no_wrong_type(folder: str, mypy_cache: pathlib.Path) -> None:
     python = wants_python_with("mypy")
     imported = {"MYPYPATH": ":".join(os.path.join(TOP, it) for it in IMPORTED)} if folder.startswith("tests/") else {}
-    found = said(python, "-m", "mypy", "--strict", "--cache-dir", tmp_path, *TYPED[folder], where=folder, **imported)
+    found = said(python, "-m", "mypy", "--strict", "--cache-dir", mypy_cache, *TYPED[folder], where=folder, **imported)
     assert found == ""
