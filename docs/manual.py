@@ -3,7 +3,7 @@
 
 A man page has prose of its own, and parts between `.\\" begin NAME` and `.\\" end NAME`, which are
 written here from the tool's parser: its synopsis, description, commands, options and exit statuses
-(tools/farm_tools/parsers.py says how such a text is marked). So an option is described once, in the
+(python/src/fizgruk/_tools/parsers.py says how such a text is marked). So an option is described once, in the
 tool, and this is run after that was changed. With --check nothing is written: status 1 names the
 first line of each page that isn't as it would be written. FOLDER has the pages; this one, else.
 """
@@ -16,18 +16,19 @@ from typing import Dict, Iterator, Optional, Set
 
 HERE = os.path.dirname(os.path.abspath(__file__))
 sys.path.insert(0, os.path.join(os.path.dirname(HERE), "tools"))
-from farm_tools import desk_texts, parsers  # noqa: E402
+from fizgruk._tools import parsers  # noqa: E402
+from fizgruk.desk import texts  # noqa: E402
 
 # The man pages, and the modules that have their parsers.
 PAGES = {
-    "desk.1": "client",
-    "farm-backup.8": "backup",
-    "farm-dispatch.8": "dispatch",
-    "farm-from-desk.1": "from_desk",
-    "farm-from-labgrid.1": "from_labgrid",
-    "farm-from-lava.1": "from_lava",
-    "farm-metrics.8": "metrics",
-    "farm-watch.8": "watch",
+    "desk.1": "fizgruk.desk.main",
+    "farm-backup.8": "farm_backup.main",
+    "farm-dispatch.8": "farm_dispatch.main",
+    "farm-from-desk.1": "farm_import.from_desk",
+    "farm-from-labgrid.1": "farm_import.from_labgrid",
+    "farm-from-lava.1": "farm_import.from_lava",
+    "farm-metrics.8": "farm_metrics.main",
+    "farm-watch.8": "farm_watch.main",
 }
 # What each command has, and the page says once.
 OF_EACH_COMMAND = ("help", "json")
@@ -188,8 +189,8 @@ def parts_of(tool: parsers.Parser) -> Dict[str, Iterator[str]]:
         "statuses": statuses(tool),
     }
     if parsers.commands_of(tool):
-        parts["commands"] = commands(tool, desk_texts.OF_ALL)
-        parts["commands of an admin"] = commands(tool, desk_texts.OF_AN_ADMIN)
+        parts["commands"] = commands(tool, texts.OF_ALL)
+        parts["commands of an admin"] = commands(tool, texts.OF_AN_ADMIN)
     return parts
 
 
@@ -198,7 +199,7 @@ def parts_of(tool: parsers.Parser) -> Dict[str, Iterator[str]]:
 
 def written(page: str, text: str) -> str:
     """A page with the parts that its tool's parser gives."""
-    tool = importlib.import_module(f"farm_tools.{PAGES[page]}").parser_of()
+    tool = importlib.import_module(PAGES[page]).parser_of()
     parts = {name: "\n".join(lines) for name, lines in parts_of(tool).items()}
     found = [it[2] for it in PART.finditer(text)]
     if sorted(found) != sorted(parts):

@@ -5,6 +5,7 @@ export DEBIAN_FRONTEND=noninteractive LC_ALL=C
 home=/var/lib/farm
 lab=/usr/share/doc/fizgruk-desk/examples/lab.toml
 log=/tmp/apt.log
+# shellcheck disable=SC2086 # (what is installed are patterns of files)
 cd /srv/packages
 fail() {
     echo "package: $*"
@@ -13,7 +14,8 @@ fail() {
 as_farm() { setpriv --reuid farm --regid farm --clear-groups "$@"; }
 does() { "$@" > "$log" 2>&1 || fail "$*: $(tail -n 5 "$log")"; }
 install() { does apt-get install -y --no-install-recommends --reinstall -o Dpkg::Options::=--force-confold "$@"; }
-upgrade() { does dpkg -i ./fizgruk-desk_*.deb ./fizgruk-farm_*.deb; }
+client="./python3-fizgruk_*.deb ./fizgruk-desk_*.deb"
+upgrade() { does dpkg -i $client ./fizgruk-farm_*.deb; }
 says() { grep -q "^fizgruk: $1" "$log" || fail "it doesn't say '$1', but $(cat "$log")"; }
 is_silent() { ! grep '^fizgruk: ' "$log" || fail "$1"; }
 # Demands that a unit is enabled or disabled, and active or inactive.
@@ -42,10 +44,10 @@ apt-get install -qq -y --no-install-recommends python3-yaml > "$log" 2>&1 || fai
 stands > /tmp/before
 
 # ---- the client alone
-install ./fizgruk-desk_*.deb
+install $client
 desk --help > /dev/null || fail "desk --help"
 ! getent passwd farm && ! systemctl cat farm > /dev/null 2>&1 || fail "the client brings the server"
-does apt-get purge -y fizgruk-desk
+does apt-get purge -y fizgruk-desk python3-fizgruk
 stands | diff /tmp/before - || fail "the client leaves files"
 echo "package: the client alone starts nothing, and leaves nothing"
 
@@ -58,7 +60,7 @@ echo "package: the Python package alone can be imported, and leaves nothing"
 
 # ---- the first import and the first reservation
 began=$(date +%s%N)
-install ./fizgruk-desk_*.deb ./fizgruk-farm_*.deb
+install $client ./fizgruk-farm_*.deb
 unit farm enabled active 'the first installation'
 unit farm-dispatch enabled active 'the first installation'
 unit farm-watch enabled inactive 'the first installation, without rules'
@@ -167,16 +169,16 @@ does dpkg --purge fizgruk-farm
 says "the farm stays in $home"
 [ "$(cat $home/lab.db $home/lab.db-wal | xargs)" = 'nothing more' ] && ! [ -e /usr/bin/farm ] || fail "what a removal leaves"
 rm -r $home
-does apt-get purge -y fizgruk-desk
+does apt-get purge -y fizgruk-desk python3-fizgruk
 stands | diff /tmp/before - || fail "purging leaves more than the farm"
-install ./fizgruk-desk_*.deb ./fizgruk-farm_*.deb
+install $client ./fizgruk-farm_*.deb
 unit farm-dispatch enabled active 'an installation after purging'
 does dpkg --remove fizgruk-farm
 does script -qec 'echo yes | DEBIAN_FRONTEND=teletype dpkg --purge fizgruk-farm' /dev/null
 grep -q 'Remove the board farm' "$log" && ! [ -e $home ] || fail "purging doesn't ask: $(cat "$log")"
-install ./fizgruk-desk_*.deb ./fizgruk-farm_*.deb
+install $client ./fizgruk-farm_*.deb
 echo 'fizgruk-farm fizgruk-farm/remove-farm boolean true' | debconf-set-selections
-does apt-get purge -y fizgruk-farm fizgruk-desk
+does apt-get purge -y fizgruk-farm fizgruk-desk python3-fizgruk
 stands | diff /tmp/before - || fail "purging with the farm leaves files"
 echo "package: a removal keeps the farm, purging keeps it where the answer isn't yes, and leaves nothing else"
 
@@ -184,7 +186,7 @@ echo "package: a removal keeps the farm, purging keeps it where the answer isn't
 install ../old.deb
 unit farm enabled active 2.0
 echo '# ours' >> /etc/farm/run-job
-install ./fizgruk*.deb
+install ./*fizgruk*.deb
 says 'farm-dispatch is disabled, as it was'
 unit farm enabled active 'an upgrade from 2.0'
 unit farm-dispatch disabled inactive 'an upgrade from 2.0'
@@ -195,11 +197,11 @@ dpkg -S /etc/farm/run-job | grep -q '^fizgruk-farm:' || fail "whose the admin's 
 systemctl enable -q --now farm-dispatch
 upgrade
 unit farm-dispatch enabled active 'an upgrade after the one from 2.0'
-does apt-get purge -y fizgruk-farm fizgruk-desk
+does apt-get purge -y fizgruk-farm fizgruk-desk python3-fizgruk
 rm -rf $home
 stands | diff /tmp/before - || fail "purging after 2.0 leaves files"
 install ../old.deb
 systemctl disable -q --now farm
-install ./fizgruk*.deb
+install ./*fizgruk*.deb
 unit farm disabled inactive 'an upgrade from 2.0, where it was disabled'
 echo "package: 2.0 is upgraded, with its farm, the admin's commands, and each unit as it was"

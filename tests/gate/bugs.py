@@ -93,7 +93,7 @@ def is_seen(bug: Bug, program: str) -> bool:
     with tempfile.TemporaryDirectory() as folder:
         copy = pathlib.Path(folder, "project")
         for part in PARTS:
-            shutil.copytree(TOP / part, copy / part, ignore=shutil.ignore_patterns("__pycache__"))
+            shutil.copytree(TOP / part, copy / part, symlinks=True, ignore=shutil.ignore_patterns("__pycache__"))
         words = ["-m", "pytest", "-q", f"tests/{bug.test}", "--farm", program]
 
         def ends() -> int:

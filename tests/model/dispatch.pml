@@ -5,7 +5,7 @@
 
      desk_start, desk_finish   what the desk does with a call, in one step as its store does it
      Dispatcher                farm-dispatch on one machine, with a folder for each job
-     Runner                    farm_tools.runner: the process that runs one job's command once
+     Runner                    farm_dispatch.runner: the process that runs one job's command once
      Processes                 a job's command, and the children that it leaves
      Queue                     passes, cancels, a person's words, and the restore of an older farm
      Machine                   kills, power cuts and calls that come late

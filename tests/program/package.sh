@@ -43,7 +43,10 @@ for name in fizgruk-desk fizgruk-farm; do
     [ "$(field $name Breaks)$(field $name Replaces)" = 'fizgruk (<< 2.0-1~)fizgruk (<< 2.0-1~)' ] ||
         fail "$name doesn't take the files of 2.0"
 done
-field fizgruk-farm Depends | grep -q 'fizgruk-desk (= .*python3' || fail "what fizgruk-farm depends on"
+for name in 'fizgruk-desk (= ' 'python3-fizgruk (= ' 'python3:any'; do
+    field fizgruk-farm Depends | grep -q "$name" || fail "fizgruk-farm doesn't depend on $name"
+done
+field fizgruk-desk Depends | grep -q 'python3-fizgruk (= ' || fail "the client doesn't depend on the library"
 
 # ---- the Python package stands alone, and is the one that docs/PYTHON.md installs
 [ "$(field python3-fizgruk Architecture)" = all ] || fail "the Python package's architecture"
@@ -51,8 +54,17 @@ field fizgruk-farm Depends | grep -q 'fizgruk-desk (= .*python3' || fail "what f
 ! grep -vE '^./(usr/(lib/(python3/(dist-packages/(fizgruk.*)?)?)?|share/(doc/(python3-fizgruk/.*)?)?)?)?$' \
     "$folder/python3-fizgruk/files" || fail "the Python package has more than its modules and documents"
 modules=$tree/usr/lib/python3/dist-packages
-for file in python/src/fizgruk/*.py python/src/fizgruk/py.typed; do
-    cmp -s "$file" "$modules/fizgruk/${file##*/}" || fail "python3-fizgruk has no $file"
+for file in python/src/fizgruk/*.py python/src/fizgruk/*/*.py python/src/fizgruk/py.typed; do
+    inner=${file#python/src/}
+    cmp -s "$file" "$modules/$inner" || fail "the packages have no $file"
+    case $inner in
+        fizgruk/desk/*) name=fizgruk-desk ;;
+        *) name=python3-fizgruk ;;
+    esac
+    grep -qx "./usr/lib/python3/dist-packages/$inner" "$folder/$name/files" || fail "$name has no $file"
+done
+for file in tools/farm_*/*.py; do
+    cmp -s "$file" "$tree/usr/share/fizgruk/${file#tools/}" || fail "fizgruk-farm has no $file"
 done
 said=$(PYTHONPATH=$modules /usr/bin/python3 -c 'import importlib.metadata as it; print(it.version("fizgruk"))')
 [ "$said-1" = "$(field python3-fizgruk Version)" ] || fail "the Python package's version $said"
@@ -105,6 +117,7 @@ else
 fi
 
 # ---- programs and documents
+export PYTHONPATH="$modules" PYTHONDONTWRITEBYTECODE=1
 for name in farm $(cd tools && ls -d desk farm-*); do
     "$tree/usr/bin/$name" --help > "$folder/help" || fail "$name --help"
     grep -qi "^usage: $name" "$folder/help" || fail "$name --help prints '$(cat "$folder/help")'"

@@ -19,7 +19,7 @@ from typing import Any, Callable, Dict, List, Optional, Set, Tuple
 
 import pytest
 
-from farm_tools.version import VERSION
+from fizgruk.version import VERSION
 from orders import Body, Orders, bytes_of, request
 from served import TOP, read
 

@@ -29,7 +29,7 @@ class Starter:
     """A process that runs calls of the client in copies of itself (starter.py)."""
 
     def __init__(self) -> None:
-        words = [sys.executable, os.path.join(SHARED, "starter.py"), DESK, "farm_tools.client"]
+        words = [sys.executable, os.path.join(SHARED, "starter.py"), DESK, "fizgruk.desk.main"]
         self.process = subprocess.Popen(
             words, stdin=subprocess.PIPE, stdout=subprocess.PIPE, text=True, env=environment()
         )

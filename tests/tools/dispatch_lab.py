@@ -145,7 +145,7 @@ class Lab:
 
     def runner(self, number: int, place: str = "") -> Optional[int]:
         """The process that runs a job's command."""
-        words = f"farm_tools.runner\0{os.path.join(place or self.place, 'groups', str(number))}\0"
+        words = f"farm_dispatch.runner\0{os.path.join(place or self.place, 'groups', str(number))}\0"
         found = [int(it) for it in os.listdir("/proc") if it.isdigit() and words in read_words(it)]
         return min(found, default=None)
 
@@ -197,7 +197,8 @@ def lab_fixture(make_lab: MakeLab) -> Lab:
 
 # What the code of `patched` begins with.
 PATCH_HEAD = """
-from farm_tools import dispatch, dispatcher, folders, groups
+from farm_dispatch import dispatcher, folders, groups, main as dispatch
+from fizgruk._tools import disk
 D, G = dispatcher.Dispatcher, groups.Group
 def until(test, limit=40):
     end = time.monotonic() + limit

@@ -126,7 +126,7 @@ class Kills:
 
     def runner_of(self, process: str) -> Any:
         words = read_words(process).split("\0") if process.isdigit() else []
-        if "farm_tools.runner" not in words or not words[3].startswith(self.lab.place):
+        if "farm_dispatch.runner" not in words or not words[3].startswith(self.lab.place):
             return None
         return int(process), int(os.path.basename(words[3]))
 

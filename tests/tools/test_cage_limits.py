@@ -10,7 +10,7 @@ from typing import Dict, Iterator, List
 import pytest
 from dispatch_lab import Lab, MakeLab, end_commands, jobs_of, replace
 from dispatch_lab import make_lab_fixture  # noqa: F401
-from farm_tools import cage_limits, cages
+from farm_dispatch import cage_limits, cages
 from served import TOOLS, read, wait_until
 from wants import lacks
 
@@ -19,7 +19,7 @@ RUNNER = """
 import os, runpy, sys
 sys.path.insert(0, {tools!r})
 sys.argv = sys.argv[1:]
-from farm_tools import cages, runner
+from farm_dispatch import cages, runner
 was = runner.Ends.after
 def after(self, word):
     said = was(self, word)
@@ -32,8 +32,8 @@ PATCH = """
 import subprocess
 was = subprocess.Popen
 def popen(words, **more):
-    if "farm_tools.runner" in words:
-        place = words.index("farm_tools.runner")
+    if "farm_dispatch.runner" in words:
+        place = words.index("farm_dispatch.runner")
         words = [words[0], "-c", CODE, "-m", *words[place:]]
     return was(words, **more)
 groups.subprocess.Popen = popen

@@ -23,7 +23,7 @@ import pytest
 from desks import (
     BOARDS, DESK, GROUP, JOB, around, at_a_terminal, desk, number_of, passes, prints, waiting_tool, waits, write,
 )
-from farm_tools import client
+from fizgruk.desk import main as client
 from served import TOOLS, Farm, Tool, environment, free_port, wait_until
 
 HEAD = "NAME TYPE HEALTH STATE HOLDER CHECKED TAGS\n"
@@ -34,7 +34,7 @@ NUMBER GROUP KIND     STATE      RESULT BOARD TYPE ROLE PRIORITY OWNER TAGS
 """
 DROPPED = """\
 import os, signal
-from farm_tools import interrupts
+from fizgruk._tools import interrupts
 class Ends:
     def __del__(self):
         os.kill(os.getpid(), signal.SIGHUP)

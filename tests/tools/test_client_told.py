@@ -13,7 +13,7 @@ import pytest
 from desks import (
     BOARDS, GROUP, JOB, at_a_terminal, desk, number_of, passes, prints, tell_at, waiting_tool, waits, write,
 )
-from farm_tools import job_file
+from fizgruk import job_file
 from served import Farm, Tool, read, wait_until
 
 SIGNALS = (signal.SIGINT, signal.SIGTERM, signal.SIGHUP, signal.SIGQUIT)

@@ -22,10 +22,10 @@ from typing import Any, Dict, List, Tuple, cast
 import pytest
 from dispatch_lab import AT_IT, BOARDS, COMMAND, Lab, MakeLab, jobs_of, one_line_each, read_words, replace
 from dispatch_lab import lab_fixture, make_lab_fixture  # noqa: F401
-from farm_tools import cages, folders, limits, runner
-from farm_tools import clocks as clocks_module
-from farm_tools.clocks import Clocks
-from farm_tools.dispatcher import Dispatcher
+from farm_dispatch import cages, clocks as clocks_module, folders, runner
+from farm_dispatch.clocks import Clocks
+from farm_dispatch.dispatcher import Dispatcher
+from fizgruk import clocks as farm_clocks, limits
 from served import TOOLS, TOP, Tool, read, wait_until
 from wants import wants
 
@@ -315,7 +315,7 @@ def test_many_runners(tmp_path: pathlib.Path) -> None:
         for each in (files.state, files.work, os.path.dirname(files.mark)):
             os.makedirs(each)
         order = runner.Order(place, cages.NAMESPACE if cages.can_make(cages.NAMESPACE) else cages.NONE, "", 1, 60, 60, 1000, 10**9, "")
-        words = [sys.executable, "-m", "farm_tools.runner", files.state, order.word(), "sh", "-c", "echo ran >> runs"]
+        words = [sys.executable, "-m", "farm_dispatch.runner", files.state, order.word(), "sh", "-c", "echo ran >> runs"]
         runners = [subprocess.Popen(words, cwd=TOOLS) for _ in range(6)]
         assert [it.wait(timeout=60) for it in runners] == [0] * 6, "how they end"
         assert subprocess.run(words, cwd=TOOLS, check=False).returncode == 0, "how one ends that comes later"
@@ -384,7 +384,7 @@ def test_stop_that_is_dropped(tmp_path: pathlib.Path) -> None:
     it ends an object."""
     code = """\
 import os, signal
-from farm_tools.dispatch import Stopped, Stops
+from farm_dispatch.main import Stopped, Stops
 class Ends:
     def __del__(self):
         os.kill(os.getpid(), signal.SIGTERM)
@@ -407,7 +407,7 @@ def test_second_stop() -> None:
     """A second signal, as of who presses Ctrl-C twice, changes nothing."""
     code = """\
 import os, signal
-from farm_tools import dispatch
+from farm_dispatch import main as dispatch
 dispatch.adopt = lambda *words: os.kill(os.getpid(), signal.SIGINT)
 status = dispatch.main(["--folder", ".", "--adopt", "1"])
 os.kill(os.getpid(), signal.SIGTERM)
@@ -897,7 +897,8 @@ def warned(clocks: Clocks, minutes: int) -> bool:
     begin = time.monotonic()
     with pytest.MonkeyPatch.context() as patch:
         later = argparse.Namespace(monotonic=lambda: begin + 60 * minutes, time=time.time)
-        patch.setattr(clocks_module, "time", later)
+        for module in (clocks_module, farm_clocks):
+            patch.setattr(module, "time", later)
         return "1 day ahead" in clocks.warning()
 
 

@@ -15,7 +15,7 @@ from typing import Any, Dict, List, Optional, Set, Tuple
 import pytest
 from dispatch_lab import Lab, jobs_of, lines_of, one_line_each
 from dispatch_lab import lab_fixture, make_lab_fixture  # noqa: F401
-from farm_tools import submissions
+from fizgruk import submissions
 from served import STARTED, TOOLS, Farm, environment, read, wait_until
 
 # Of kills while folders are made so many, and of those at an end one in so many; more with FARM_KILLS=all.
@@ -47,7 +47,8 @@ def dying(call):
     return called
 for name in ("write", "fsync", "replace", "rename", "link", "mkdir", "ftruncate", "unlink"):
     setattr(os, name, dying(getattr(os, name)))
-from farm_tools import calls, dispatch
+from farm_dispatch import main as dispatch
+from fizgruk import calls
 for name in ("tell", "nudge"):
     setattr(calls.Desk, name, dying(getattr(calls.Desk, name)))
 sys.exit(dispatch.main())

@@ -15,7 +15,7 @@ from typing import Dict, List, Optional, Tuple
 import pytest
 from dispatch_lab import BOARDS, CAGES, Lab, MakeLab, Proxy, end_commands, jobs_of
 from dispatch_lab import lab_fixture, make_lab_fixture  # noqa: F401
-from farm_tools import cages
+from farm_dispatch import cages
 from served import STARTED, TOOLS, Tool, environment, read, wait_until
 from wants import lacks, wants
 
@@ -49,7 +49,7 @@ G.lives = lives
 DIES_IN_TAKE_BACK = """
 was = folders.take_back
 def take_back(folder):
-    folders.sync_folder = lambda folder: (note(), die())
+    disk.sync_folder = lambda folder: (note(), die())
     return was(folder)
 folders.take_back = take_back
 """
@@ -101,7 +101,7 @@ KEEPER_DIES = """
 import os, runpy, signal, sys, time
 sys.path.insert(0, {tools!r})
 sys.argv = sys.argv[1:]
-from farm_tools import cages
+from farm_dispatch import cages
 was = cages._Keeper._started
 def started(self, *words):
     child = was(self, *words)
@@ -109,15 +109,15 @@ def started(self, *words):
     os.kill(os.getpid(), signal.SIGKILL)  # (the first of a namespace can't)
     os._exit(1)
 cages._Keeper._started = started
-from farm_tools import runner
+from farm_dispatch import runner
 sys.exit(runner.main(sys.argv[2:]))
 """
 DIES_BEFORE_IT_TELLS = """
 import subprocess
 was = subprocess.Popen
 def popen(words, **more):
-    if "farm_tools.runner" in words:
-        place = words.index("farm_tools.runner")
+    if "farm_dispatch.runner" in words:
+        place = words.index("farm_dispatch.runner")
         words = [words[0], "-c", CODE, "-m", *words[place:]]
     return was(words, **more)
 groups.subprocess.Popen = popen

@@ -12,9 +12,9 @@ from typing import Any, Dict, List, Optional
 import pytest
 from dispatch_lab import Lab, MakeLab, Proxy, jobs_of
 from dispatch_lab import lab_fixture, make_lab_fixture  # noqa: F401
-from farm_tools import passes
-from farm_tools.passes import Turns
-from farm_tools.retries import text_again
+from farm_dispatch.retries import text_again
+from fizgruk._tools import passes
+from fizgruk._tools.passes import Turns
 from served import Board, Tool, read, wait_until
 
 RACKS = ("rack1", "rack2", "rack3")

@@ -12,7 +12,8 @@ from typing import List, Union
 import pytest
 from dispatch_lab import BOARDS, Lab, MakeLab, jobs_of
 from dispatch_lab import lab_fixture, make_lab_fixture  # noqa: F401
-from farm_tools import calls, faults, room, strangers
+from farm_dispatch import faults, room, strangers
+from fizgruk import calls
 from served import STARTED, TOOLS, environment, read, wait_until
 from wants import lacks
 
@@ -174,7 +175,7 @@ def test_fault_of_a_group(make_lab: MakeLab) -> None:
 
 
 STAYS = """
-from farm_tools import faults
+from farm_dispatch import faults
 faults.STAYS = 1
 was = G.seen
 def seen(self):

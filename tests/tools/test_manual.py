@@ -217,8 +217,8 @@ def test_each_command_of_desk_has_a_text_and_its_options_in_both() -> None:
 @pytest.fixture
 def copy(folder: str) -> str:
     """A copy of tools and pages."""
-    for name in ("docs", "tools"):
-        shutil.copytree(os.path.join(TOP, name), os.path.join(folder, name))
+    for name in ("docs", "python", "tools"):
+        shutil.copytree(os.path.join(TOP, name), os.path.join(folder, name), symlinks=True)
     return folder
 
 
@@ -243,8 +243,8 @@ def test_pages_that_arent_as_the_tools_say_are_found_and_written(copy: str) -> N
 @pytest.mark.parametrize("file, old, new, told", [
     ("docs/farm-backup.8", "holds up nobody", "holds nobody up", []),  # prose is left alone
     ("docs/farm-backup.8", '.\\" end options\n', "", ["farm-backup.8: it has the parts"]),
-    ("tools/farm_tools/from_lava.py", "dispatcher-config.", "folder.", ["farm-from-lava.1: line "]),
-    ("tools/farm_tools/from_lava.py", ', help="The server\'s dispatcher-config."', "", ["FOLDER\\fP has no text"]),
+    ("tools/farm_import/from_lava.py", "dispatcher-config.", "folder.", ["farm-from-lava.1: line "]),
+    ("tools/farm_import/from_lava.py", ', help="The server\'s dispatcher-config."', "", ["FOLDER\\fP has no text"]),
 ])
 def test_what_is_told_of_a_change(copy: str, file: str, old: str, new: str, told: Sequence[str]) -> None:
     text = read(copy, file)

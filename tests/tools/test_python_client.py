@@ -19,9 +19,9 @@ from typing import Any, Callable, Dict, Iterator, List, Optional, Tuple, Type, c
 import pytest
 
 import fizgruk
-from farm_tools import settings as command_settings
-from farm_tools.version import VERSION
 from fizgruk import holding, settings, waiting
+from fizgruk._tools import settings as command_settings
+from fizgruk.version import VERSION
 from nginx_site import Site
 from python_front import BOARDS, JOB, PATH, SOURCES, SRC, Front, Passer, client_of, rows, states
 from served import STARTED, TOP, Farm, environment, read, wait_until

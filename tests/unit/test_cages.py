@@ -12,7 +12,7 @@ import types
 from typing import Any, Iterator, List
 
 import pytest
-from farm_tools import cages
+from farm_dispatch import cages
 
 
 def cage_of(folder: pathlib.Path, form: str = cages.CGROUP) -> cages.Cage:
@@ -242,8 +242,10 @@ def test_the_keeper_is_killed_after_the_others(tmp_path: pathlib.Path) -> None:
         keeper.communicate()
 
 
-def test_the_processes_that_run_a_groups_folder_are_found_by_their_words(tmp_path: pathlib.Path) -> None:
-    words = ["sh", "-c", "read line", "farm_tools.runner", str(tmp_path)]
+@pytest.mark.parametrize("runner", ["farm_dispatch.runner", "farm_tools.runner"])
+def test_the_processes_that_run_a_groups_folder_are_found_by_their_words(tmp_path: pathlib.Path, runner: str) -> None:
+    """Those too that version 2.0 began."""
+    words = ["sh", "-c", "read line", runner, str(tmp_path)]
     process = subprocess.Popen(words, stdin=subprocess.PIPE)
     try:
         until = time.monotonic() + 60

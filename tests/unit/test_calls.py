@@ -8,7 +8,9 @@ import types
 from typing import Any, Callable, Dict, Iterator, List, Optional, Tuple
 
 import pytest
-from farm_tools import calls, clocks, history, holding, interrupts, past_jobs, settings, waiting
+from fizgruk import calls, history
+from fizgruk._tools import interrupts, settings
+from fizgruk.desk import clocks, holding, past_jobs, waiting
 
 PLAIN = settings.Settings("http://desk.example:81/farm/", "ann", None, None, 30.0)
 
@@ -360,7 +362,7 @@ def test_a_reservation_that_ended_is_gone_for_who_waits(state: str) -> None:
 def test_a_desk_that_doesnt_let_it_in_has_no_members() -> None:
     desk = Served(**{"jobs/7": {"group": 7, "number": 7}, "jobs/8": calls.Refused(401, 0, "no")})
     with pytest.raises(calls.Refused, match="401"):
-        waiting.members_of(desk, 7)
+        calls.members_of(desk, 7)
 
 
 def test_signals_come_once(monkeypatch: pytest.MonkeyPatch) -> None:

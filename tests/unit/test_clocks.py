@@ -6,7 +6,9 @@ import time
 from typing import Any, Dict, List, cast
 
 import pytest
-from farm_tools import calls, clocks
+from farm_dispatch import clocks as dispatch_clocks
+from fizgruk import calls, clocks
+from fizgruk.desk.clocks import Watch
 
 QUIET = "no pass for {} seconds: is farm-dispatch running?"
 
@@ -39,8 +41,8 @@ def desk(monkeypatch: pytest.MonkeyPatch) -> Desk:
     return Desk(monkeypatch)
 
 
-def watch_of(desk: Desk) -> clocks.Watch:
-    return clocks.Watch(cast(calls.Desk, desk))
+def watch_of(desk: Desk) -> Watch:
+    return Watch(cast(calls.Desk, desk))
 
 
 def test_its_own_refreshes_are_no_passes(desk: Desk) -> None:
@@ -132,8 +134,8 @@ def test_a_desk_that_gives_no_answer_tells_nothing_here(desk: Desk, monkeypatch:
 # ---- beside a dispatcher
 
 
-def beside(desk: Desk, folder: str) -> clocks.Clocks:
-    return clocks.Clocks(cast(calls.Desk, desk), folder, True)
+def beside(desk: Desk, folder: str) -> dispatch_clocks.Clocks:
+    return dispatch_clocks.Clocks(cast(calls.Desk, desk), folder, True)
 
 
 def test_a_farm_ahead_is_looked_at_each_minute_and_told_each_hour(desk: Desk, folder: str) -> None:
@@ -155,7 +157,7 @@ def test_a_farm_ahead_is_looked_at_each_minute_and_told_each_hour(desk: Desk, fo
 def test_a_machines_clock_is_waited_for_where_its_service_runs(
     desk: Desk, folder: str, monkeypatch: pytest.MonkeyPatch, said: bytes, is_set: bool
 ) -> None:
-    monkeypatch.setattr(clocks, "_said_of_the_clock", said.split)
+    monkeypatch.setattr(dispatch_clocks, "_said_of_the_clock", said.split)
     assert beside(desk, folder).is_machine_set() is is_set
 
 
@@ -163,9 +165,9 @@ def test_a_clock_that_was_set_stays_so_until_the_machine_begins_anew(
     desk: Desk, folder: str, monkeypatch: pytest.MonkeyPatch
 ) -> None:
     said = {"boot": "one", "clock": b"NTP=yes NTPSynchronized=yes"}
-    text_of = getattr(clocks, "_text_of")
-    monkeypatch.setattr(clocks, "_said_of_the_clock", lambda: cast(bytes, said["clock"]).split())
-    monkeypatch.setattr(clocks, "_boot", lambda: said["boot"])
+    text_of = getattr(dispatch_clocks, "_text_of")
+    monkeypatch.setattr(dispatch_clocks, "_said_of_the_clock", lambda: cast(bytes, said["clock"]).split())
+    monkeypatch.setattr(dispatch_clocks, "_boot", lambda: said["boot"])
     assert beside(desk, folder).is_machine_set()
     assert text_of(os.path.join(folder, "synchronized")) == "one"
     said["clock"] = b"NTP=yes NTPSynchronized=no"

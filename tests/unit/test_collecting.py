@@ -6,8 +6,9 @@ import pathlib
 from typing import Any, Dict, List, Optional
 
 import pytest
-from farm_tools import calls, collecting
-from farm_tools.collecting import Collector, History, boards_of
+from farm_metrics import collecting
+from farm_metrics.collecting import Collector, History, boards_of
+from fizgruk import calls
 
 NOW = 1_800_000_000
 

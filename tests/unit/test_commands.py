@@ -7,7 +7,7 @@ import types
 from typing import Optional
 
 import pytest
-from farm_tools import commands, starts
+from farm_dispatch import commands, starts
 
 
 def script(folder: pathlib.Path, head: str, mode: int = 0o755) -> str:

@@ -8,14 +8,14 @@ import time
 from typing import Callable, Iterator, List
 
 import pytest
-from farm_tools import copying
+from farm_backup import copying
 from recorded import recorded
 
 MAKE = """\
 import sys
 sys.path.insert(0, sys.argv[1])
-from farm_tools import folders
-folders.write_synced(sys.argv[2], "new")
+from fizgruk._tools import disk
+disk.write_synced(sys.argv[2], "new")
 """
 TOOLS = str(pathlib.Path(copying.__file__).parents[1])
 

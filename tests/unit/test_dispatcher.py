@@ -9,8 +9,10 @@ import types
 from typing import Any, Dict, List, Optional, Tuple
 
 import pytest
-from farm_tools import cages, calls, dispatcher, folders, groups, members, records
-from farm_tools.dispatcher import Dispatcher
+from farm_dispatch import cages, dispatcher, folders, groups, members
+from farm_dispatch.dispatcher import Dispatcher
+from fizgruk import calls, records
+from fizgruk._tools import disk
 
 FULL = calls.Refused(409, calls.FULL, "full")
 WRONG = calls.Refused(409, calls.WRONG_JOB_STATE, "wrong state")
@@ -301,7 +303,7 @@ def test_a_canceled_one_whose_runner_has_the_lock_is_waited_for(lab: Lab) -> Non
     lab.desk.job(1, "Scheduled")
     lab.dispatcher.round(False)
     lab.desk.jobs[1]["state"] = "Canceling"
-    lock = folders.take_lock(lab.files(1).file(folders.LOCK))
+    lock = disk.take_lock(lab.files(1).file(folders.LOCK))
     assert lock is not None
     lab.dispatcher.round(False)
     assert lab.desk.jobs[1]["state"] == "Canceling"
@@ -437,7 +439,7 @@ def test_a_finish_that_the_desk_refuses_is_given_again(lab: Lab, monkeypatch: py
 
 def test_one_that_somebody_else_finished_is_told_to_end_and_closed(lab: Lab, capsys: pytest.CaptureFixture[str]) -> None:
     files = lab.begins(1)
-    lock = folders.take_lock(files.file(folders.LOCK))
+    lock = disk.take_lock(files.file(folders.LOCK))
     assert lock is not None
     lab.desk.jobs[1].update(state="Finished", result="Infra")
     said(capsys)
@@ -455,7 +457,7 @@ def test_one_that_never_began_is_dropped_once_its_runner_is_gone(lab: Lab) -> No
     lab.desk.job(1, "Scheduled")
     lab.dispatcher.round(False)
     lab.desk.jobs[1]["state"] = "Finished"
-    lock = folders.take_lock(lab.files(1).file(folders.LOCK))
+    lock = disk.take_lock(lab.files(1).file(folders.LOCK))
     assert lock is not None
     lab.dispatcher.round(False)
     assert lab.files(1).are_there()

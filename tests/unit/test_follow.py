@@ -11,7 +11,8 @@ import types
 from typing import BinaryIO, Callable, Iterator, List, Optional
 
 import pytest
-from farm_tools import copying, folders, follow, wal
+from farm_backup import copying, follow, wal
+from fizgruk._tools import disk
 
 
 class Pair:
@@ -237,7 +238,7 @@ def test_a_log_that_cant_be_begun_anew_leaves_no_file_open(pair: Pair, monkeypat
         raise OSError(5, "Input/output error")
 
     before = len(os.listdir("/proc/self/fd"))
-    monkeypatch.setattr(folders, "sync_folder", fails)
+    monkeypatch.setattr(disk, "sync_folder", fails)
     with pytest.raises(OSError, match="Input/output error"):
         pair.standby.ship()
     assert len(os.listdir("/proc/self/fd")) == before

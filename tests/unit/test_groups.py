@@ -11,7 +11,9 @@ import types
 from typing import Any, Dict, List, Optional, Union
 
 import pytest
-from farm_tools import cages, calls, folders, groups, past, records, strangers, submissions
+from farm_dispatch import cages, folders, groups, past, strangers
+from fizgruk import calls, records, submissions
+from fizgruk._tools import disk
 from served import wait_until
 
 NOW = 1_800_000_000
@@ -119,7 +121,7 @@ def test_a_job_that_had_begun_is_told_of_where_it_is_put_aside(lab: Lab) -> None
 
 def test_what_still_runs_isnt_put_aside(lab: Lab) -> None:
     lab.prepares()
-    lock = folders.take_lock(lab.group.files.file(folders.LOCK))
+    lock = disk.take_lock(lab.group.files.file(folders.LOCK))
     assert lock is not None
     with pytest.raises(groups.Later, match="^job 7: what an earlier farm's job left still runs$"):
         lab.prepares(owner="bob")
@@ -214,7 +216,7 @@ def test_a_command_gets_the_job_and_not_how_the_desk_is_reached(
     lab.prepares()
     lab.group.launch([{**VIEW, "kind": kind}])
     (words, more), = started
-    assert words[-1] == command and words[2:4] == ["farm_tools.runner", lab.group.files.state]
+    assert words[-1] == command and words[2:4] == ["farm_dispatch.runner", lab.group.files.state]
     assert more["env"]["FARM_BOARDS"] == "b1" and more["env"]["FARM_ROLES"] == "-" and more["env"]["FARM_KIND"] == kind
     assert not [it for it in more["env"] if it.startswith("DISPATCH_")]
 
@@ -321,7 +323,7 @@ def test_a_begin_is_taken_back_where_nothing_was_started(tmp_path: pathlib.Path,
     (tmp_path / folders.BEGAN).touch()
     if ended:
         (tmp_path / folders.ENDED).write_text(f"{ended}\n")
-    lock = folders.take_lock(str(tmp_path / folders.LOCK))
+    lock = disk.take_lock(str(tmp_path / folders.LOCK))
     assert lock is not None
     assert not folders.take_back(str(tmp_path)), "the process that tried it lives still"
     os.close(lock)

@@ -2,7 +2,7 @@
 from __future__ import annotations
 
 import pytest
-from farm_tools import job_file
+from fizgruk import job_file
 
 HEAD = "job_name = 'x'\n"
 KIND = "device_type = 'bbb'\n"

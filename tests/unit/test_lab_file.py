@@ -7,9 +7,10 @@ import re
 from typing import List
 
 import pytest
-from farm_tools import lab_file, lab_import
-from farm_tools.lab_import import Addition
-from farm_tools.words import BadFile
+from farm_import import lab_file
+from fizgruk.desk import lab_import
+from fizgruk.desk.lab_import import Addition
+from fizgruk.words import BadFile
 
 
 @pytest.fixture

@@ -2,8 +2,8 @@
 from __future__ import annotations
 
 import pytest
-from farm_tools import limits
-from farm_tools.limits import Limit
+from fizgruk import limits
+from fizgruk.limits import Limit
 
 HOUR = 3600
 

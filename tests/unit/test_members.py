@@ -4,7 +4,9 @@ from __future__ import annotations
 from typing import Any, Dict, List, Optional, Tuple
 
 import pytest
-from farm_tools import calls, members, retries, settings
+from farm_dispatch import members, retries
+from fizgruk import calls
+from fizgruk._tools import settings
 
 OWN = settings.Settings("http://127.0.0.1:1", "dispatcher", None, None, 5.0)
 

@@ -6,7 +6,7 @@ import types
 from typing import Dict, List
 
 import pytest
-from farm_tools import parts
+from farm_dispatch import parts
 
 BOARD = {"name": "b1", "tags": ["hdmi", "worker=rack2", "empty="]}
 

@@ -4,7 +4,7 @@ from __future__ import annotations
 from typing import Union
 
 import pytest
-from farm_tools.prometheus import COUNTER, GAUGE, Family, one, text_of
+from farm_metrics.prometheus import COUNTER, GAUGE, Family, one, text_of
 
 
 @pytest.mark.parametrize("value, text", [

@@ -7,8 +7,8 @@ import pathlib
 from typing import Any, Dict, List
 
 import pytest
-from farm_tools import records
-from farm_tools.records import History
+from fizgruk import records
+from fizgruk.records import History
 from recorded import recorded, synced
 
 NOW = 1_800_000_000
@@ -16,7 +16,7 @@ TOOLS = str(pathlib.Path(records.__file__).parents[1])
 ADD = """\
 import json, sys
 sys.path.insert(0, sys.argv[1])
-from farm_tools import records
+from fizgruk import records
 records.History(sys.argv[2], set()).add_jobs([json.loads(sys.argv[3])])
 """
 

@@ -8,7 +8,9 @@ import types
 from typing import Any, List, Optional
 
 import pytest
-from farm_tools import calls, faults, folders, logs, passes, room, strangers
+from farm_dispatch import faults, folders, logs, room, strangers
+from fizgruk import calls
+from fizgruk._tools import disk as disk_module, passes
 
 FULL = OSError(errno.ENOSPC, "No space left on device")
 
@@ -296,10 +298,10 @@ def test_what_there_was_no_room_for_is_counted_by_the_next_pass(
     def full(*_: object) -> None:
         raise FULL
 
-    counter, plain = passes.Counter(str(tmp_path)), folders.write_whole
-    monkeypatch.setattr(folders, "write_whole", full)
+    counter, plain = passes.Counter(str(tmp_path)), disk_module.write_whole
+    monkeypatch.setattr(disk_module, "write_whole", full)
     counter.add()
-    monkeypatch.setattr(folders, "write_whole", plain)
+    monkeypatch.setattr(disk_module, "write_whole", plain)
     counter.add()
     assert passes.passes_in(counter.file).count == 2
 

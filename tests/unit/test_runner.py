@@ -10,7 +10,9 @@ import types
 from typing import Callable, List, Optional, Tuple
 
 import pytest
-from farm_tools import cages, folders, limits, logs, runner
+from farm_dispatch import cages, folders, logs, runner
+from fizgruk import limits
+from fizgruk._tools import disk
 
 FULL = OSError(errno.ENOSPC, "No space left on device")
 ORDER = runner.Order("place", cages.NONE, "", 30.0, 3600.0, 86400.0, 10_000, 1000, "made")
@@ -103,8 +105,8 @@ def test_how_a_job_ended_is_noted_once_there_is_room(
             raise FULL
         plain(file, text)
 
-    plain = folders.write_synced
-    monkeypatch.setattr(folders, "write_synced", full)
+    plain = disk.write_synced
+    monkeypatch.setattr(disk, "write_synced", full)
     runner.keep_end(str(state.parent.parent), str(state), "status 3")
     assert (state / "ended").read_text() == "status 3\n"
     assert clock.slept == [runner.RETRY] * 2
@@ -117,7 +119,7 @@ def test_the_end_of_a_job_whose_folder_went_is_noted_nowhere(
         raise FULL
 
     clock.then = state.rmdir
-    monkeypatch.setattr(folders, "write_synced", full)
+    monkeypatch.setattr(disk, "write_synced", full)
     runner.keep_end(str(state.parent.parent), str(state), "status 3")
     assert not state.exists() and len(clock.slept) == 1
 
@@ -163,7 +165,7 @@ def test_that_a_command_runs_is_noted_where_there_is_room(state: pathlib.Path) -
 
 def test_the_lock_of_a_group_is_waited_for_while_it_isnt_begun(state: pathlib.Path, clock: Clock) -> None:
     """The dispatcher tries for a moment whether it is held."""
-    held = folders.take_lock(str(state / "lock"))
+    held = disk.take_lock(str(state / "lock"))
     assert held is not None
     opened = held
 

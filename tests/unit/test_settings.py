@@ -6,8 +6,8 @@ import os
 from typing import Any
 
 import pytest
-from farm_tools import settings
-from farm_tools.settings import BadSettings, Settings
+from fizgruk._tools import settings
+from fizgruk._tools.settings import BadSettings, Settings
 
 
 class BadWords(Exception):

@@ -4,8 +4,8 @@ from __future__ import annotations
 import pathlib
 
 import pytest
-from farm_tools import submissions
-from farm_tools.submissions import Look, Submissions
+from fizgruk import submissions
+from fizgruk.submissions import Look, Submissions
 
 NOW = 1_800_000_000
 

@@ -6,7 +6,7 @@ import time
 from typing import Iterator
 
 import pytest
-from farm_tools import tables
+from fizgruk._tools import tables
 
 
 @pytest.fixture(autouse=True)

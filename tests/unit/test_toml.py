@@ -6,7 +6,8 @@ import sys
 from typing import Any, Callable, Dict, List, Optional, Union
 
 import pytest
-from farm_tools import lab_import, small_toml, toml_text
+from fizgruk import small_toml, toml_text
+from fizgruk.desk import lab_import
 from served import TOP
 
 EXAMPLES = [os.path.join(TOP, "examples", f"{it}.toml") for it in ("lab", "boot", "multinode")]

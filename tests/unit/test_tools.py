@@ -11,9 +11,12 @@ import types
 from typing import Any, Callable, Dict, List, Optional, Sequence, Tuple
 
 import pytest
-from farm_tools import (
-    backup, cages, calls, client, copying, dispatch, history, holding, interrupts, metrics, past_jobs, settings, waiting, wants,
-)
+from farm_backup import copying, main as backup
+from farm_dispatch import cages, main as dispatch
+from farm_metrics import main as metrics
+from fizgruk import calls, history, wants
+from fizgruk._tools import interrupts, settings
+from fizgruk.desk import holding, main as client, past_jobs, waiting
 
 NO = calls.Refused(401, 0, "no")
 

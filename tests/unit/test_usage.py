@@ -6,7 +6,8 @@ import time
 from typing import Any, Dict, List, Optional
 
 import pytest
-from farm_tools import history, usage, views
+from fizgruk import history
+from fizgruk.desk import usage, views
 
 NOW = 1_800_000_000
 HOUR = 3600

@@ -6,7 +6,8 @@ import time
 from typing import Any, Dict, List, Optional, Tuple, cast
 
 import pytest
-from farm_tools import calls, clocks, holding, waiting
+from fizgruk import calls
+from fizgruk.desk import clocks, holding, waiting
 
 LEASE = 60  # seconds for which a reservation lives that isn't refreshed
 EXPIRED = calls.Refused(409, 31, "expired")

@@ -7,7 +7,7 @@ import struct
 from typing import List, Tuple
 
 import pytest
-from farm_tools import wal
+from farm_backup import wal
 
 SIZE = 4096
 FRAME = wal.FRAME + SIZE

@@ -4,8 +4,8 @@ from __future__ import annotations
 from typing import Any, Dict, List, Sequence, cast
 
 import pytest
-from farm_tools import calls, wants
-from farm_tools.wants import Want
+from fizgruk import calls, wants
+from fizgruk.wants import Want
 
 Row = Dict[str, Any]
 

@@ -5,8 +5,9 @@ import pathlib
 from typing import Any
 
 import pytest
-from farm_tools import limits, watch_file
-from farm_tools.words import BadFile
+from farm_watch import rules as watch_file
+from fizgruk import limits
+from fizgruk.words import BadFile
 
 MAIL = "[mail]\nfrom = 'farm@lab.example'\nto = '{owner}@lab.example'\nadmin = 'l@lab.example'\n"
 HOOK = "[webhook]\nurl = 'https://chat.lab.example/hook'\n"

@@ -6,9 +6,9 @@ import pathlib
 from typing import List
 
 import pytest
-from farm_tools.watch_file import Rules, Webhook
-from farm_tools.watch_room import Room
-from farm_tools.watch_store import Store
+from farm_watch.room import Room
+from farm_watch.rules import Rules, Webhook
+from farm_watch.store import Store
 
 UNIT = 4096
 

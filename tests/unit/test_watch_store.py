@@ -8,8 +8,8 @@ import time
 from typing import Any, Iterator, List, Tuple
 
 import pytest
-from farm_tools import watch_store, watch_tell
-from farm_tools.watch_store import DAY, Delivery, Event, Store, nothing, wait_after
+from farm_watch import store as watch_store, tell as watch_tell
+from farm_watch.store import DAY, Delivery, Event, Store, nothing, wait_after
 
 NOW = 1_800_000_000
 

@@ -13,9 +13,16 @@ import types
 from typing import Any, Dict, Iterator, List, Optional, Tuple
 
 import pytest
-from farm_tools import calls, watch, watch_passes, watch_room, watch_store, watch_tell, wants
-from farm_tools.watch_file import Mail, Rules, Webhook
-from farm_tools.watch_store import Delivery, Event, Store
+from farm_watch import (
+    main as watch,
+    passes as watch_passes,
+    room as watch_room,
+    store as watch_store,
+    tell as watch_tell,
+)
+from farm_watch.rules import Mail, Rules, Webhook
+from farm_watch.store import Delivery, Event, Store
+from fizgruk import calls, wants
 
 NOW = 1_800_000_000
 BODY = {"event": "try", "at": NOW, "owner": "ann", "subject": "a try", "text": "It can."}

@@ -7,10 +7,11 @@ import time
 from typing import Any, Dict, Iterator, List, Optional, Sequence, Tuple
 
 import pytest
-from farm_tools import calls, watch_events, watch_holds, watch_passes, watcher
-from farm_tools.watch_file import Mail, Rules
-from farm_tools.watch_store import Store
-from farm_tools.watcher import Watcher
+from farm_watch import events as watch_events, holds as watch_holds, passes as watch_passes, watcher
+from farm_watch.rules import Mail, Rules
+from farm_watch.store import Store
+from farm_watch.watcher import Watcher
+from fizgruk import calls
 
 NOW = 1_800_000_000
 HOUR = 3600

@@ -4,8 +4,8 @@ from __future__ import annotations
 import re
 
 import pytest
-from farm_tools import words
-from farm_tools.words import BadFile
+from fizgruk import words
+from fizgruk.words import BadFile
 
 
 @pytest.mark.parametrize("name", ["a", "A-Z_0.9", ".", "n" * 48])

@@ -1,0 +1,1 @@
+"""What the tools share, and nobody who uses the library wants."""

@@ -1,0 +1,220 @@
+"""Where the desk is and who asks: from options, the environment, a file of settings, and
+~/.netrc."""
+import argparse
+import configparser
+import dataclasses
+import difflib
+import getpass
+import netrc
+import os
+import re
+import stat
+import urllib.parse
+from typing import Callable, Dict, Optional, Sequence, Tuple
+
+from fizgruk._tools.parsers import Parser
+
+SYSTEM_FILE, OWN_FILE = "/etc/farm/desk.ini", "~/.config/farm/desk.ini"
+SERVER = "http://127.0.0.1:8080"
+NO_LOGIN = "a server's address has no user and no password in it: --user and --password-file"
+LOOPBACK = ("127.0.0.1", "localhost", "::1")
+WORDS = ("server", "user", "password_file", "ca_file", "timeout")
+OF_DESK = ("history",)
+OF_DISPATCH = (
+    "limit", "most", "retry", "clock", "keep_logs", "cage", "log_limit", "folder_limit",
+    "memory_limit", "process_limit", "serves",
+)
+# The sections of a file, each with its settings.
+SECTIONS = {
+    "desk": (*WORDS, *OF_DESK),
+    "dispatch": (*WORDS, *OF_DISPATCH),
+    "watch": WORDS,
+}
+ABOUT = """\
+Each option that follows is a setting too: it has a name in the environment, as '{2}_SERVER', and, \
+but for --config, one in the section '[{0}]' of the file of settings, as 'server'. Options go \
+first, then the environment,{1} and last the file of settings. A variable that begins with '{2}_', \
+a key of the section, or a section that there isn't ends it with status 2, and it says which one \
+may be meant."""
+PASSWORD = """\
+A file that nobody else may read, whose first line is the password; without it, the one in \
+~/.netrc. A password is sent over TLS, or to this machine, alone."""
+
+
+class BadSettings(Exception):
+    """The settings can't be read, or can't be used."""
+
+
+@dataclasses.dataclass(frozen=True)
+class Settings:
+    """An address, a user, and how many seconds a network call may wait."""
+
+    server: str
+    user: str
+    password: Optional[str]
+    ca_file: Optional[str]
+    timeout: float
+
+
+def add_options(
+    parser: Parser,
+    section: str,
+    user: str,
+    before_file: str = "",
+    timeout: str = "How long a network call may wait (default 30).",
+) -> argparse._ArgumentGroup:
+    """The options that each tool has for its server and user, which are settings of a section too.
+    `user` says who asks where nothing names one, `before_file` what else is looked at."""
+    group = parser.add_settings(section, ABOUT.format(section, before_file, section.upper()))
+    option = group.add_argument
+    about = f"The file of settings (without it, {SYSTEM_FILE}, and over it {OWN_FILE})."
+    option("--config", metavar="FILE", help=about)
+    option("--server", metavar="URL", help=f"The desk's address (default {SERVER}).")
+    option("--user", metavar="NAME", help=f"Who asks ({user}).")
+    option("--password-file", metavar="FILE", help=PASSWORD)
+    about = "The certificates that the server's is checked by."
+    option("--ca-file", metavar="FILE", help=about)
+    option("--timeout", metavar="SECONDS", help=timeout)
+    parser.set_defaults(bad_words=parser.error)
+    return group
+
+
+def values_of(section: str, options: argparse.Namespace) -> Dict[str, Optional[str]]:
+    """What is said for each setting of a section: options go before the environment
+    (SECTION_SERVER), and files last. A setting that there isn't ends the tool as a misspelt option
+    does, with status 2."""
+    words = SECTIONS[section]
+    around = _environment_of(section, words, options.bad_words)
+    named = options.config or around.get("config")
+    files = _files_read(section, named, options.bad_words)
+    return {
+        word: getattr(options, word, None) or around.get(word) or files.get(word) for word in words
+    }
+
+
+def read_settings(
+    section: str, options: argparse.Namespace, user: Optional[str] = None
+) -> Settings:
+    """The settings of a tool's calls.
+
+    `user` is who asks where nothing names one; without it, the name in ~/.netrc or of the login.
+    """
+    found = values_of(section, options)
+    server = found["server"] or SERVER
+    address = address_of(server)
+    login, password = _password_of(found["password_file"], address.hostname or "")
+    asks = found["user"] or user or login or getpass.getuser()
+    if not re.fullmatch("[A-Za-z0-9_.-]{1,48}", asks):
+        raise BadSettings(f"{asks!r} is no name of a user")
+    if login is not None and login != asks:
+        password = None
+    if password is not None and address.scheme == "http" and address.hostname not in LOOPBACK:
+        raise BadSettings(f"a password isn't sent to {server}, which has no TLS")
+    ca_file = os.path.expanduser(found["ca_file"]) if found["ca_file"] else None
+    return Settings(server, asks, password, ca_file, _seconds(found["timeout"] or "30"))
+
+
+def _environment_of(
+    section: str, words: Sequence[str], bad_words: Callable[[str], None]
+) -> Dict[str, str]:
+    """The settings in the environment."""
+    head = f"{section.upper()}_"
+    known = [word.upper() for word in (*words, "config")]
+    found = {}
+    for name in sorted(it for it in os.environ if it.startswith(head)):
+        word = name[len(head) :]
+        if word not in known:
+            bad_words(f"{name} in the environment is no setting: {meant(word, known, head)}")
+        found[word.lower()] = os.environ[name]
+    return found
+
+
+def _files_read(
+    section: str, named: Optional[str], bad_words: Callable[[str], None]
+) -> Dict[str, str]:
+    """The section of the named file, or of the user's file over the system's."""
+    own = os.environ.get("XDG_CONFIG_HOME") or os.path.expanduser("~/.config")
+    files = [named] if named else [SYSTEM_FILE, os.path.join(own, "farm", "desk.ini")]
+    found: Dict[str, str] = {}
+    for file in files:
+        read = configparser.ConfigParser(interpolation=None)
+        try:
+            done = read.read(file, encoding="utf-8")
+        except (configparser.Error, OSError, UnicodeDecodeError) as fault:
+            raise BadSettings(f"settings: {' '.join(str(fault).split())}") from fault
+        if named and not done:
+            raise BadSettings(f"{named} can't be read")
+        found.update(_section_of(file, read, section, bad_words))
+    return found
+
+
+def _section_of(
+    file: str, read: configparser.ConfigParser, section: str, bad_words: Callable[[str], None]
+) -> Dict[str, str]:
+    """The settings of one file's section."""
+    for name in read.sections():
+        if name not in SECTIONS:
+            known = [f"[{it}]" for it in SECTIONS]
+            bad_words(f"{file}: [{name}] is no section: {meant(f'[{name}]', known)}")
+    found = dict(read[section]) if read.has_section(section) else {}
+    for word in found:
+        if word not in SECTIONS[section]:
+            bad_words(
+                f"{file}: {word} in [{section}] is no setting: {meant(word, SECTIONS[section])}"
+            )
+    return found
+
+
+def meant(word: str, known: Sequence[str], head: str = "") -> str:
+    """What a misspelt word may mean. `head` stands before each in what is told."""
+    near = difflib.get_close_matches(word, known, 1)
+    if near:
+        return f"is {head}{near[0]} meant?"
+    return f"there are {', '.join(head + it for it in known)}"
+
+
+def address_of(server: str) -> urllib.parse.SplitResult:
+    """A server's address, part by part. One with a user in it isn't taken, nor told: it may have a
+    password, and others see words and messages."""
+    try:
+        address = urllib.parse.urlsplit(server)
+        if "@" in address.netloc:
+            raise BadSettings(NO_LOGIN)
+        if address.scheme in ("http", "https") and address.hostname and address.port != 0:
+            return address
+    except ValueError:
+        pass
+    raise BadSettings(f"{server} is no address of a server, as {SERVER} is one")
+
+
+def _password_of(file: Optional[str], host: str) -> Tuple[Optional[str], Optional[str]]:
+    """Whom a password belongs to, where ~/.netrc says so, and the password."""
+    if file:
+        return None, _first_line(os.path.expanduser(file))
+    try:
+        entry = netrc.netrc().authenticators(host)
+    except FileNotFoundError:
+        return None, None
+    except (netrc.NetrcParseError, OSError) as fault:
+        raise BadSettings(f"~/.netrc: {' '.join(str(fault).split())}") from fault
+    return (entry[0], entry[2]) if entry else (None, None)
+
+
+def _first_line(file: str) -> str:
+    try:
+        with open(file, encoding="utf-8") as text:
+            if stat.S_IMODE(os.fstat(text.fileno()).st_mode) & 0o077:
+                raise BadSettings(f"{file} holds a password, and others may read it: chmod 600")
+            return text.readline().rstrip("\r\n")
+    except (OSError, UnicodeDecodeError) as fault:
+        raise BadSettings(f"{file} can't be read: {fault}") from fault
+
+
+def _seconds(text: str) -> float:
+    try:
+        seconds = float(text)
+    except ValueError:
+        seconds = 0
+    if not 0 < seconds <= 3600:
+        raise BadSettings(f"{text} is no number of seconds from 0 to 3600")
+    return seconds

@@ -1,0 +1,1 @@
+"""desk: the desk of a board farm, from a terminal or a script."""

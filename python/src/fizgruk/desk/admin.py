@@ -1,0 +1,111 @@
+"""What an admin tells the desk: types, boards, their tags and health, and a lab file."""
+import argparse
+import sys
+from typing import Any, Callable, Dict, List
+
+from fizgruk import calls
+from fizgruk._tools.parsers import Parser, one_of
+from fizgruk.bounds import LONGEST_EVERY
+from fizgruk.desk import lab_import, views
+
+ENDED, REFUSED = 1, 3
+RETIRED = "Retired"
+HEALTHS = ("Good", "Bad", "Unknown", "Maintenance", RETIRED)
+
+
+def add_commands(command: Callable[..., Parser]) -> None:
+    """Adds these commands, each of which asks as the admin where nothing names another."""
+    health = command("health", set_health)
+    health.add_argument("boards", metavar="BOARD", nargs="+", help="A board's name.")
+    about = f"{', '.join(HEALTHS[:-1])}, or {HEALTHS[-1]}, which is for good."
+    health.add_argument("health", metavar="HEALTH", type=health_called, help=about)
+    about = f"Ask nothing before boards are {RETIRED}, at a terminal too."
+    health.add_argument("--yes", action="store_true", help=about)
+    tags = command("tags", set_tags)
+    tags.add_argument("board", metavar="BOARD", help="The board's name.")
+    tags.add_argument("tags", metavar="TAG", nargs="*", help="A tag of the board.")
+    tags.add_argument("--none", action="store_true", help="It has no tags from now on.")
+    kind = command("add-type", add_type)
+    kind.add_argument("name", metavar="NAME", help="The type's name.")
+    about = "What its checks are counted by, with --every (default none)."
+    one_of(kind, "--check", lab_import.CHECKS, about)
+    about = f"How many hours or jobs lie between two checks, 1 to {LONGEST_EVERY}."
+    kind.add_argument("--every", metavar="N", type=frequency, help=about)
+    board = command("add-board", add_board)
+    board.add_argument("name", metavar="NAME", help="The board's name.")
+    board.add_argument("type", metavar="TYPE", help="Its type.")
+    board.add_argument("tags", metavar="TAG", nargs="*", help="A tag of the board.")
+    lab = command("import", lab_import.import_lab)
+    lab.add_argument("file", metavar="FILE", help="The lab file, or - for the input.")
+    for each in (health, tags, kind, board, lab):
+        each.set_defaults(asks_as="admin", parser=each)
+
+
+def health_called(text: str) -> str:
+    """A health, in letters of any case."""
+    for health in HEALTHS:
+        if health.lower() == text.lower():
+            return health
+    raise argparse.ArgumentTypeError(f"{text} is none of {', '.join(HEALTHS)}")
+
+
+def frequency(text: str) -> int:
+    if not (text.isascii() and text.isdigit() and 1 <= int(text) <= LONGEST_EVERY):
+        raise argparse.ArgumentTypeError(f"{text} is no number from 1 to {LONGEST_EVERY:,}")
+    return int(text)
+
+
+def set_health(desk: calls.Desk, options: argparse.Namespace) -> int:
+    """Sets the health of one board after another; one that is refused keeps none of the others."""
+    if options.health == RETIRED and not options.yes and not is_confirmed(options.boards):
+        print("desk: nothing is done", file=sys.stderr, flush=True)
+        return ENDED
+    status = 0
+    for board in options.boards:
+        try:
+            give(desk, options, f"/boards/{calls.part(board)}/health", {"health": options.health})
+        except calls.Refused as refusal:
+            if refusal.status == calls.NOT_LET_IN or refusal.code == calls.FORBIDDEN:
+                raise
+            print(f"desk: board {board}: refused: {refusal}", file=sys.stderr, flush=True)
+            status = REFUSED
+    return status
+
+
+def is_confirmed(boards: List[str]) -> bool:
+    """Whether whoever sits at a terminal wants boards to be Retired; elsewhere nobody is asked."""
+    if not all(it is not None and it.isatty() for it in (sys.stdin, sys.stderr)):
+        return True
+    question = f"desk: {' '.join(boards)} can never be used again: Retired all the same? [y/N] "
+    print(question, end="", file=sys.stderr, flush=True)
+    return sys.stdin.readline().strip().lower() in ("y", "yes")
+
+
+def set_tags(desk: calls.Desk, options: argparse.Namespace) -> int:
+    if bool(options.tags) == options.none:
+        options.parser.error("give its tags, or --none")
+    return give(desk, options, f"/boards/{calls.part(options.board)}/tags", {"tags": options.tags})
+
+
+def add_type(desk: calls.Desk, options: argparse.Namespace) -> int:
+    has_check = options.check not in (None, "none")
+    if has_check != (options.every is not None):
+        options.parser.error("--check and --every belong together")
+    body = {"check": options.check, "every": options.every} if has_check else {}
+    return give(desk, options, "/types", {"name": options.name, **body})
+
+
+def add_board(desk: calls.Desk, options: argparse.Namespace) -> int:
+    body = {"name": options.name, "type": options.type, "tags": options.tags}
+    try:
+        return give(desk, options, "/boards", body)
+    except calls.Refused as refusal:
+        raise refusal.about(options.type) if refusal.code == calls.NO_TYPE else refusal
+
+
+def give(desk: calls.Desk, options: argparse.Namespace, path: str, body: Dict[str, Any]) -> int:
+    """Gives one command under a fresh key."""
+    said = desk.tell(path, body, calls.fresh_key())
+    if options.json:
+        views.print_json(said)
+    return 0

@@ -1,0 +1,80 @@
+"""The farm's clock while a client's command is done."""
+import sys
+import time
+from typing import Any, Callable, Dict, Optional, Set
+
+from fizgruk import calls, clocks, limits
+
+QUIET = 30  # seconds without a pass, which comes every few seconds, that aren't told yet
+EVERY = 5  # seconds between a client's looks
+LONGEST_LOOK = 5.0
+
+
+def tell(text: str) -> None:
+    try:
+        print(f"desk: {text}", file=sys.stderr, flush=True)
+    except OSError:
+        pass  # nobody is there to be told
+
+
+class Watch:
+    """Looks at a farm's clock while a command is done, and tells each trouble once.
+
+    Each accepted command moves the clock, so the client's own are noted, and what is left are
+    passes and what others do. A claim that free boards meet is given them by the next pass, so no
+    pass comes while it waits."""
+
+    def __init__(self, desk: calls.Desk):
+        self.desk = desk.of_patience(0)
+        self.desk.timeout = min(desk.timeout, LONGEST_LOOK)
+        self.told: Set[str] = set()
+        self.own = 0
+        self.others: Optional[int] = None
+        self.moved = 0.0
+        self.met: Optional[float] = None
+        self.due = 0.0
+
+    @property
+    def has_looked(self) -> bool:
+        return self.due > 0
+
+    def note_own(self) -> None:
+        """Notes that the client gave a command that was accepted."""
+        self.own += 1
+
+    def note_met(self, is_met: bool) -> None:
+        """Notes whether a claim that waits is met by free boards."""
+        if not is_met:
+            self.met = None
+        elif self.met is None:
+            self.met = time.monotonic()
+
+    def look(self, teller: Callable[[str], None] = tell) -> None:
+        """Looks, where it is time to, and tells what it sees; a desk that gives no answer tells
+        that elsewhere."""
+        if time.monotonic() < self.due:
+            return
+        self.due = time.monotonic() + EVERY
+        try:
+            status = self.desk.look("/status")
+        except (calls.NoAnswer, calls.Refused):
+            return
+        for about, text in (("ahead", clocks.ahead(status, clocks.NO_END)), ("quiet", self._quiet(status))):
+            if text and about not in self.told:
+                self.told.add(about)
+                teller(text)
+
+    def _quiet(self, status: Dict[str, Any]) -> str:
+        """That no pass has come for long, or nothing."""
+        others = status["count"] - self.own
+        if self.others is None:
+            self.moved = time.monotonic() - max(0.0, time.time() - status["clock"])
+        elif others != self.others:
+            self.moved = time.monotonic()
+        self.others = others
+        since = self.moved if self.met is None else min(self.moved, self.met)
+        quiet = time.monotonic() - since
+        if quiet <= QUIET:
+            return ""
+        long = f"for {limits.words_of(quiet)}" if status["clock"] else "yet"
+        return f"no pass {long}: is farm-dispatch running?"

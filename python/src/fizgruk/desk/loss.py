@@ -1,0 +1,129 @@
+"""A hold that is lost while a command runs with its board, and the end of that command."""
+import os
+import signal
+import subprocess
+import threading
+import time
+from typing import Any, Dict, Set, Tuple
+
+from fizgruk import calls
+
+EVERY = 2.0  # seconds between two looks at a hold
+GRACE = 10.0  # seconds between SIGTERM and SIGKILL
+LEAVES = 5.0  # seconds after which what doesn't end by that is left, as another user's process
+PAUSE = 0.1
+Process = Tuple[int, str]  # a process's number, and when it began
+
+
+class Watch:
+    """Looks, in a thread of its own, whether a reservation still holds its board, and wakes the
+    main thread by SIGCHLD, which that waits for, once it doesn't.
+
+    A look is one view of the boards, of which a farm has 256 at most (42 kB, some 10 ms); that of
+    the reservations, which has all that ever were, is asked for once, at a loss. A look that isn't
+    answered finds nothing: while the desk is away no hold changes. Each call has a connection of
+    its own, so that the threads share none.
+    """
+
+    def __init__(self, desk: calls.Desk, board: str, number: int):
+        self.desk = desk.of_patience(0)
+        self.board = board
+        self.number = number
+        self.lost = ""
+        self.is_over = threading.Event()
+
+    def start(self) -> None:
+        """Begins to look. (The thread has the signal mask of the one that starts it.)"""
+        threading.Thread(target=self._look_on, daemon=True).start()
+
+    def end(self) -> None:
+        self.is_over.set()
+
+    def _look_on(self) -> None:
+        main = threading.main_thread().ident
+        while not self.lost and not self.is_over.wait(EVERY):
+            self.lost = loss_of(self.desk, self.board, self.number)
+            if self.lost and main is not None:
+                signal.pthread_kill(main, signal.SIGCHLD)
+
+
+def loss_of(desk: calls.Desk, board: str, number: int) -> str:
+    """That a reservation doesn't hold this board any more; nothing where it does, or nobody can
+    tell."""
+    try:
+        boards = desk.look("/boards")["boards"]
+    except (calls.NoAnswer, calls.Refused):
+        return ""
+    if any((it["name"], it["holder"]) == (board, f"reservation {number}") for it in boards):
+        return ""
+    return f"board {board} is lost: reservation {number} {how_it_ended(desk, number)}"
+
+
+def how_it_ended(desk: calls.Desk, number: int) -> str:
+    """How a reservation ended, as far as the desk says it."""
+    try:
+        rows = desk.look("/reservations")["reservations"]
+    except (calls.NoAnswer, calls.Refused):
+        return "has ended"
+    states = [str(it["state"]) for it in rows if it["number"] == number]
+    return f"is {states[0]}" if states else "is unknown"
+
+
+# ---- the end of a command
+
+
+class Ending:
+    """The end of a command and of what it started: all that descend from it are sent SIGTERM, and
+    those that live on after the grace SIGKILL. They are in this process's own group, where the
+    terminal's keys reach them, so that is no way to tell them apart."""
+
+    def __init__(self, child: "subprocess.Popen[Any]"):
+        self.child = child
+        self.until = time.monotonic() + GRACE
+        self.known: Set[Process] = set()
+        self._send(signal.SIGTERM)
+        self._send(signal.SIGCONT)  # what a terminal stopped takes the other one then
+
+    def is_over(self) -> bool:
+        """Whether all have ended, or can't be. Those that live on after the grace are killed."""
+        late = time.monotonic() - self.until
+        if late >= 0:
+            self._send(signal.SIGKILL)
+        return late >= LEAVES or (self.child.poll() is not None and not self._living())
+
+    def _send(self, number: int) -> None:
+        """Sends a signal to all that live. (One may end meanwhile, or be another user's.)"""
+        for pid, _ in sorted(self._living()):
+            if pid != self.child.pid:
+                try:
+                    os.kill(pid, number)
+                except OSError:
+                    pass
+        self.child.send_signal(number)
+
+    def _living(self) -> Set[Process]:
+        """Those that live. One that was found before is known also once its parent has ended."""
+        parents, begins = processes()
+        found = {it for it in self.known if begins.get(it[0]) == it[1]}
+        newest = {it for it, _ in found} | {self.child.pid} & begins.keys()
+        while newest:
+            found |= {(it, begins[it]) for it in newest}
+            newest = {it for it, parent in parents.items() if parent in newest}
+        self.known = found
+        return found
+
+
+def processes() -> Tuple[Dict[int, int], Dict[int, str]]:
+    """The processes that live, with the parent of each, and with its begin; none where the system
+    has no /proc."""
+    parents: Dict[int, int] = {}
+    begins: Dict[int, str] = {}
+    for name in os.listdir("/proc") if os.path.isdir("/proc") else ():
+        try:
+            with open(f"/proc/{int(name)}/stat", "rb") as stat:
+                words = stat.read().rpartition(b")")[2].split()
+        except (ValueError, OSError):
+            continue  # no process, or one that has ended meanwhile
+        if len(words) > 19 and words[0] not in (b"Z", b"X"):
+            parents[int(name)], begins[int(name)] = int(words[1]), words[19].decode()
+    return parents, begins

@@ -1,0 +1,459 @@
+"""desk: the desk of a board farm, from a terminal or a script."""
+import argparse
+import os
+import sys
+from typing import Any, Callable, Dict, Optional, Sequence, TextIO, Tuple, Union
+
+from fizgruk import calls, job_file
+from fizgruk._tools import interrupts, parsers, settings
+from fizgruk._tools.parsers import Parser, one_of
+from fizgruk.desk import admin, claims, clocks, holding, past_jobs, texts, usage, views, waiting
+
+Command = Callable[..., Parser]  # adds a command by its name and what does it
+
+ENDED, REFUSED, FAULT = 1, 3, 4
+AWAITS_END = """\
+Wait until all members of its group have ended, and print 'NUMBER RESULT BOARD' of each. \
+Interrupted, it says that the job goes on."""
+AWAITS_BOARD = """\
+Wait until a pass gives it a board, refresh the reservation meanwhile, tell on standard error its \
+place in the queue, and why no board comes where none that fits is free, and print the board."""
+PATIENCE = 15
+# what the desk calls a change of a reservation that has another name here
+ACTIONS = {"extend": "refresh", "cancel-reservation": "cancel"}
+
+
+def main(words: Optional[Sequence[str]] = None) -> int:
+    try:
+        options = options_of(sys.argv[1:] if words is None else words)
+        interrupts.catch_signals()
+        status = status_of(options)
+        interrupts.ignore_signals()  # nothing is left to be interrupted
+        return status
+    except (SystemExit, BrokenPipeError) as end:
+        return after_help(end)
+    except interrupts.Interrupted as it:
+        let_go(sys.stdout)
+        return it.status
+    finally:
+        let_go(sys.stderr)
+
+
+def after_help(end: BaseException) -> int:
+    """The exit status where words are bad, or help was printed, of which a reader may have
+    enough."""
+    try:
+        print(end="", flush=True)
+        status = end.code if isinstance(end, SystemExit) else 0
+        return status if isinstance(status, int) else 0
+    except OSError as fault:
+        let_go(sys.stdout)
+        return 0 if isinstance(fault, BrokenPipeError) else told(FAULT, str(fault))
+
+
+def status_of(options: argparse.Namespace) -> int:
+    """Does what the options ask for. Returns the exit status."""
+    fault_status = holding.OF_ITSELF if options.does is holding.run_with_board else FAULT
+    where = Where()
+    try:
+        desk = calls.Desk(settings.read_settings("desk", options, options.asks_as), PATIENCE)
+        where.server = desk.server
+        desk.tell_where = where.tell
+        desk.tell_trouble = Trouble(desk).tell
+        options.clock = clocks.Watch(desk)
+        status: int = options.does(desk, options)
+        if status == 0 and not options.clock.has_looked:
+            options.clock.look()
+        print(end="", flush=True)
+        return status
+    except calls.Refused as refusal:
+        where.tell()
+        return told(REFUSED, f"refused: {refusal}")
+    except waiting.Gone as end:
+        return told(ENDED, str(end))
+    except calls.NoAnswer as fault:
+        return told(fault_status, f"no answer from the desk at {where.server}: {fault}")
+    except BrokenPipeError:
+        let_go(sys.stdout)
+        return 0 if options.does in VIEWS else fault_status
+    except (settings.BadSettings, OSError) as fault:
+        let_go(sys.stdout)
+        return told(fault_status, str(fault))
+
+
+def let_go(stream: Optional[TextIO]) -> None:
+    """Drops what nobody takes of an output. Python would try it once more at its end, and end with
+    120."""
+    if stream is None:
+        return  # the client was started without it
+    try:
+        stream.flush()
+    except OSError:
+        os.dup2(os.open(os.devnull, os.O_WRONLY), stream.fileno())
+
+
+class Where:
+    """Tells whoever sits at a terminal which desk gets commands, or refuses, once, where that isn't
+    the default."""
+
+    def __init__(self) -> None:
+        self.server = settings.SERVER
+        self.is_told = False
+
+    def tell(self) -> None:
+        is_seen = sys.stderr is not None and sys.stderr.isatty()
+        if is_seen and not self.is_told and self.server != settings.SERVER:
+            self.is_told = True
+            told(0, f"the desk is at {self.server}")
+
+
+class Trouble:
+    """Tells once that the desk gives no answer and is asked again."""
+
+    def __init__(self, desk: calls.Desk):
+        self.server = desk.server
+        self.is_told = False
+
+    def tell(self, trouble: str) -> None:
+        if not self.is_told:
+            self.is_told = True
+            told(FAULT, f"waiting for the desk at {self.server}: {trouble}")
+
+
+def told(status: int, text: str) -> int:
+    try:
+        print(f"desk: {text}", file=sys.stderr, flush=True)
+    except OSError:
+        pass  # nobody is there to be told
+    return status
+
+
+# ---- words
+
+
+def options_of(words: Sequence[str]) -> argparse.Namespace:
+    """The options of these words. What stands behind `--` is the command of `with`."""
+    command: Sequence[str] = ()
+    if "--" in words and "with" in words[: words.index("--")]:
+        words, command = words[: words.index("--")], words[words.index("--") + 1 :]
+    parser = parser_of()
+    options = parser.parse_args(words)
+    if options.does is holding.run_with_board:
+        if not command:
+            parser.error("with: give a command behind --")
+        options.words = command
+    return options
+
+
+def parser_of() -> Parser:
+    parser = parsers.parser_of("desk", texts.ABOUT, texts.STATUSES)
+    group = settings.add_options(
+        parser,
+        "desk",
+        "without it, admin for an admin's commands, else the user of the server in ~/.netrc, or of "
+        "the login",
+    )
+    about = """\
+Where farm-dispatch(8) keeps its history on this machine, as /var/lib/farm-dispatch, or a file of
+its lines that was put aside; without it, the server is asked."""
+    group.add_argument("--history", metavar="FOLDER", help=about)
+    about = "Print what the desk answered, as JSON, an object a line; also behind the command."
+    parser.add_argument("--json", action="store_true", help=about)
+    parser.set_defaults(asks_as=None)
+    commands = parser.add_subparsers(metavar="COMMAND", required=True)
+
+    def command(name: str, does: Callable[..., int]) -> Parser:
+        about = texts.TEXTS[name]
+        more: Dict[str, Any] = {"about": about}  # which the class of these parsers takes
+        added: Parser = commands.add_parser(name, help=parsers.first_sentence(about), **more)
+        added.set_defaults(does=does)
+        about = "Print what the desk answered, as JSON."
+        if does in (past_jobs.show_log, holding.run_with_board):
+            about = argparse.SUPPRESS  # it is taken, and there is nothing to be printed so
+        added.add_argument(
+            "--json", action="store_true", default=argparse.SUPPRESS, help=about
+        )
+        return added
+
+    add_views(command)
+    add_jobs(command)
+    add_past(command)
+    add_reservations(command)
+    admin.add_commands(command)
+    return parser
+
+
+def add_views(command: Command) -> None:
+    add_tags(command("boards", views.show_boards))
+    command("types", views.show_types)
+    queue = command("queue", claims.show_queue)
+    about = "Those that want a board of this type; reservations want none."
+    queue.add_argument("type", metavar="TYPE", nargs="?", default="", help=about)
+    queue.add_argument("--mine", action="store_true", help="Those of the user alone.")
+    about = f"How many, at most (default {claims.LAST}; with --json all)."
+    queue.add_argument("--limit", metavar="N", type=number, help=about)
+    rows = command("reservations", views.show_reservations)
+    rows.add_argument("--all", action="store_true", help="Those that have ended too.")
+    rows.add_argument("--mine", action="store_true", help="Those of the user alone.")
+
+
+def add_jobs(command: Command) -> None:
+    jobs = command("jobs", show_jobs)
+    jobs.add_argument("--text", action="store_true", help="Print the texts that were submitted.")
+    jobs.add_argument("--mine", action="store_true", help="Those of the user alone.")
+    add_last(jobs, "How many of those that ended")
+    jobs.add_argument("numbers", metavar="N", nargs="*", type=number, help="A job's number.")
+    jobs.set_defaults(parser=jobs)
+    submit = command("submit", submit_job)
+    submit.add_argument("file", metavar="FILE", help="The job file, or - for the input.")
+    add_waiting(submit, AWAITS_END)
+    add_number(command("cancel", cancel_job), "A job's number.")
+    again = command("resubmit", resubmit_job)
+    add_number(again, "A job's number.")
+    add_waiting(again, AWAITS_END)
+
+
+def add_past(command: Command) -> None:
+    log = command("log", past_jobs.show_log)
+    add_number(log, "A job's number.")
+    about = "Print also what it says from then on, until the job has ended."
+    log.add_argument("--follow", action="store_true", help=about)
+    add_every(log)
+    past = command("history", past_jobs.show_history)
+    past.add_argument("board", metavar="BOARD", help="The board's name.")
+    add_last(past, "How many of the jobs and changes")
+    used = command("usage", usage.show_usage)
+    about = """\
+A span, as 30d, 12h, 90m or 2w, or a date, as 2026-11-30 (default %(default)s)."""
+    used.add_argument(
+        "--since", metavar="WHEN", type=usage.moment_of, default="30d", help=about
+    )
+    about = "What has a line each: owners, boards or types (default %(default)s)."
+    one_of(used, "--by", usage.BY, about, default="owner")
+
+
+def add_last(parser: Parser, about: str) -> None:
+    about = f"{about}, at most (default {past_jobs.LAST})."
+    parser.add_argument("--last", metavar="N", type=number, help=about)
+
+
+def add_reservations(command: Command) -> None:
+    reserve = command("reserve", reserve_board)
+    add_wants(reserve)
+    add_waiting(reserve, AWAITS_BOARD)
+    about = "Wait, and then acquire the board."
+    reserve.add_argument("--acquire", action="store_true", help=about)
+    wait = command("wait", wait_for)
+    add_number(wait, "The number of a job or a reservation.")
+    add_every(wait)
+    for name in ("acquire", "release", "refresh", "extend", "cancel-reservation"):
+        change = command(name, change_reservation)
+        add_number(change, "A reservation's number.")
+        change.set_defaults(action=ACTIONS.get(name, name))
+    hold = command("with", holding.run_with_board)
+    hold.tail = "-- COMMAND [ARGUMENT ..]"
+    add_wants(hold)
+    add_every(hold)
+
+
+def add_number(parser: Parser, about: str) -> None:
+    parser.add_argument("number", metavar="N", type=number, help=about)
+
+
+def add_tags(parser: Parser) -> None:
+    about = "A tag of the board; 'name=BOARD' is that board."
+    parser.add_argument("tags", metavar="TAG", nargs="*", help=about)
+
+
+def add_wants(parser: Parser) -> None:
+    add_tags(parser)
+    about = "Its place in the queue: 'low', 'medium', 'high', or 0 to 100 (default 50)."
+    parser.add_argument("--priority", metavar="P", type=priority, help=about)
+
+
+def add_waiting(parser: Parser, about: str) -> None:
+    parser.add_argument("--wait", action="store_true", help=about)
+    add_every(parser)
+
+
+def add_every(parser: Parser) -> None:
+    about = "Between two looks, while it waits (default %(default)s)."
+    parser.add_argument("--every", metavar="SECONDS", type=seconds, default=2, help=about)
+
+
+def number(text: str) -> int:
+    if not (text.isascii() and text.isdigit() and 0 < int(text) < 10**9):
+        raise ValueError
+    return int(text)
+
+
+def priority(text: str) -> Union[int, str]:
+    return int(text) if text.isascii() and text.isdigit() else text
+
+
+def seconds(text: str) -> float:
+    given = float(text)
+    if not 0.05 <= given <= 60:
+        raise ValueError
+    return given
+
+
+# ---- jobs
+
+
+def show_jobs(desk: calls.Desk, options: argparse.Namespace) -> int:
+    """Shows jobs by their numbers, or without any, those that are open and the last that ended."""
+    if options.numbers:
+        if options.mine or options.last:
+            options.parser.error("--mine and --last go without numbers")
+        return past_jobs.show_jobs(desk, options)
+    if options.text:
+        options.parser.error("--text: give numbers")
+    return past_jobs.list_jobs(desk, options)
+
+
+def submit_job(desk: calls.Desk, options: argparse.Namespace) -> int:
+    if options.file == "-":
+        text = sys.stdin.buffer.read()
+    else:
+        with open(options.file, "rb") as file:
+            text = file.read()
+    return submit_text(desk, options, text)
+
+
+def resubmit_job(desk: calls.Desk, options: argparse.Namespace) -> int:
+    text = past_jobs.text_of(desk, options.number)
+    if text is None:
+        return told(REFUSED, f"job {options.number} is a health check, which has no text")
+    return submit_text(desk, options, text)
+
+
+def submit_text(desk: calls.Desk, options: argparse.Namespace, text: bytes) -> int:
+    """Submits a job file, prints its number, and waits for its end where that is asked for."""
+    fault = job_file.limit_fault_of(text)
+    if fault:
+        return told(REFUSED, f"nothing is submitted: {fault}")
+    if options.wait:
+        options.clock.look()
+    try:
+        said = desk.tell("/jobs", text, calls.fresh_key())
+    except calls.Refused as refusal:
+        raise job_file.why_refused(desk, refusal, text)
+    options.clock.note_own()
+    print_number(options, said)
+    return await_end(desk, options, said["number"]) if options.wait else 0
+
+
+def cancel_job(desk: calls.Desk, options: argparse.Namespace) -> int:
+    try:
+        said = desk.tell(f"/jobs/{options.number}/cancel", key=calls.fresh_key())
+    except calls.Refused as refusal:
+        if refusal.code != calls.WRONG_JOB_STATE:
+            raise
+        job = desk.look(f"/jobs/{options.number}")
+        how = f" ({job['result']})" if job["result"] else ""
+        raise refusal.about(f"job {options.number} is {job['state']}{how}")
+    if options.json:
+        views.print_json(said)
+    return 0
+
+
+def print_number(options: argparse.Namespace, said: Dict[str, Any]) -> None:
+    if options.json:
+        views.print_json(said)
+    else:
+        print(said["number"], flush=True)
+
+
+def await_end(desk: calls.Desk, options: argparse.Namespace, job: int) -> int:
+    """Waits for a job's end, and prints how it ended. The status says whether all members are
+    Complete."""
+    try:
+        members = waiting.wait_for_end(desk, job, options)
+    except interrupts.Interrupted as end:
+        return told(end.status, f"job {job} goes on; desk cancel {job} ends it")
+    if options.json:
+        views.print_json({"jobs": members})
+    else:
+        for it in members:
+            print(f"{it['number']} {it['result']} {it['board'] or '-'}")
+    return 0 if all(it["result"] == "Complete" for it in members) else ENDED
+
+
+# What shows something, of which a reader may have enough, as `head`.
+VIEWS: Tuple[Callable[..., int], ...] = (
+    views.show_boards, views.show_types, claims.show_queue, views.show_reservations, show_jobs,
+    past_jobs.show_log, past_jobs.show_history, usage.show_usage,
+)
+
+
+# ---- reservations
+
+
+def reserve_board(desk: calls.Desk, options: argparse.Namespace) -> int:
+    reservation = holding.Reservation(desk, options.tags, options.priority)
+    if not (options.wait or options.acquire):
+        print_number(options, {"number": reservation.ask()})
+        return 0
+    try:
+        options.clock.look()
+        number = reservation.ask()
+        options.clock.note_own()
+        print_number(options, {"number": number})
+        return await_board(reservation, number, options)
+    except interrupts.Interrupted as it:
+        reservation.give_back()
+        return it.status
+
+
+def await_board(
+    reservation: holding.Reservation, number: int, options: argparse.Namespace
+) -> int:
+    """Waits for a reservation's board, acquires it where that is asked for, and prints it."""
+    board = waiting.wait_for_board(reservation.desk, number, reservation.tags, options)
+    if options.acquire:
+        reservation.acquire(board["name"])
+    if options.json:
+        views.print_json({"board": board["name"], "number": number})
+    else:
+        print(board["name"], flush=True)
+    return 0
+
+
+def wait_for(desk: calls.Desk, options: argparse.Namespace) -> int:
+    """Waits for a job's end or a reservation's board: both draw their numbers from one counter."""
+    options.clock.look()
+    try:
+        desk.look(f"/jobs/{options.number}")
+    except calls.Refused as refusal:
+        if refusal.code != calls.NO_JOB:
+            raise
+    else:
+        return await_end(desk, options, options.number)
+    desk.nudge(f"/reservations/{options.number}/refresh")
+    options.clock.note_own()
+    reservation = holding.Reservation(desk, None, None)
+    reservation.number = options.number
+    options.acquire = False
+    return await_board(reservation, options.number, options)
+
+
+def change_reservation(desk: calls.Desk, options: argparse.Namespace) -> int:
+    """Acquires, releases, refreshes, which is also how a hold is extended, or cancels. A refresh
+    that is done twice does no harm, and has no key."""
+    path = f"/reservations/{options.number}/{options.action}"
+    try:
+        said = desk.nudge(path) if options.action == "refresh" else desk.tell(
+            path, key=calls.fresh_key()
+        )
+    except calls.Refused as refusal:
+        if refusal.code != calls.WRONG_RESERVATION_STATE:
+            raise
+        state = waiting.row_of(desk, options.number)["state"]
+        raise refusal.about(f"reservation {options.number} is {state}")
+    if options.json:
+        views.print_json(said)
+    elif options.action == "acquire":
+        board = waiting.board_of(desk, options.number)
+        print(board["name"] if board else "-")
+    return 0

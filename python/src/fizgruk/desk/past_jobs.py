@@ -1,0 +1,295 @@
+"""Jobs that ended beside those that are open, their logs, a board's past, and a job's text once
+more."""
+import argparse
+import sys
+import time
+from typing import Any, Dict, Iterable, List, Optional, Set
+
+from fizgruk import calls, history, records, toml_text, wants
+from fizgruk._tools import interrupts, tables
+from fizgruk.desk import views
+
+REFUSED = 3
+LAST = 50
+# Of so many bytes from the history's end a user's own jobs are looked for, where the newest lines
+# have too few.
+TAIL = 4_000_000
+
+
+# ---- what there is and was
+
+
+def list_jobs(desk: calls.Desk, options: argparse.Namespace) -> int:
+    """Shows the jobs that haven't ended, and the last ones that have."""
+    now = open_jobs(desk, desk.user if options.mine else None)
+    try:
+        past = history.history_of(desk, options)
+        ended = last_jobs(past, desk.user if options.mine else None, options.last or LAST)
+    except calls.Refused as refusal:
+        if refusal.status != calls.NOT_FOUND:
+            raise
+        print(f"desk: only open jobs are shown: {refusal}", file=sys.stderr, flush=True)
+        ended = []
+    if options.json:
+        views.print_json({"ended": ended, "open": now})
+    else:
+        rows = [row_of_open(it) for it in now] + [row_of_ended(it) for it in ended]
+        views.show(options, {}, rows, COLUMNS)
+    return 0
+
+
+def open_jobs(desk: calls.Desk, owner: Optional[str]) -> List[Dict[str, Any]]:
+    """The jobs that hold boards, by their views, and the groups that wait, each by its first
+    member's view as far as there is time to ask for it, else by its claim; the newest first."""
+    found: Dict[int, Dict[str, Any]] = {}
+    until = time.monotonic() + wants.LONGEST_ASKED
+    claims = [it for it in desk.look("/queue")["queue"] if it["kind"] == "group"]
+    for place, claim in enumerate(it for it in claims if owner in (None, it["owner"])):
+        is_asked = place < wants.MOST_ASKED and time.monotonic() < until
+        found[claim["number"]] = view_of(desk, claim["number"]) if is_asked else claim
+    for board in desk.look("/boards")["boards"]:
+        kind, _, number = board["holder"].partition(" ")
+        if kind == "job":
+            found[int(number)] = view_of(desk, int(number))
+    rows = [it for it in found.values() if it and owner in (None, it["owner"])]
+    rows = [it for it in rows if it.get("state") != "Finished"]
+    return sorted(rows, key=lambda it: -int(it["number"]))
+
+
+def view_of(desk: calls.Desk, number: int) -> Dict[str, Any]:
+    """A job's view, or nothing where there is no such job."""
+    try:
+        return desk.look(f"/jobs/{number}")
+    except calls.Refused as refusal:
+        if refusal.code != calls.NO_JOB:
+            raise
+        return {}
+
+
+def last_jobs(past: history.Past, owner: Optional[str], count: int) -> List[Dict[str, Any]]:
+    """The last jobs that ended, of one owner where that is named; the newest first."""
+    newest = past.newest()
+    found = [it for it in newest if owner in (None, it["owner"])]
+    if len(found) < count and len(newest) >= records.MOST_SHOWN:
+        rows = past.rows(TAIL)
+        found = [it for it in rows if it["kind"] == "job" and owner in (None, it["owner"])][::-1]
+    return found[:count]
+
+
+def row_of_open(view: Dict[str, Any]) -> Dict[str, Any]:
+    """A row of a job that hasn't ended: its view, or its claim in the queue."""
+    return {
+        "number": view["number"],
+        "state": view.get("state", "Submitted"),
+        "owner": view["owner"],
+        "type": view.get("type", "-"),
+        "board": view.get("board") or "-",
+        "began": "-",
+        "took": "-",
+        "name": name_of(view),
+        "reason": "",
+    }
+
+
+def name_of(view: Dict[str, Any]) -> str:
+    """The name of a job that hasn't ended, where its view has it."""
+    if view.get("kind") == "check":
+        return records.CHECK
+    try:
+        return str(toml_text.tree_of(view.get("text", "")).get("job_name", ""))
+    except toml_text.NotToml:
+        return ""
+
+
+def row_of_ended(row: Dict[str, Any]) -> Dict[str, Any]:
+    return {
+        "number": row["job"],
+        "state": row["outcome"],
+        "owner": row["owner"],
+        "type": row["type"],
+        "board": " ".join(row["boards"]) or "-",
+        "began": tables.moment(row["began"]),
+        "took": tables.span(row["ended"] - row["began"]),
+        "name": row["name"],
+        "reason": row["reason"],
+    }
+
+
+NOTHING = {"began": "-", "took": "-", "reason": ""}
+COLUMNS = [
+    ("NUMBER", lambda it: it["number"]),
+    ("STATE", lambda it: it["state"]),
+    ("OWNER", lambda it: it["owner"]),
+    ("TYPE", lambda it: it["type"]),
+    ("BOARD", lambda it: it["board"]),
+    ("BEGAN", lambda it: it["began"]),
+    ("TOOK", lambda it: it["took"]),
+    ("NAME", lambda it: tables.printable(it["name"]) or "-"),
+    ("REASON", lambda it: tables.printable(it["reason"])),
+]
+PAST = COLUMNS[-4:]
+
+
+# ---- some jobs
+
+
+def show_jobs(desk: calls.Desk, options: argparse.Namespace) -> int:
+    """Shows jobs by their numbers, and of those that ended what the history has."""
+    rows, status = views.jobs_of(desk, options.numbers)
+    if options.text:
+        sys.stdout.write("".join(it["text"] for it in rows))
+    elif rows:
+        ended = {it["number"] for it in rows if it["state"] == "Finished"}
+        found = lines_of(desk, options, ended) if ended else {}
+        if options.json:
+            more = {"ended": [found[it] for it in sorted(found)]} if found else {}
+            views.print_json({"jobs": rows, **more})
+        else:
+            rows = [{**row_of_ended(found[it["number"]]), **it} if it["number"] in found
+                    else {**NOTHING, "name": name_of(it), **it} for it in rows]
+            views.show(options, {}, rows, tables.JOBS + (PAST if ended else []))
+    return status
+
+
+def lines_of(
+    desk: calls.Desk, options: argparse.Namespace, numbers: Set[int]
+) -> Dict[int, Dict[str, Any]]:
+    """The lines that the history has of jobs that ended, by their numbers; where there is none,
+    that is told."""
+    try:
+        past = history.history_of(desk, options)
+        newest = reversed(past.newest())
+        found = {it["job"]: it for it in newest if it["job"] in numbers}
+        if found.keys() != numbers:
+            rows = past.rows(TAIL)
+            found = {it["job"]: it for it in rows if it["kind"] == "job" and it["job"] in numbers}
+        return found
+    except calls.Refused as refusal:
+        if refusal.status != calls.NOT_FOUND:
+            raise
+        print(f"desk: times and reasons aren't shown: {refusal}", file=sys.stderr, flush=True)
+        return {}
+
+
+# ---- a board
+
+
+def show_history(desk: calls.Desk, options: argparse.Namespace) -> int:
+    """Shows what became of a board, the newest first: its jobs, and how its health changed."""
+    past = history.history_of(desk, options)
+    rows = [it for it in past.rows() if options.board in boards_of(it)][::-1]
+    rows = rows[: options.last or LAST]
+    if not rows and options.board not in names_of(desk.look("/boards")["boards"]):
+        print(f"desk: there is no board {options.board}", file=sys.stderr, flush=True)
+        return REFUSED
+    return views.show(options, {"history": rows}, rows, BOARD_COLUMNS)
+
+
+def boards_of(row: Dict[str, Any]) -> List[str]:
+    return list(row["boards"]) if row["kind"] == "job" else [row["board"]]
+
+
+def names_of(boards: Iterable[Dict[str, Any]]) -> List[str]:
+    return [it["name"] for it in boards]
+
+
+def what_of(row: Dict[str, Any]) -> str:
+    if row["kind"] == "health":
+        return f"{row['from']} to {row['to']}"
+    return f"job {row['job']} {row['outcome']}"
+
+
+def about_of(row: Dict[str, Any]) -> str:
+    if row["kind"] == "health":
+        return str(row["reason"])
+    return ": ".join(it for it in (row["name"], row["reason"]) if it)
+
+
+BOARD_COLUMNS = [
+    ("MOMENT", lambda it: tables.moment(it["at"] if it["kind"] == "health" else it["ended"])),
+    ("WHAT", what_of),
+    ("OWNER", lambda it: it.get("owner", "-")),
+    ("TOOK", lambda it: tables.span(it["ended"] - it["began"]) if "began" in it else "-"),
+    ("ABOUT", lambda it: tables.printable(about_of(it))),
+]
+
+
+# ---- a job's log, and its text
+
+
+def show_log(desk: calls.Desk, options: argparse.Namespace) -> int:
+    """Prints a job's log; with --follow all that is added to it until the job has ended."""
+    log = Log(history.history_of(desk, options), options.number)
+    if not options.follow:
+        return 0 if log.print_more() else log.tell_none(desk)
+    is_open = is_to_come(desk, options.number)  # what is asked first has to be answered
+    while True:
+        try:
+            # (a log to which something may be added is looked at once more)
+            there = log.print_more()
+            if not is_open:
+                return 0 if there else log.tell_none(desk)
+            if not there:
+                log.tell_none(desk)
+            interrupts.check()
+            time.sleep(options.every)
+            is_open = is_to_come(desk, options.number)
+        except calls.NoAnswer as fault:
+            log.tell_once(f"no answer from the desk, which is asked again: {fault}")
+            time.sleep(options.every)
+
+
+def is_to_come(desk: calls.Desk, number: int) -> bool:
+    """Whether a job hasn't ended."""
+    return str(view_of(desk, number).get("state", "Finished")) != "Finished"
+
+
+class Log:
+    """A job's log as it is printed."""
+
+    def __init__(self, past: history.Past, number: int):
+        self.past = past
+        self.number = number
+        self.printed = 0
+        self.told: Set[str] = set()
+
+    def print_more(self) -> bool:
+        """Prints what the log has and wasn't printed yet. Returns whether there is a log."""
+        try:
+            for chunk in self.past.log(self.number, self.printed):
+                sys.stdout.buffer.write(chunk)
+                sys.stdout.buffer.flush()
+                self.printed += len(chunk)
+            return True
+        except history.NoLog:
+            return False
+
+    def tell_none(self, desk: calls.Desk) -> int:
+        """Tells why there is no log. Returns the exit status."""
+        self.tell_once(why_no_log(desk, self.number))
+        return REFUSED
+
+    def tell_once(self, text: str) -> None:
+        if text not in self.told:
+            self.told.add(text)
+            print(f"desk: {text}", file=sys.stderr, flush=True)
+
+
+def why_no_log(desk: calls.Desk, number: int) -> str:
+    """Why a job has no log."""
+    view = view_of(desk, number)
+    if not view:
+        return f"there is no job {number}"
+    if view["state"] == "Finished":
+        return f"job {number} has no log: it never began, or its log is too old to be kept"
+    return f"job {number} is {view['state']}, and has no log yet"
+
+
+def text_of(desk: calls.Desk, number: int) -> Optional[bytes]:
+    """The text by which a job's group was submitted, as the desk keeps it; none of a check."""
+    view = desk.look(f"/jobs/{number}")
+    if view["kind"] == "check":
+        return None
+    if view["group"] != number:
+        view = desk.look(f"/jobs/{view['group']}")
+    return str(view["text"]).encode()

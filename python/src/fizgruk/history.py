@@ -1,0 +1,132 @@
+"""The history that farm-dispatch keeps, as the proxy serves it beside the desk, or as it stands in
+the dispatcher's folder."""
+import argparse
+import collections
+import os
+from typing import Any, Dict, Iterator, List, Optional, Union
+
+from fizgruk import calls, records, submissions
+from fizgruk._tools import settings
+
+NONE_SERVED = (
+    "{} serves no history: ask through the proxy (examples/nginx.conf), or on the dispatcher's "
+    "machine with --history FOLDER"
+)
+
+
+# So many bytes from a history's end the newest jobs are looked for, before all of it is read.
+TAIL = 500_000
+NUMBERS = 65_536  # bytes of the last lines of when numbers were given, some 2,000
+
+
+class NoLog(Exception):
+    """A job has no log here."""
+
+
+class Served:
+    """The history that stands beside a desk."""
+
+    def __init__(self, desk: calls.Desk):
+        self.desk = desk
+
+    def newest(self) -> List[Dict[str, Any]]:
+        """The lines of the newest jobs, the newest first."""
+        try:
+            jobs: List[Dict[str, Any]] = self.desk.look(f"/{records.NEWEST}")["jobs"]
+            return jobs
+        except calls.Refused as refusal:
+            raise self._about(refusal)
+
+    def rows(self, last: int = 0) -> Iterator[Dict[str, Any]]:
+        """All lines, or those of the last so many bytes, the oldest first."""
+        self.desk.look("/status")  # (a desk that gives no answer at first is waited for)
+        rest = b""
+        try:
+            for said in self.desk.stream(f"/{records.LINES}", -last):
+                *lines, rest = (rest + said).split(b"\n")
+                yield from (row for row in map(records.row_of, lines) if row is not None)
+        except calls.Refused as refusal:
+            raise self._about(refusal)
+
+    def log(self, number: int, begin: int) -> Iterator[bytes]:
+        """What a job's log has, from a byte on."""
+        try:
+            yield from self.desk.stream(f"/logs/{number}", begin)
+        except calls.Refused as refusal:
+            if refusal.status == calls.NOT_FOUND and refusal.code != calls.NO_ROUTE:
+                raise NoLog from refusal
+            raise self._about(refusal)
+
+    def moments(self) -> submissions.Looks:
+        """When the last numbers were given, as far as it is known and served."""
+        said = b""
+        try:
+            for piece in self.desk.stream(f"/{submissions.FILE}", -NUMBERS):
+                said += piece
+        except (calls.Refused, calls.NoAnswer):
+            return []
+        lines = said.decode(errors="replace").splitlines(keepends=True)
+        return submissions.looks_of(lines if len(said) < NUMBERS else lines[1:])
+
+    def _about(self, refusal: calls.Refused) -> calls.Refused:
+        if refusal.status == calls.NOT_FOUND:
+            return refusal.about(NONE_SERVED.format(self.desk.server))
+        return refusal
+
+
+class Kept:
+    """The history in a dispatcher's folder, or in a file of its lines."""
+
+    def __init__(self, place: str):
+        self.lines = place if os.path.isfile(place) else os.path.join(place, records.LINES)
+        self.folder = os.path.dirname(self.lines)
+        if not os.path.isfile(self.lines):
+            raise settings.BadSettings(f"{place} has no history: {self.lines} isn't there")
+
+    def newest(self) -> List[Dict[str, Any]]:
+        """The lines of the newest jobs, the newest first."""
+        for last in (TAIL, 0):
+            rows = records.rows_of(self.lines, last)
+            jobs = collections.deque((it for it in rows if it["kind"] == "job"), records.MOST_SHOWN)
+            if len(jobs) == records.MOST_SHOWN:
+                break
+        return list(jobs)[::-1]
+
+    def rows(self, last: int = 0) -> Iterator[Dict[str, Any]]:
+        """All lines, the oldest first."""
+        del last
+        return iter(records.rows_of(self.lines))
+
+    def moments(self) -> submissions.Looks:
+        """When numbers were given, as far as it is known."""
+        return submissions.looks_in(os.path.join(self.folder, submissions.FILE))
+
+    def log(self, number: int, begin: int) -> Iterator[bytes]:
+        """What a job's log has, from a byte on."""
+        try:
+            with open(os.path.join(self.folder, "logs", f"{number}"), "rb") as file:
+                file.seek(begin)
+                while True:
+                    said = file.read(calls.BLOCK)
+                    if not said:
+                        return
+                    yield said
+        except FileNotFoundError as fault:
+            raise NoLog from fault
+
+
+Past = Union[Served, Kept]
+
+
+def moments_of(desk: calls.Desk, options: argparse.Namespace) -> submissions.Looks:
+    """When the last numbers were given, as far as it is known."""
+    try:
+        return history_of(desk, options).moments()
+    except settings.BadSettings:
+        return []  # it has no history
+
+
+def history_of(desk: calls.Desk, options: argparse.Namespace) -> Past:
+    """The history of a desk: the folder's that the settings name, or the one that is served."""
+    place: Optional[str] = settings.values_of("desk", options)["history"]
+    return Kept(os.path.expanduser(place)) if place else Served(desk)

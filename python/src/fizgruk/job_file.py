@@ -1,0 +1,121 @@
+"""Which rule a job file breaks that the desk refused without a word on it."""
+from typing import Any, Dict, List, Optional
+
+from fizgruk import calls, limits, toml_text, wants, words
+from fizgruk.bounds import HIGHEST_PRIORITY, LONGEST_JOB_FILE, MOST_WANTS
+from fizgruk.wants import Want
+from fizgruk.words import BadFile
+
+PRIORITIES = ("low", "medium", "high")
+
+
+def fault_of(data: bytes) -> Optional[str]:
+    """The first rule that a job file breaks, in the desk's order, or None where none is found."""
+    if len(data) > LONGEST_JOB_FILE:
+        return f"it has more than {LONGEST_JOB_FILE:,} bytes"
+    try:
+        read(toml_text.tree_of(data.decode()))
+    except UnicodeDecodeError as fault:
+        return f"it isn't UTF-8 at byte {fault.start}"
+    except (BadFile, toml_text.NotToml) as fault:
+        return str(fault)
+    return None
+
+
+def limit_fault_of(data: bytes) -> Optional[str]:
+    """Why the time limit that a job file asks for can't be one, of which the desk knows nothing;
+    None where it asks for none, or can't be read."""
+    try:
+        timeouts = toml_text.tree_of(data.decode()).get("timeouts", {})
+        if not isinstance(timeouts, dict):
+            return "timeouts isn't a table"
+        if "job" in timeouts:
+            limits.time_of(timeouts["job"])
+    except limits.BadTime as fault:
+        return f"timeouts.job can't be read: {fault}"
+    except (UnicodeDecodeError, toml_text.NotToml):
+        pass  # the desk refuses it
+    return None
+
+
+def wants_of(data: bytes) -> List[Want]:
+    """The boards that a job file which follows the rules asks for."""
+    tree = toml_text.tree_of(data.decode())
+    if "roles" not in tree:
+        return [Want(tree["device_type"], tuple(tree.get("tags", ())))]
+    roles = [tree["roles"][it] for it in sorted(tree["roles"], key=str.encode)]
+    wanted = [(Want(it["device_type"], tuple(it.get("tags", ()))), it["count"]) for it in roles]
+    return [want for want, count in wanted for _ in range(count)]
+
+
+def why_refused(desk: calls.Looker, refusal: calls.Refused, data: bytes) -> calls.Refused:
+    """A refusal of a job file, and what is known of why."""
+    if refusal.code in calls.BAD_JOB_FILE or refusal.status == calls.TOO_LARGE:
+        fault = fault_of(data)
+        return refusal.about(fault) if fault else refusal
+    if refusal.code == calls.NO_BOARDS:
+        return wants.told(desk, refusal, wants_of(data))
+    if refusal.code == calls.NO_TYPE:
+        try:
+            there = {it["name"] for it in desk.look("/types")["types"]}
+        except (calls.NoAnswer, calls.Refused):
+            return refusal
+        lacks = dict.fromkeys(it.kind for it in wants_of(data) if it.kind not in there)
+        return refusal.about(" ".join(lacks)) if lacks else refusal
+    return refusal
+
+
+def read(tree: Dict[str, Any]) -> None:
+    """Goes through a job file's keys."""
+    title = tree.get("job_name")
+    if title is None or title == "":
+        raise BadFile("there is no job_name, or it is empty")
+    if not isinstance(title, str):
+        raise BadFile("job_name isn't a text")
+    read_priority(tree.get("priority", "medium"))
+    if "device_type" in tree and "roles" in tree:
+        raise BadFile("it has both device_type and roles")
+    if "device_type" in tree:
+        words.name_of(tree["device_type"], "device_type")
+        words.tags_of(tree.get("tags"))
+    elif "roles" in tree:
+        if "tags" in tree:
+            raise BadFile("tags stand beside roles, and belong into each role")
+        read_roles(words.table_of(tree["roles"], "roles"))
+    else:
+        raise BadFile("it has neither device_type nor roles")
+
+
+def read_priority(value: object) -> None:
+    if isinstance(value, str):
+        good = value in PRIORITIES
+    elif isinstance(value, (int, float)) and not isinstance(value, bool):
+        good = isinstance(value, int) and 0 <= value <= HIGHEST_PRIORITY
+    else:
+        raise BadFile("priority is neither a whole number nor a text")
+    if not good:
+        named = ", ".join(PRIORITIES)
+        raise BadFile(f"priority {value!r} is none of {named} and 0 to {HIGHEST_PRIORITY}")
+
+
+def read_roles(roles: Dict[str, Any]) -> None:
+    boards = 0
+    for name, role in sorted(roles.items(), key=lambda it: it[0].encode()):
+        try:
+            boards += read_role(name, role)
+        except BadFile as fault:
+            raise BadFile(f"role {name}: {fault}") from fault
+    if not 1 <= boards <= MOST_WANTS:
+        raise BadFile(f"its roles want {boards} boards, and 1 to {MOST_WANTS} are given")
+
+
+def read_role(name: str, role: Dict[str, Any]) -> int:
+    """Goes through a role's keys. Returns how many boards it wants."""
+    words.name_of(name, "the role's name")
+    words.table_of(role, "it")
+    words.name_of(role.get("device_type"), "device_type")
+    count = words.whole_of(role.get("count"), "count")
+    if not 1 <= count <= MOST_WANTS:
+        raise BadFile(f"count is {count}, and is 1 to {MOST_WANTS}")
+    words.tags_of(role.get("tags"))
+    return count

@@ -1,0 +1,61 @@
+"""TOML texts, read by Python's own reader where there is one, which reads TOML 1.0; what it doesn't
+read, by the small one of these tools, so that 1.1 is read as the desk reads it."""
+import bisect
+from typing import Any, Callable, Dict, List, Sequence
+
+from fizgruk import small_toml
+
+READERS: List[Callable[[str], Dict[str, Any]]] = [small_toml.loads]
+try:
+    import tomllib
+except ImportError:  # pragma: no cover (before Python 3.11)
+    pass
+else:
+    READERS.insert(0, tomllib.loads)
+
+
+class NotToml(Exception):
+    """A text isn't TOML."""
+
+
+def tree_of(text: str) -> Dict[str, Any]:
+    """The tables of a text. What it lacks is told by the first reader."""
+    faults = []
+    for read in READERS:
+        try:
+            return read(text)
+        except (ValueError, RecursionError) as fault:
+            faults.append(fault)
+    raise NotToml(f"no TOML: {faults[0]}")
+
+
+def line_of(text: str, path: Sequence[str]) -> int:
+    """The line of a TOML text, counted from 1, in which what stands under the keys of this path
+    begins: the text up to there has it, and before it not."""
+    return bisect.bisect_left(_Prefixes(text.split("\n"), path), True) + 1
+
+
+class _Prefixes(Sequence[bool]):
+    """Whether a text's first lines have something under a path, for each count of lines from 1 on;
+    a value that goes over several lines counts with its first one."""
+
+    def __init__(self, lines: Sequence[str], path: Sequence[str]):
+        self.lines, self.path = lines, path
+
+    def __len__(self) -> int:
+        return len(self.lines)
+
+    def __getitem__(self, place: Any) -> Any:
+        for count in range(place + 1, len(self.lines) + 1):
+            try:
+                return self._has(tree_of("\n".join(self.lines[:count])))
+            except NotToml:
+                continue  # a value isn't at its end
+        return True
+
+    def _has(self, tree: object) -> bool:
+        for key in self.path:
+            if not isinstance(tree, dict) or key not in tree:
+                return False
+            tree = tree[key]
+        return True

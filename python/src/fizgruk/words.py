@@ -1,0 +1,52 @@
+"""The words of job and lab files, and whether a text is one: the same rules as the desk's."""
+import re
+from typing import Any, Dict, List
+
+from fizgruk.bounds import MOST_TAGS, NAME, TAG_KEY, TAG_VALUE
+
+LETTER = "[A-Za-z0-9_.-]"
+NAMES = re.compile(f"{LETTER}{{1,{NAME}}}")
+TAGS = re.compile(f"{LETTER}{{1,{TAG_KEY}}}(={LETTER}{{1,{TAG_VALUE}}})?")
+
+
+class BadFile(Exception):
+    """A rule that a file breaks."""
+
+
+def table_of(value: object, what: str) -> Dict[str, Any]:
+    if not isinstance(value, dict):
+        raise BadFile(f"{what} isn't a table")
+    return value
+
+
+def name_of(value: object, what: str) -> str:
+    if value is None:
+        raise BadFile(f"there is no {what}")
+    if not isinstance(value, str):
+        raise BadFile(f"{what} isn't a text")
+    if not NAMES.fullmatch(value):
+        letters = "letters, digits, '-', '_', '.'"
+        raise BadFile(f"{what} {value!r} isn't a name of 1 to {NAME} {letters}")
+    return value
+
+
+def whole_of(value: object, what: str) -> int:
+    if value is None:
+        raise BadFile(f"there is no {what}")
+    if not isinstance(value, int) or isinstance(value, bool):
+        raise BadFile(f"{what} isn't a whole number")
+    return value
+
+
+def tags_of(value: object) -> List[str]:
+    """Tags under the key `tags`; absent means none."""
+    if value is None:
+        return []
+    if not isinstance(value, list) or not all(isinstance(it, str) for it in value):
+        raise BadFile("tags isn't an array of texts")
+    if len(value) > MOST_TAGS:
+        raise BadFile(f"there are {len(value)} tags, and {MOST_TAGS} at most are taken")
+    for it in value:
+        if not TAGS.fullmatch(it):
+            raise BadFile(f"{it!r} isn't a tag: a key, or key=value")
+    return value

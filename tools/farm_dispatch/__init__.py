@@ -1,0 +1,1 @@
+"""farm-dispatch: passes, and runs the jobs that got their boards."""

@@ -1,0 +1,458 @@
+"""All processes of a job, however they go away from it.
+
+A job's command runs in a cage of its own, which has a mark, by which whoever comes later finds what
+is in it:
+
+    cgroup:PATH          a cgroup (version 2) below the dispatcher's own (systemd: Delegate=yes).
+                         The process that runs the command is in PATH, the command in PATH/command.
+    pidns:BOOT:PID-TIME  a namespace of processes, made without root by one of users. It dies with
+                         its first process, which that mark names, and that is gone after all
+                         others. sudo(8) doesn't work within.
+    none:BOOT:PID-TIME   where neither can be made: what lives below the keeper that the mark names,
+                         or has the job's folder in its environment, or has the job's lock open.
+                         What drops all three isn't found.
+
+A process is its number and when it began, within a boot: a number alone is given again.
+"""
+import contextlib
+import ctypes
+import fcntl
+import os
+import signal
+import subprocess
+import time
+from typing import Dict, Iterator, List, NamedTuple, Optional, Sequence, Set, Tuple
+
+CGROUP, NAMESPACE, NONE = "cgroup", "namespace", "none"
+FORMS = (CGROUP, NAMESPACE, NONE)
+COMMAND = "command"  # the cgroup of the command, below the one of the process that runs it
+DISPATCHER = "farm-dispatcher"  # the dispatcher's own, beside its jobs', where these have limits
+DIES_FIRST = 500  # what a command adds to what the kernel goes by when it kills for lack of memory
+COOKIE = "FARM_FOLDER"
+# The module that runs a group's command, and its name in 2.0, whose jobs may still run.
+RUNNERS = ("farm_dispatch.runner", "farm_tools.runner")
+KILL_PAUSE = 0.02
+_LIBC = ctypes.CDLL(None, use_errno=True)
+_PR_SET_PDEATHSIG, _PR_SET_CHILD_SUBREAPER = 1, 36
+_CLONE_NEWNS, _CLONE_NEWUSER, _CLONE_NEWPID = 0x20000, 0x10000000, 0x20000000
+_MS_REC, _MS_SLAVE = 0x4000, 0x80000
+_MS_NOSUID_NODEV_NOEXEC = 0x2 | 0x4 | 0x8
+
+
+class Cage(NamedTuple):
+    """How a job is caged: the form, the job's own cgroup where that is one, the job's folder, and
+    the file whose lock its processes have where there is neither cgroup nor namespace."""
+
+    form: str
+    cgroup: str
+    folder: str
+    lock: str
+
+
+# ---- what can be made here
+
+
+def best_form() -> str:
+    """The first form that can be made here."""
+    if own_cgroup():
+        return CGROUP
+    return NAMESPACE if _can_unshare() else NONE
+
+
+def can_make(form: str) -> bool:
+    if form == CGROUP:
+        return bool(own_cgroup())
+    return form == NONE or _can_unshare()
+
+
+def own_cgroup() -> str:
+    """The folder of this process's cgroup, where cgroups may be made below it that can be killed;
+    nothing else."""
+    mount = next((it.split()[1] for it in _lines("/proc/self/mounts") if " cgroup2 " in it), "")
+    path = next((it[3:] for it in _lines("/proc/self/cgroup") if it.startswith("0::")), "")
+    if not mount or not path:
+        return ""
+    own = os.path.normpath(f"{mount}/{path}")
+    if os.path.basename(own) == DISPATCHER:
+        own = os.path.dirname(own)
+    trial = os.path.join(own, f"farm-trial-{os.getpid()}")
+    try:
+        os.mkdir(trial)
+    except OSError:
+        return ""
+    try:
+        may_enter = os.access(os.path.join(own, "cgroup.procs"), os.W_OK)
+        return own if may_enter and os.path.exists(os.path.join(trial, "cgroup.kill")) else ""
+    finally:
+        os.rmdir(trial)
+
+
+def _can_unshare() -> bool:
+    child = os.fork()
+    if child == 0:
+        status = 1
+        try:
+            if _unshare():
+                first = os.fork()
+                if first == 0:
+                    os._exit(0 if os.getpid() == 1 else 1)
+                status = 0 if os.waitpid(first, 0)[1] == 0 else 1
+        finally:
+            os._exit(status)
+    return os.waitpid(child, 0)[1] == 0
+
+
+# ---- what is in a cage
+
+
+def is_empty(mark: str, cage: Cage) -> bool:
+    """Whether no process of the job's command is left."""
+    kind, _, value = mark.partition(":")
+    if kind == CGROUP:
+        return not _is_populated(os.path.join(value, COMMAND))
+    if kind == "pidns":
+        return first_of(value) is None
+    return not _found(value, cage) and not _is_locked(cage.lock)
+
+
+def kill(mark: str, cage: Cage) -> None:
+    """Kills all that is in a cage."""
+    kind, _, value = mark.partition(":")
+    if kind == CGROUP:
+        _write(os.path.join(value, COMMAND, "cgroup.kill"), "1")
+        return
+    if kind == "pidns":
+        _kill(first_of(value))
+        return
+    found = _found(value, cage)
+    if len(found) > 1:
+        found.discard(first_of(value) or 0)  # the keeper takes up what the others leave behind
+    for pid in found:
+        _kill(pid)
+
+
+def empty(mark: str, cage: Cage, seconds: float) -> bool:
+    """Kills all that is in a cage. Returns whether nothing is left there after so many seconds."""
+    until = time.monotonic() + seconds
+    while not is_empty(mark, cage):
+        if time.monotonic() > until:
+            return False
+        kill(mark, cage)
+        time.sleep(KILL_PAUSE)
+    return True
+
+
+def remove(mark: str) -> bool:
+    """Removes an empty cage's cgroup. Returns whether it is gone: the process that ran the command
+    may be in it still."""
+    kind, _, value = mark.partition(":")
+    if kind != CGROUP:
+        return True
+    for folder in (os.path.join(value, COMMAND), value):
+        with contextlib.suppress(OSError):
+            _remove_below(folder)
+            os.rmdir(folder)
+    return not os.path.isdir(value)
+
+
+def left_in(mark: str, cage: Cage) -> str:
+    """What is left in a cage, for people: each process with its state."""
+    kind, _, value = mark.partition(":")
+    if kind == CGROUP:
+        pids = [int(it) for it in _lines(os.path.join(value, COMMAND, "cgroup.procs"))]
+    elif kind == "pidns":
+        pids = [it for it in (first_of(value),) if it]
+    else:
+        pids = sorted(_found(value, cage))
+    return ", ".join(f"{it} ({_stat(it)[0] or 'gone'})" for it in pids[:10]) or "its lock is held"
+
+
+def first_of(value: str) -> Optional[int]:
+    """The process that a mark names by boot, number and time; None where it is gone."""
+    boot, _, process = value.partition(":")
+    pid, _, began = process.partition("-")
+    if boot != boot_id() or not pid.isdigit():
+        return None
+    return int(pid) if began and started_at(int(pid)) == began else None
+
+
+def started_at(pid: int) -> str:
+    """When a process began, in ticks since the boot; nothing where it has ended."""
+    state, fields = _stat(pid)
+    return fields[19] if state not in ("", "Z", "X") and len(fields) > 19 else ""
+
+
+def name_of(pid: int) -> str:
+    """A process by boot, number and time."""
+    return f"{boot_id()}:{pid}-{started_at(pid)}"
+
+
+def boot_id() -> str:
+    return "".join(_lines("/proc/sys/kernel/random/boot_id"))
+
+
+def runners_of(folder: str) -> List[int]:
+    """The processes that are there to run what a group's folder says."""
+    words = [f"{it}\0{folder}\0".encode() for it in RUNNERS]
+    told = ((pid, _bytes(f"/proc/{pid}/cmdline")) for pid in _pids())
+    return [pid for pid, said in told if any(it in said for it in words)]
+
+
+def kill_runners_of(folder: str) -> None:
+    for pid in runners_of(folder):
+        _kill(pid)
+
+
+# ---- a command in a new cage
+
+
+class Kept(NamedTuple):
+    """A keeper, which starts a command in a cage and waits for it: its process, what it tells, and
+    by what it is told to go on."""
+
+    pid: int
+    told: int
+    go: int
+
+
+def keep(cage: Cage, command: Sequence[str], environment: Dict[str, str], output: int) -> Kept:
+    """Makes a keeper within a new cage. It tells `mark MARK`, and starts the command once it is
+    sent a byte; then `started`, or `fault WHY`, and at the command's end `status N` or `signal N`.
+    SIGTERM to it goes to the command's group. It dies with its caller, which has one thread."""
+    told, tells = os.pipe()
+    goes, go = os.pipe()
+    caller = os.getpid()
+    if cage.form == NAMESPACE and not _unshare():
+        raise OSError("no namespace of processes can be made")
+    pid = os.fork()
+    if pid == 0:
+        try:
+            os.close(go)
+            os.close(told)
+            _LIBC.prctl(_PR_SET_PDEATHSIG, int(signal.SIGKILL))
+            if os.getppid() in (caller, 0):  # 0: it is beyond this namespace
+                _Keeper(cage, tells, goes).run(command, environment, output)
+        except BaseException as fault:  # pylint: disable=broad-except
+            _say(tells, f"fault {fault}")
+        finally:
+            os._exit(0)
+    os.close(tells)
+    os.close(goes)
+    return Kept(pid, told, go)
+
+
+class _Keeper:
+    """The keeper's own side."""
+
+    def __init__(self, cage: Cage, tells: int, goes: int):
+        self.cage, self.tells, self.goes = cage, tells, goes
+        self.child = 0
+        self.is_told = False
+        signal.signal(signal.SIGTERM, self._hand_on)
+        for number in (signal.SIGINT, signal.SIGHUP):
+            signal.signal(number, lambda *_: None)
+
+    def run(self, command: Sequence[str], environment: Dict[str, str], output: int) -> None:
+        _say(self.tells, f"mark {self._enter()}")
+        if os.read(self.goes, 1) != b"g":
+            return
+        try:
+            child = self._started(command, environment, output)
+        except (OSError, subprocess.SubprocessError, ValueError) as fault:
+            _say(self.tells, f"fault {fault}")
+            return
+        self.child = child.pid
+        os.close(output)
+        _say(self.tells, "started")
+        if self.is_told:
+            self._hand_on()
+        status = _waited_for(child.pid)
+        self.child = 0
+        _say(self.tells, f"status {status}" if status >= 0 else f"signal {-status}")
+        if self.cage.form == NONE:
+            _kill_below(os.getpid())
+
+    def _started(
+        self, command: Sequence[str], environment: Dict[str, str], output: int
+    ) -> "subprocess.Popen[bytes]":
+        locks = [_locked(self.cage.lock)] if self.cage.form == NONE else []
+        return subprocess.Popen(
+            command,
+            cwd=self.cage.folder,
+            env=environment,
+            stdin=subprocess.DEVNULL,
+            stdout=output,
+            stderr=output,
+            start_new_session=True,
+            pass_fds=locks,
+        )
+
+    def _enter(self) -> str:
+        if self.cage.form == CGROUP:
+            enter(os.path.join(self.cage.cgroup, COMMAND))
+            _die_first()
+            return f"{CGROUP}:{self.cage.cgroup}"
+        if self.cage.form == NAMESPACE:
+            pid = int(os.readlink("/proc/self"))  # as its number is outside
+            mark = f"pidns:{name_of(pid)}"
+            _mount_proc()
+            return mark
+        _LIBC.prctl(_PR_SET_CHILD_SUBREAPER, 1)
+        return f"{NONE}:{name_of(os.getpid())}"
+
+    def _hand_on(self, *_: object) -> None:
+        self.is_told = True
+        if self.child:
+            with contextlib.suppress(ProcessLookupError, PermissionError):
+                os.killpg(self.child, signal.SIGTERM)
+
+
+def enter(cgroup: str) -> None:
+    """Puts this process into a cgroup, which it makes."""
+    os.makedirs(cgroup, exist_ok=True)
+    with open(os.path.join(cgroup, "cgroup.procs"), "w", encoding="ascii") as file:
+        file.write("0")
+
+
+def _die_first() -> None:
+    """Lets the kernel kill this process, and what it starts, before the one that looks after it."""
+    file = "/proc/self/oom_score_adj"
+    if int("".join(_lines(file)) or DIES_FIRST) < DIES_FIRST:
+        _write(file, str(DIES_FIRST))
+
+
+def _waited_for(child: int) -> int:
+    """A child's status, below 0 for a signal; whoever else ends meanwhile is waited for too."""
+    while True:
+        pid, status = os.wait()
+        if pid == child:
+            return os.WEXITSTATUS(status) if os.WIFEXITED(status) else -os.WTERMSIG(status)
+
+
+def _unshare() -> bool:
+    """Whether the caller's children are in a new namespace of processes from now on."""
+    user, group = os.geteuid(), os.getegid()
+    if _LIBC.unshare(_CLONE_NEWPID | (_CLONE_NEWUSER if user else 0)) != 0:
+        return False
+    if user:
+        _write("/proc/self/setgroups", "deny")
+        _write("/proc/self/uid_map", f"{user} {user} 1")
+        _write("/proc/self/gid_map", f"{group} {group} 1")
+    return True
+
+
+def _mount_proc() -> None:
+    """Lets /proc have the namespace's own processes, where that is allowed."""
+    if _LIBC.unshare(_CLONE_NEWNS) == 0:
+        if _LIBC.mount(b"none", b"/", None, ctypes.c_ulong(_MS_REC | _MS_SLAVE), None) == 0:
+            flags = ctypes.c_ulong(_MS_NOSUID_NODEV_NOEXEC)
+            _LIBC.mount(b"proc", b"/proc", b"proc", flags, None)
+
+
+def _say(line: int, text: str) -> None:
+    with contextlib.suppress(OSError):
+        os.write(line, f"{' '.join(text.split())}\n".encode(errors="replace"))
+
+
+# ---- processes
+
+
+def _found(value: str, cage: Cage) -> Set[int]:
+    """What a cage of neither form has: what lives below its keeper, and what names its folder."""
+    top = first_of(value)
+    found = {top, *_below(top)} if top else set()
+    cookie = f"{COOKIE}={cage.folder}".encode()
+    found |= {it for it in _pids() if cookie in _bytes(f"/proc/{it}/environ").split(b"\0")}
+    return found - {os.getpid(), os.getppid()}
+
+
+def _kill_below(top: int) -> None:
+    """Kills all that lives below a process that takes up whom its children leave behind."""
+    while True:
+        for pid in _below(top):
+            _kill(pid)
+        try:
+            if os.waitpid(-1, os.WNOHANG)[0] == 0:
+                time.sleep(KILL_PAUSE)
+        except ChildProcessError:
+            return
+
+
+def _below(top: int) -> Set[int]:
+    parents: List[Tuple[int, int]] = []
+    for pid in _pids():
+        state, fields = _stat(pid)
+        if state not in ("", "Z", "X"):
+            parents.append((pid, int(fields[1])))
+    found: Set[int] = set()
+    more = {top}
+    while more:
+        more = {pid for pid, parent in parents if parent in more} - found
+        found |= more
+    return found
+
+
+def _kill(pid: Optional[int]) -> None:
+    if pid:
+        with contextlib.suppress(ProcessLookupError, PermissionError):
+            os.kill(pid, signal.SIGKILL)
+
+
+def _pids() -> Iterator[int]:
+    return (int(it) for it in os.listdir("/proc") if it.isdigit() and int(it) != os.getpid())
+
+
+def _stat(pid: int) -> Tuple[str, List[str]]:
+    """A process's state, and the fields of its stat from there on."""
+    text = _bytes(f"/proc/{pid}/stat").decode(errors="replace")
+    fields = text.rpartition(")")[2].split()
+    return (fields[0], fields) if fields else ("", [])
+
+
+def _is_populated(cgroup: str) -> bool:
+    return "populated 1" in _lines(os.path.join(cgroup, "cgroup.events"))
+
+
+def _remove_below(cgroup: str) -> None:
+    """Removes the cgroups that a command made below its own."""
+    for folder, _, _ in os.walk(cgroup, topdown=False):
+        if folder != cgroup:
+            os.rmdir(folder)
+
+
+def _is_locked(file: str) -> bool:
+    """Whether a process has this lock."""
+    try:
+        opened = os.open(file, os.O_RDWR | os.O_CLOEXEC | os.O_NOFOLLOW)
+    except OSError:
+        return False
+    try:
+        fcntl.flock(opened, fcntl.LOCK_EX | fcntl.LOCK_NB)
+        return False
+    except BlockingIOError:
+        return True
+    finally:
+        os.close(opened)
+
+
+def _locked(file: str) -> int:
+    lock = os.open(file, os.O_RDWR | os.O_CREAT | os.O_CLOEXEC, 0o640)
+    fcntl.flock(lock, fcntl.LOCK_EX | fcntl.LOCK_NB)
+    return lock
+
+
+def _lines(file: str) -> List[str]:
+    return _bytes(file).decode(errors="replace").splitlines()
+
+
+def _bytes(file: str) -> bytes:
+    try:
+        with open(file, "rb") as opened:
+            return opened.read()
+    except OSError:
+        return b""
+
+
+def _write(file: str, text: str) -> None:
+    with contextlib.suppress(OSError), open(file, "w", encoding="ascii") as opened:
+        opened.write(text)

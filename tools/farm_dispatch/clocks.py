@@ -1,0 +1,89 @@
+"""The clocks that a dispatcher goes by: its farm's, and the machine's, which its time service
+sets."""
+import os
+import subprocess
+import time
+from typing import Sequence
+
+from fizgruk import calls
+from fizgruk._tools import disk
+from fizgruk.clocks import NO_END, ahead
+
+MINUTE, HOUR = 60, 3600
+ASK = ("timedatectl", "show", "--property=NTP", "--property=NTPSynchronized")
+NOTE = "synchronized"
+UNSYNCHRONIZED = (
+    "this machine's time service runs and hasn't set the clock yet: nothing is asked of the desk "
+    "until it has, since a farm's clock never falls back (--clock any: ask all the same)"
+)
+
+
+class Clocks:
+    """What a dispatcher knows of its farm's clock and of its machine's."""
+
+    def __init__(self, desk: calls.Desk, place: str, is_watched: bool):
+        """`place` is the dispatcher's folder; `is_watched` says whether the machine's clock has to
+        be set before the desk is asked."""
+        self.desk = desk
+        self.note = os.path.join(place, NOTE)
+        self.is_set = not is_watched
+        self.looks = self.tells = time.monotonic()
+
+    def is_machine_set(self) -> bool:
+        """Whether this machine's clock is set, as far as the system can tell. Once it was, it is
+        until the machine begins anew, also where its time service loses its servers."""
+        if not self.is_set:
+            boot = _boot()
+            if not (boot and boot == _text_of(self.note)):
+                said = _said_of_the_clock()
+                if b"NTP=yes" in said and b"NTPSynchronized=no" in said:
+                    return False
+                if b"NTPSynchronized=yes" in said:
+                    _keep(self.note, boot)
+            self.is_set = True
+        return True
+
+    def warning(self) -> str:
+        """What is to be told of the farm's clock, which is looked at once a minute; at most once an
+        hour there is something."""
+        now = time.monotonic()
+        if now < self.looks:
+            return ""
+        self.looks = now + MINUTE
+        found = ahead(self.desk.look("/status"), NO_END)
+        if not found or now < self.tells:
+            return ""
+        self.tells = now + HOUR
+        return found
+
+
+def _said_of_the_clock() -> Sequence[bytes]:
+    """What the system says of this machine's time service and clock: nothing where it can't
+    tell."""
+    try:
+        said = subprocess.run(
+            ASK, stdin=subprocess.DEVNULL, capture_output=True, timeout=10, check=False
+        )
+    except (OSError, subprocess.SubprocessError):
+        return ()
+    return said.stdout.split()
+
+
+def _boot() -> str:
+    """What names this run of the machine, or nothing."""
+    return _text_of("/proc/sys/kernel/random/boot_id")
+
+
+def _text_of(file: str) -> str:
+    try:
+        with open(file, encoding="utf-8", errors="replace") as text:
+            return text.read().strip()
+    except OSError:
+        return ""
+
+
+def _keep(file: str, boot: str) -> None:
+    try:
+        disk.write_whole(file, f"{boot}\n")
+    except OSError:
+        pass  # it is asked again then

@@ -1,0 +1,141 @@
+"""farm-from-labgrid: a lab file from the places that labgrid's coordinator keeps."""
+import argparse
+import re
+from typing import Any, Dict, List, Optional, Sequence, Tuple
+
+from farm_import import lab_file
+from fizgruk._tools import parsers
+
+PROGRAM = "farm-from-labgrid"
+ABOUT = """\
+Reads PLACES, the places.yaml in which labgrid's coordinator keeps its places, and writes a lab \
+file that 'farm import' takes: a board for each place, with its tags."""
+FAULT = "PLACES or the lab file can't be used, PLACES isn't of its kind, or PyYAML isn't there."
+# What a place has that is carried over, or told in words of its own.
+KNOWN = (
+    "name", "tags", "aliases", "comment", "matches", "acquired", "acquired_resources",
+    "reservation", "allowed",
+)
+# When a place was made and changed, which each has.
+TIMES = ("created", "changed")
+# A word of each file that isn't the coordinator's.
+OF_AN_ENVIRONMENT = {"targets", "images", "tools", "options", "imports"}
+NOTHING: Tuple[object, ...] = (None, "", "null", "Null", "NULL", "~", [], {})
+
+
+def main(words: Optional[Sequence[str]] = None) -> int:
+    return lab_file.status_of(PROGRAM, lab_of, options_of(words))
+
+
+def parser_of() -> parsers.Parser:
+    parser = lab_file.parser_of(PROGRAM, ABOUT, lab_file.statuses_of(FAULT))
+    parser.add_argument("places", metavar="PLACES", help="The coordinator's places.yaml.")
+    about = """\
+The tag whose value is the board's type (default %(default)s). The tag stays a tag."""
+    parser.add_argument("--type-tag", metavar="KEY", default="board", help=about)
+    about = "The type of places without that tag, which are not told then (default place)."
+    parser.add_argument("--type", metavar="NAME", help=about)
+    return parser
+
+
+def options_of(words: Optional[Sequence[str]]) -> argparse.Namespace:
+    return parser_of().parse_args(words)
+
+
+def lab_of(options: argparse.Namespace) -> lab_file.LabFile:
+    """The lab of a coordinator's places."""
+    lab = lab_file.LabFile()
+    for name, place in places_of(options.places).items():
+        carry(lab, name, place, options)
+    return lab
+
+
+def places_of(file: str) -> Dict[str, Dict[str, Any]]:
+    """The places of a file by their names. All words in it are texts, as they are written."""
+    try:
+        import yaml
+    except ImportError as fault:
+        raise lab_file.Unreadable("PyYAML isn't there (python3-yaml)") from fault
+    try:
+        with open(file, encoding="utf-8") as text:
+            places = yaml.load(text, Loader=yaml.BaseLoader)
+    except (yaml.YAMLError, UnicodeDecodeError) as fault:
+        raise lab_file.Unreadable(f"{file} isn't YAML: {' '.join(str(fault).split())}") from fault
+    places = {} if places in NOTHING else places
+    if not isinstance(places, dict):
+        raise lab_file.Unreadable(f"{file} has no places by their names")
+    strange = [name for name, place in places.items() if not is_place(place)]
+    if strange:
+        what = f"{kind_of(places, strange)}; the coordinator's is places.yaml"
+        raise lab_file.Unreadable(f"{file} is no file of places: {what}")
+    return places
+
+
+def is_place(place: Any) -> bool:
+    """Whether it has something that the coordinator writes of each place."""
+    return isinstance(place, dict) and not place.keys().isdisjoint({*KNOWN, *TIMES})
+
+
+def kind_of(file: Dict[str, Any], strange: List[str]) -> str:
+    """What a file looks like that has something which is no place."""
+    targets = file.get("targets")
+    if OF_AN_ENVIRONMENT >= file.keys() or (isinstance(targets, dict) and "targets" in strange):
+        return "it looks like an environment of labgrid's client (targets)"
+    for group in strange:
+        for name, resource in _members(file[group]):
+            if isinstance(resource, dict) and ("cls" in resource or re.match("[A-Z]", name)):
+                return f"it looks like an exporter's resources ({group}: {name})"
+    return f"'{strange[0]}' has nothing that a place has"
+
+
+def _members(group: Any) -> Sequence[Any]:
+    return list(group.items()) if isinstance(group, dict) else []
+
+
+def carry(
+    lab: lab_file.LabFile, name: str, place: Dict[str, Any], options: argparse.Namespace
+) -> None:
+    """Makes a place a board, and notes what a board has no room for."""
+    where = f"place {name}"
+    tags = {} if place.get("tags") in NOTHING else place["tags"]
+    if not isinstance(tags, dict) or not all(isinstance(it, str) for it in tags.values()):
+        raise lab_file.Unreadable(f"{where}: its tags aren't words by their keys")
+    kind = tags.get(options.type_tag)
+    if not kind:
+        note = lab.note if options.type is None else lab.note_usual
+        kind = options.type or "place"
+        note(where, f"it has no tag {options.type_tag}: its type is {kind}")
+    kind = lab.add_type(where, kind)
+    lab.add_board(where, name, kind, [f"{key}={value}" for key, value in tags.items()])
+    note_rest(lab, where, place)
+
+
+def note_rest(lab: lab_file.LabFile, where: str, place: Dict[str, Any]) -> None:
+    for alias in _items(place.get("aliases")):
+        lab.note(where, f"alias {alias} isn't carried over")
+    if place.get("comment") not in NOTHING:
+        lab.note(where, f"comment {' '.join(str(place['comment']).split())!r} isn't carried over")
+    for match in _items(place.get("matches")):
+        lab.note_usual(where, f"match {_match_text(match)} isn't carried over")
+    for key in ("acquired", "reservation"):
+        if place.get(key) not in NOTHING:
+            lab.note(where, f"{key} {place[key]} isn't carried over: the board is nobody's")
+    for user in _items(place.get("allowed")):
+        lab.note(where, f"allowed {user} isn't carried over: a board is its holder's alone")
+    for key in place:
+        if key not in KNOWN and place[key] not in NOTHING:
+            note = lab.note_usual if key in TIMES else lab.note
+            note(where, f"{key} {place[key]} isn't carried over")
+
+
+def _items(value: Any) -> List[Any]:
+    return value if isinstance(value, list) else []
+
+
+def _match_text(match: Any) -> str:
+    """A match as labgrid prints it: exporter, group, class, and the resource's name."""
+    if not isinstance(match, dict):
+        return str(match)
+    words = [match.get(key) or "*" for key in ("exporter", "group", "cls")]
+    text = "/".join(words + ([match["name"]] if match.get("name") not in NOTHING else []))
+    return text + (f" -> {match['rename']}" if match.get("rename") not in NOTHING else "")

@@ -1,0 +1,187 @@
+"""A lab file that is written from what another system knows of its boards, and what couldn't be
+carried over."""
+import argparse
+import os
+import re
+import sys
+from typing import Callable, Dict, Iterable, List, NamedTuple, Optional, Tuple
+
+from fizgruk._tools import parsers
+from fizgruk.bounds import (
+    MOST_BOARDS,
+    MOST_OF_A_TYPE,
+    MOST_TAGS,
+    MOST_TYPES,
+    NAME,
+    TAG_KEY,
+    TAG_VALUE,
+)
+
+CARRIED, NOT_CARRIED, FAULT = 0, 1, 4
+LEFT_OUT = "The lab file is written, and standard error says what was left out, a line each."
+
+
+class Unreadable(Exception):
+    """What is to be read isn't of its kind."""
+
+
+class Note(NamedTuple):
+    """Something that couldn't be carried over, and whether every file of its kind has the like."""
+
+    text: str
+    usual: bool
+
+
+def statuses_of(fault: str) -> parsers.Statuses:
+    """The exit statuses of a program that writes a lab file; `fault` says when it can't."""
+    done = "Nothing that matters was left out."
+    return (("0", done), ("1", LEFT_OUT), ("2", "Bad words."), ("4", fault))
+
+
+def parser_of(program: str, about: str, statuses: parsers.Statuses) -> parsers.Parser:
+    """The parser of a program that writes a lab file, with the options that each has."""
+    parser = parsers.parser_of(program, about, statuses)
+    about = "The lab file; without it, the output."
+    parser.add_argument("--output", metavar="FILE", help=about)
+    about = "Tell also what is left out of every file."
+    parser.add_argument("--verbose", action="store_true", help=about)
+    return parser
+
+
+def status_of(
+    program: str,
+    lab_of: Callable[[argparse.Namespace], "LabFile"],
+    options: argparse.Namespace,
+) -> int:
+    """Writes the lab file that `lab_of` gives for the options. Returns the exit status."""
+    try:
+        return write(program, lab_of(options), options)
+    except (Unreadable, OSError, UnicodeDecodeError) as fault:
+        print(f"{program}: {fault}", file=sys.stderr)
+        return FAULT
+
+
+class LabFile:
+    """Types and boards in the words that the desk takes. Whatever doesn't fit is noted, as `WHERE:
+    WHAT`."""
+
+    def __init__(self) -> None:
+        self.types: Dict[str, Tuple[str, int]] = {}
+        self.boards: Dict[str, Tuple[str, List[str], Optional[str]]] = {}
+        self.notes: List[Note] = []
+        # Lines of comment: at the head of the file, and over a type or a board ("types", its name).
+        self.head: List[str] = []
+        self.remarks: Dict[Tuple[str, str], str] = {}
+
+    def note(self, where: str, what: str) -> None:
+        self.notes.append(Note(f"{where}: {what}", False))
+
+    def note_usual(self, where: str, what: str) -> None:
+        """Notes what is left out of every file of its kind."""
+        self.notes.append(Note(f"{where}: {what}", True))
+
+    def add_type(self, where: str, name: str, check: str = "none", every: int = 0) -> str:
+        """Adds a type with its check, where it isn't there already. Returns its name in the lab
+        file."""
+        word = self._word(where, "type", name, NAME)
+        self.types.setdefault(word, (check, every))
+        return word
+
+    def check_type(self, name: str, hours: int) -> None:
+        """Lets the boards of a type be checked every so many hours."""
+        self.types[name] = ("hours", hours)
+
+    def add_board(
+        self,
+        where: str,
+        name: str,
+        kind: str,
+        tags: Iterable[str],
+        health: Optional[str] = None,
+    ) -> None:
+        """Adds a board of a type that was added, with its tags as texts `key` or `key=value`, and
+        its health, which `farm import` passes over."""
+        word = self._word(where, "board", name, NAME)
+        if word in self.boards:
+            self.note(where, f"board {name} isn't carried over: there is a {word} already")
+            return
+        kept = sorted(it for it in {self._tag(where, it) for it in tags} if it is not None)
+        for tag in kept[MOST_TAGS:]:
+            self.note(where, f"tag {tag} isn't carried over: a board has {MOST_TAGS} tags at most")
+        self.boards[word] = (kind, kept[:MOST_TAGS], health)
+
+    def text(self) -> str:
+        """The lab file."""
+        lines = [f"# {it}" for it in self.head] + ([""] if self.head else [])
+        for name, (check, every) in sorted(self.types.items()):
+            lines += [*self._remark("types", name), f"[types.{_key(name)}]"]
+            lines += [f'check = "{check}"', f"every = {every}"] if check != "none" else []
+            lines += [""]
+        for name, (kind, tags, health) in sorted(self.boards.items()):
+            listed = ", ".join(f'"{it}"' for it in tags)
+            lines += [*self._remark("boards", name), f"[boards.{_key(name)}]"]
+            lines += [f'type = "{kind}"', f"tags = [{listed}]"]
+            lines += [f'health = "{health}"', ""] if health else [""]
+        return "\n".join(lines)
+
+    def _remark(self, kind: str, name: str) -> List[str]:
+        remark = self.remarks.get((kind, name))
+        return [f"# {remark}"] if remark else []
+
+    def note_limits(self) -> None:
+        """Notes what a farm has no room for, where `farm import` will stop."""
+        kinds = [board[0] for board in self.boards.values()]
+        for what, most, found in [
+            ("types", MOST_TYPES, len(self.types)),
+            ("boards", MOST_BOARDS, len(self.boards)),
+            *(
+                (
+                    f"boards of type {it}", MOST_OF_A_TYPE, kinds.count(it)
+                ) for it in sorted(set(kinds))
+            ),
+        ]:
+            if found > most:
+                self.note("lab file", f"it has {found} {what}, and a farm has room for {most}")
+
+    def _word(self, where: str, what: str, text: str, longest: int) -> str:
+        """A text as a word of the desk's."""
+        word = re.sub("[^A-Za-z0-9_.-]", "-", text)[:longest] or "-"
+        if word != text:
+            self.note(where, f"{what} {text!r} isn't carried over as it is: it is {word}")
+        return word
+
+    def _tag(self, where: str, text: str) -> Optional[str]:
+        """A tag as the desk takes it, or None where it takes none such."""
+        key, equals, value = text.partition("=")
+        if key == "name":
+            self.note(
+                where, f"tag {text} isn't carried over: a board's name is its tag of this key"
+            )
+            return None
+        if equals and not value:
+            self.note(where, f"tag {text} isn't carried over as it is: it is {key}")
+        word = self._word(where, "tag", key, TAG_KEY)
+        if not value:
+            return word
+        return f"{word}={self._word(where, f'value of tag {key}', value, TAG_VALUE)}"
+
+
+def _key(name: str) -> str:
+    return name if re.fullmatch("[A-Za-z0-9_-]+", name) else f'"{name}"'
+
+
+def write(program: str, lab: LabFile, options: argparse.Namespace) -> int:
+    """Writes a lab file to a file, or the output, and tells what wasn't carried over. Returns the
+    exit status."""
+    lab.note_limits()
+    if options.output is None:
+        sys.stdout.write(lab.text())
+        sys.stdout.flush()
+    else:
+        with open(f"{options.output}.new", "w", encoding="utf-8") as file:
+            file.write(lab.text())
+        os.replace(f"{options.output}.new", options.output)
+    for note in lab.notes:
+        if options.verbose or not note.usual:
+            print(f"{program}: {note.text}", file=sys.stderr)
+    return CARRIED if all(note.usual for note in lab.notes) else NOT_CARRIED

@@ -1,0 +1,1 @@
+"""farm-metrics: what a desk shows, in Prometheus' text format."""

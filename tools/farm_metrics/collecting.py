@@ -1,0 +1,214 @@
+"""What is counted of a farm: by the desk's views that don't grow with the farm's age, and by the
+lines that the dispatcher's history has got since they were counted last."""
+import json
+import os
+import time
+from typing import Any, Dict, List, Optional
+
+from farm_metrics.prometheus import COUNTER, GAUGE, Family, one
+from fizgruk import calls
+from fizgruk._tools import disk, passes
+from fizgruk.bounds import MOST_BOARDS, MOST_JOBS, MOST_RESERVATIONS, MOST_TYPES
+
+HEALTHS = ("Good", "Bad", "Unknown", "Maintenance", "Retired")
+STATES = ("Idle", "Reserved", "Running")
+KINDS = ("group", "reservation")
+OUTCOMES = ("Complete", "Incomplete", "Infra", "Canceled")
+# How many rows a farm takes, of the tables whose rows the desk counts.
+LIMITS = {
+    "types": MOST_TYPES, "boards": MOST_BOARDS,
+    "jobs": MOST_JOBS, "reservations": MOST_RESERVATIONS,
+}
+
+
+class Collector:
+    """Counts, and keeps what the next count needs: since when a claim is seen, and how far the
+    history was read."""
+
+    def __init__(self, desk: calls.Desk, history: str, counted: str, state: Optional[str]):
+        """`history` and `counted` are the dispatcher's files of jobs that ended and of passes, and
+        `state` the file that keeps what the next process needs."""
+        self.desk = desk
+        self.passes = Passes(counted)
+        self.state = state
+        found = _state_in(state)
+        self.count = int(found.get("count", 0))
+        self.seen: Dict[str, float] = dict(found.get("seen", {}))
+        self.history = History(history, found.get("history", {}))
+        self.trouble = ""  # why the desk isn't told of
+        self.lost = ""  # why the next process doesn't know what this one does
+
+    def families(self) -> List[Family]:
+        """All metrics, as of now."""
+        families = self._of_the_desk()
+        families.extend(self.passes.families())
+        families.extend(self.history.families())
+        self._keep()
+        return families
+
+    def _of_the_desk(self) -> List[Family]:
+        try:
+            status = self.desk.look("/status")
+            boards = self.desk.look("/boards")["boards"]
+            queue = self.desk.look("/queue")["queue"]
+        except (calls.NoAnswer, calls.Refused) as fault:
+            self.trouble = str(fault)
+            return [_up(0)]
+        self.trouble = ""
+        return [_up(1), boards_of(boards), *self._claims(status, queue), *_of_status(status)]
+
+    def _claims(self, status: Dict[str, int], queue: List[Dict[str, Any]]) -> List[Family]:
+        """The claims that wait, and since when the oldest is seen: the desk doesn't tell when one
+        was made, but numbers grow."""
+        now = time.time()
+        former = self.seen if status["count"] >= self.count else {}  # else it is the next farm
+        self.count = status["count"]
+        self.seen = {str(it["number"]): former.get(str(it["number"]), now) for it in queue}
+        since = self.seen[min(self.seen, key=int)] if queue else now
+        waiting = [({"kind": kind}, sum(it["kind"] == kind for it in queue)) for kind in KINDS]
+        about = "Claims that wait for boards."
+        age = "Seconds since the oldest claim that waits was first seen here."
+        return [
+            Family("fizgruk_claims_waiting", GAUGE, about, waiting),
+            one("fizgruk_oldest_claim_age_seconds", GAUGE, age, max(0.0, now - since)),
+        ]
+
+    def _keep(self) -> None:
+        if self.state is None:
+            return
+        self.lost = ""
+        kept = {"count": self.count, "seen": self.seen, "history": self.history.state()}
+        try:
+            disk.write_whole(self.state, json.dumps(kept), 0o600)
+        except OSError as fault:
+            self.lost = str(fault)
+
+
+class Passes:
+    """How many passes there were, and since when there is none, as the dispatcher notes it."""
+
+    def __init__(self, file: str):
+        self.file = file
+        self.trouble = ""
+
+    def families(self) -> List[Family]:
+        """What there is to tell; without the dispatcher's file, why there is nothing."""
+        name, about = "fizgruk_passes_total", "Passes that the dispatcher asked for."
+        self.trouble = ""
+        try:
+            found = passes.passes_in(self.file)
+        except FileNotFoundError:
+            return [Family(name, COUNTER, f"{about} None are counted: no {self.file}.", [])]
+        except (OSError, ValueError) as fault:
+            self.trouble = str(fault)
+            return []
+        age = max(0.0, time.time() - found.at)
+        return [
+            one(name, COUNTER, about, found.count),
+            one("fizgruk_last_pass_age_seconds", GAUGE, "Seconds since the last of them.", age),
+        ]
+
+
+class History:
+    """How many jobs ended how, by the dispatcher's history."""
+
+    def __init__(self, file: str, state: Dict[str, Any]):
+        self.file = file
+        self.inode = int(state.get("inode", 0))
+        self.offset = int(state.get("offset", 0))
+        self.outcomes: Dict[str, int] = dict(state.get("outcomes", {}))
+        self.trouble = ""
+
+    def state(self) -> Dict[str, Any]:
+        return {"inode": self.inode, "offset": self.offset, "outcomes": self.outcomes}
+
+    def families(self) -> List[Family]:
+        """What there is to tell; nothing where there is no history."""
+        self.trouble = ""
+        try:
+            self._read()
+        except FileNotFoundError:
+            pass
+        except OSError as fault:
+            self.trouble = str(fault)
+        if not self.inode:
+            return []
+        names = [*OUTCOMES, *sorted(self.outcomes.keys() - set(OUTCOMES))]
+        counts = [({"outcome": name}, self.outcomes.get(name, 0)) for name in names]
+        return [Family("fizgruk_jobs_ended_total", COUNTER, "Jobs that ended.", counts)]
+
+    def _read(self) -> None:
+        """Counts the whole lines that are new; a file that is another one, or was cut, is read from
+        its beginning."""
+        with open(self.file, "rb") as lines:
+            found = os.fstat(lines.fileno())
+            if found.st_ino != self.inode or found.st_size < self.offset:
+                self.inode, self.offset = found.st_ino, 0
+            lines.seek(self.offset)
+            for line in lines:
+                if not line.endswith(b"\n"):
+                    break
+                self.offset += len(line)
+                outcome = _outcome_of(line)
+                if outcome:
+                    self.outcomes[outcome] = self.outcomes.get(outcome, 0) + 1
+
+
+def _outcome_of(line: bytes) -> str:
+    """How a job ended of which a line is; nothing of other lines."""
+    try:
+        row = json.loads(line)
+    except ValueError:
+        return ""
+    return str(row.get("outcome", "")) if isinstance(row, dict) and row.get("kind") == "job" else ""
+
+
+def _state_in(file: Optional[str]) -> Dict[str, Any]:
+    """What an earlier process kept; nothing where there is none, or it can't be read."""
+    if file is None:
+        return {}
+    try:
+        with open(file, encoding="utf-8") as text:
+            found = json.load(text)
+    except (OSError, ValueError):
+        return {}
+    return found if isinstance(found, dict) else {}
+
+
+# ---- by the desk's views
+
+
+def _up(value: int) -> Family:
+    return one("fizgruk_up", GAUGE, "Whether the desk answers.", value)
+
+
+def boards_of(boards: List[Dict[str, Any]]) -> Family:
+    """How many boards there are of each type, health and state."""
+    counts = {
+        (kind, health, state): 0
+        for kind in sorted({it["type"] for it in boards})
+        for health in HEALTHS
+        for state in STATES
+    }
+    for it in boards:
+        key = (it["type"], it["health"], it["state"])
+        counts[key] = counts.get(key, 0) + 1
+    samples = [
+        ({"type": kind, "health": health, "state": state}, count)
+        for (kind, health, state), count in counts.items()
+    ]
+    return Family("fizgruk_boards", GAUGE, "Boards.", samples)
+
+
+def _of_status(status: Dict[str, int]) -> List[Family]:
+    rows = [({"table": it}, status[it]) for it in LIMITS]
+    limits = [({"table": it}, most) for it, most in LIMITS.items()]
+    age = "Seconds since the last command; below 0 the farm's clock is ahead."
+    collects = "Number of the group that collects boards, 0 while none does."
+    return [
+        one("fizgruk_collecting_group", GAUGE, collects, status["collector"]),
+        one("fizgruk_commands_total", COUNTER, "Commands that were accepted.", status["count"]),
+        one("fizgruk_last_command_age_seconds", GAUGE, age, time.time() - status["clock"]),
+        Family("fizgruk_rows", GAUGE, "Rows that the farm has.", rows),
+        Family("fizgruk_rows_limit", GAUGE, "Rows that the farm can have.", limits),
+    ]

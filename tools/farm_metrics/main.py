@@ -1,0 +1,175 @@
+"""farm-metrics: what a desk shows, in Prometheus' text format."""
+import argparse
+import http.server
+import os
+import sys
+import threading
+from typing import Optional, Sequence
+
+from farm_metrics import collecting, prometheus
+from fizgruk import calls
+from fizgruk._tools import disk, interrupts, parsers, passes, settings
+
+PROGRAM = "farm-metrics"
+FAULT = 4
+LONGEST_LOOK = 5.0  # seconds that the desk has for an answer
+STALLED = 10  # seconds that a client has for its request
+HISTORY = "/var/lib/farm-dispatch/history.jsonl"
+ABOUT = """\
+Asks a desk for its status, its boards and its queue, and prints once, in Prometheus' text format, \
+what it counts. With --textfile it writes that into a file of node_exporter's textfile folder, by \
+a rename; with --listen it serves it on 127.0.0.1, and asks the desk at each request, whose \
+address it tells first on standard error. It asks for \
+no view that grows with the farm's age."""
+STATUSES = (
+    ("0", "Done; --listen: it was ended by a signal."),
+    ("2", "Bad words, or a setting that there isn't."),
+    (
+        "4",
+        "No answer from the desk (what is printed says 'fizgruk_up 0'), bad settings, or a file or "
+        "a port that can't be used.",
+    ),
+)
+
+
+def main(words: Optional[Sequence[str]] = None) -> int:
+    options = options_of(words)
+    try:
+        interrupts.catch_signals()
+        desk = calls.Desk(settings.read_settings("desk", options, "metrics"), patience=0)
+        desk.timeout = min(desk.timeout, LONGEST_LOOK)
+        state = options.state or (options.textfile and f"{options.textfile}.state")
+        beside = os.path.join(os.path.dirname(options.history), passes.FILE)
+        counted = options.passes or beside
+        metrics = Metrics(collecting.Collector(desk, options.history, counted, state))
+        if options.listen is not None:
+            tell(f"asks the desk at {desk.server}")
+            listen(metrics, options.listen)
+        text = metrics.text()
+        if options.textfile:
+            disk.write_whole(options.textfile, text)
+        else:
+            print(text, end="", flush=True)
+        return FAULT if metrics.collector.trouble or metrics.collector.lost else 0
+    except interrupts.Interrupted as interrupted:
+        return 0 if options.listen is not None else interrupted.status
+    except (settings.BadSettings, OSError) as fault:
+        tell(str(fault))
+        return FAULT
+
+
+def parser_of() -> parsers.Parser:
+    parser = parsers.parser_of(PROGRAM, ABOUT, STATUSES)
+    rest = "[--history FILE] [--passes FILE] [--state FILE] [settings]"
+    parser.forms = (
+        f"{PROGRAM} [--textfile PATH] {rest}",
+        f"{PROGRAM} --listen PORT {rest}",
+    )
+    where = parser.add_mutually_exclusive_group()
+    about = "Write this file in place of the output; its name has to end with '.prom'."
+    where.add_argument("--textfile", metavar="PATH", help=about)
+    about = """\
+Serve http://127.0.0.1:PORT/metrics, and print 'listening PORT' first; 0 takes a port that is
+free."""
+    where.add_argument("--listen", metavar="PORT", type=_port, help=about)
+    about = """\
+The dispatcher's history (default %(default)s). It is read once, and then each time only what is
+new."""
+    parser.add_argument("--history", metavar="FILE", default=HISTORY, help=about)
+    about = f"""\
+How many passes the dispatcher asked for, and when the last (default {passes.FILE} in the folder of
+the history)."""
+    parser.add_argument("--passes", metavar="FILE", help=about)
+    about = """\
+What is kept for the next time: since when claims are seen, and the counts of the history (default
+PATH.state with --textfile; else nothing is kept)."""
+    parser.add_argument("--state", metavar="FILE", help=about)
+    timeout = "How long a network call may wait, 5 at most (default 5)."
+    settings.add_options(
+        parser, "desk", "default metrics, which the desk lets look", timeout=timeout
+    )
+    return parser
+
+
+def options_of(words: Optional[Sequence[str]]) -> argparse.Namespace:
+    return parser_of().parse_args(words)
+
+
+def _port(text: str) -> int:
+    port = int(text)
+    if not 0 <= port <= 65535:
+        raise ValueError
+    return port
+
+
+def tell(text: str) -> None:
+    print(f"{PROGRAM}: {text}", file=sys.stderr, flush=True)
+
+
+class Metrics:
+    """The text of a collector's metrics, for one client after another; each trouble is told
+    once."""
+
+    def __init__(self, collector: collecting.Collector):
+        self.collector = collector
+        self.lock = threading.Lock()
+        self.told: Sequence[str] = ()
+
+    def text(self) -> str:
+        with self.lock:
+            text = prometheus.text_of(self.collector.families())
+            self._tell()
+            return text
+
+    def _tell(self) -> None:
+        troubles = []
+        if self.collector.trouble:
+            server = self.collector.desk.server
+            troubles.append(f"no answer from the desk at {server}: {self.collector.trouble}")
+        if self.collector.passes.trouble:
+            troubles.append(f"passes aren't counted: {self.collector.passes.trouble}")
+        if self.collector.history.trouble:
+            troubles.append(f"jobs aren't counted: {self.collector.history.trouble}")
+        if self.collector.lost:
+            troubles.append(f"nothing is kept for the next time: {self.collector.lost}")
+        for it in troubles:
+            if it not in self.told:
+                tell(it)
+        if self.told and not troubles:
+            tell("it goes on")
+        self.told = troubles
+
+
+def listen(metrics: Metrics, port: int) -> None:
+    """Serves the metrics until a signal comes."""
+
+    class Handler(http.server.BaseHTTPRequestHandler):
+        """One client's requests."""
+
+        protocol_version = "HTTP/1.1"
+        timeout = STALLED
+
+        def do_GET(self) -> None:  # the name that http.server calls
+            if self.path.partition("?")[0] != "/metrics":
+                self.send_error(404)
+                return
+            try:
+                self._answer(metrics.text().encode())
+            except OSError as fault:  # a client that went, or a disk that is full
+                tell(str(fault))
+                self.close_connection = True
+
+        def _answer(self, body: bytes) -> None:
+            self.send_response(200)
+            self.send_header("content-type", prometheus.CONTENT)
+            self.send_header("content-length", str(len(body)))
+            self.end_headers()
+            self.wfile.write(body)
+
+        def log_message(self, *_: object) -> None:
+            """Says nothing of a request."""
+
+    with http.server.ThreadingHTTPServer(("127.0.0.1", port), Handler) as server:
+        server.daemon_threads = True
+        print(f"listening {server.server_port}", flush=True)
+        server.serve_forever()

@@ -1,1 +1,0 @@
-"""What the tools around the desk of a board farm share."""
