@@ -2,7 +2,7 @@
 
 The board is emulated: qemu, a kernel of Debian's, and an initramfs with busybox's shell. The kernel is
 the newest that may be read in /boot, or the one named by FARM_TEST_KERNEL. lava-run works as root alone,
-and keeps what a job deploys in one folder of the machine, so its tests go one after another.
+and keeps what jobs deploy in one folder of the machine, below which each dispatcher has names of its own.
 """
 from __future__ import annotations
 
@@ -225,9 +225,7 @@ class Way(NamedTuple):
 
 
 WAYS = {"labgrid": Way("env.yaml", ENVIRONMENT, labgrid_jobs), "lava": Way("q1.yaml", DEVICE, lava_jobs)}
-BY_LABGRID = pytest.param("labgrid")
-BY_LAVA = pytest.param("lava", marks=pytest.mark.xdist_group("lava"))
-each_way = pytest.mark.parametrize("way", [BY_LABGRID, BY_LAVA])
+each_way = pytest.mark.parametrize("way", ["labgrid", "lava"])
 
 
 def runs_python(line: str) -> bool:
@@ -304,11 +302,28 @@ def test_cancel(way: str, lab: Lab, folder: str) -> None:
     lab.submit(WAYS[way].jobs(lab.board, os.path.join(folder, "gone"))["stays"].text)
     wait_until("the board is up", lambda: "the board is up" in lab.said("console_main") + lab.said("log"), 600)
     assert len(lab.board.processes()) == 1
+    if way == "lava":
+        assert deployed_in(os.path.join(lab.folder, "jobs", "1")) == 1
     lab.farm.tell("ann", "/jobs/1/cancel")
     assert lab.ends() == "Canceled"
     assert "SIGKILL" not in lab.said("log")
     lab.dispatcher.send(signal.SIGTERM)
     assert lab.dispatcher.ends() == 0
+
+
+def deployed_in(folder: str) -> int:
+    """How many folders of the machine are those that LAVA uses for the job of a folder."""
+    prefix = read(os.path.join(folder, "dispatcher.yaml")).split(": ")[1].strip()
+    return os.listdir("/var/lib/lava/dispatcher/tmp").count(f"{prefix}{os.path.basename(folder)}")
+
+
+@pytest.mark.usefixtures("debians_python")
+def test_lava_folders(folder: str) -> None:
+    """Jobs of one number have a folder each below LAVA's where their dispatchers have a folder each."""
+    prefix_of = runpy.run_path(os.path.join(TOP, "examples", "run-job-lava"))["prefix_of"]
+    prefixes = {prefix_of(os.path.join(folder, it, "jobs", "1")) for it in ("berlin", "paris")}
+    assert len(prefixes) == 2
+    assert prefix_of(os.path.join(folder, "berlin", "jobs", "2")) in prefixes
 
 
 # ---- health checks
@@ -440,7 +455,6 @@ def test_labgrid_environment(file: str, folder: str) -> None:
     assert status_of("labgrid", folder, "[labgrid]\ntest = 'def test(): pass'\n") == 75
 
 
-@pytest.mark.xdist_group("lava")
 @pytest.mark.slow(10)
 @pytest.mark.parametrize("of_device, of_job, status", [
     (("", ""), ("job_name: boots", "job_name: [boots"), 1),
