@@ -338,8 +338,11 @@ class Watched:
         return json.loads(ran.stdout.partition(b"\r\n\r\n")[2])
 
 
+Labs = Callable[..., Watched]
+
+
 @contextlib.contextmanager
-def watched_farms(program: str, room: str) -> Iterator[Callable[..., Watched]]:
+def watched_farms(program: str, room: str) -> Iterator[Labs]:
     """Makes farms that are watched, by their rules and what else is wanted of them, and ends them."""
     made: List[Watched] = []
 

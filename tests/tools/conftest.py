@@ -10,6 +10,7 @@ from browser import Browser, Visit, wants_a_browser
 from nginx_site import Site
 from pages import BOARDS, HOUR, Lab, begin_at
 from served import Board, Farm
+from watched import Labs, watched_farms
 
 
 @pytest.fixture(scope="session")
@@ -62,3 +63,10 @@ def make_site(folder: str) -> Callable[..., Site]:
         return Site(farm, folder, changes)
 
     return make
+
+
+@pytest.fixture
+def watched(program: str, folder: str) -> Iterator[Labs]:
+    """Makes farms that farm-watch looks at."""
+    with watched_farms(program, folder) as make:
+        yield make

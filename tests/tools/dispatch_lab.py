@@ -32,6 +32,22 @@ AT_IT = "while true; do sleep 0.1; done"
 BOARDS: List[Board] = [(f"b{place}", "bbb", ["serial"]) for place in range(1, 7)]
 TWO = "job_name = 'two'\nrun = '{}'\n[roles.a]\ndevice_type = 'bbb'\ncount = 2\n"
 CAGES = ("cgroup", "namespace", "none")
+# Runs CODE in the place of farm-dispatch's runner.
+RUNNER = """
+import subprocess
+was = subprocess.Popen
+def popen(words, **more):
+    if "farm_dispatch.runner" in words:
+        place = words.index("farm_dispatch.runner")
+        words = [words[0], "-c", CODE, "-m", *words[place:]]
+    return was(words, **more)
+groups.subprocess.Popen = popen
+"""
+
+
+def runner_of(code: str) -> str:
+    """A patch of a dispatcher whose runners are this code."""
+    return f"CODE = {code!r}\n{RUNNER}"
 
 
 class Lab:

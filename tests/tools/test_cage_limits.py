@@ -8,7 +8,7 @@ import subprocess
 from typing import Dict, Iterator, List
 
 import pytest
-from dispatch_lab import Lab, MakeLab, end_commands, jobs_of, replace
+from dispatch_lab import Lab, MakeLab, end_commands, jobs_of, replace, runner_of
 from dispatch_lab import make_lab_fixture  # noqa: F401
 from farm_dispatch import cage_limits, cages
 from served import TOOLS, read, wait_until
@@ -27,16 +27,6 @@ def after(self, word):
 runner.Ends.after = after
 cages.is_empty = lambda mark, cage: True
 sys.exit(runner.main(sys.argv[2:]))
-"""
-PATCH = """
-import subprocess
-was = subprocess.Popen
-def popen(words, **more):
-    if "farm_dispatch.runner" in words:
-        place = words.index("farm_dispatch.runner")
-        words = [words[0], "-c", CODE, "-m", *words[place:]]
-    return was(words, **more)
-groups.subprocess.Popen = popen
 """
 EVENTS = "low 0\nhigh 0\nmax 3\noom 1\noom_kill {}\noom_group_kill 0\n"
 KILLED, REFUSED = "the kernel killed a process for lack of memory", "a process couldn't be started: the limit is 40"
@@ -110,7 +100,7 @@ def test_the_log_and_the_reason_say_it(
     os.environ["CGROUP"] = str(own)
     try:
         code = RUNNER.format(tools=TOOLS)
-        tool = lab.patched(f"CODE = {code!r}\n{PATCH}", "--cage", "none")
+        tool = lab.patched(runner_of(code), "--cage", "none")
         assert lab.finished(number) == result
         wait_until("its line", lambda: jobs_of(lab))
     finally:

@@ -13,7 +13,7 @@ import time
 from typing import Dict, List, Optional, Tuple
 
 import pytest
-from dispatch_lab import BOARDS, CAGES, Lab, MakeLab, Proxy, end_commands, jobs_of
+from dispatch_lab import BOARDS, CAGES, Lab, MakeLab, Proxy, end_commands, jobs_of, runner_of
 from dispatch_lab import lab_fixture, make_lab_fixture  # noqa: F401
 from farm_dispatch import cages
 from served import STARTED, TOOLS, Tool, environment, read, wait_until
@@ -111,16 +111,6 @@ def started(self, *words):
 cages._Keeper._started = started
 from farm_dispatch import runner
 sys.exit(runner.main(sys.argv[2:]))
-"""
-DIES_BEFORE_IT_TELLS = """
-import subprocess
-was = subprocess.Popen
-def popen(words, **more):
-    if "farm_dispatch.runner" in words:
-        place = words.index("farm_dispatch.runner")
-        words = [words[0], "-c", CODE, "-m", *words[place:]]
-    return was(words, **more)
-groups.subprocess.Popen = popen
 """
 
 
@@ -596,7 +586,7 @@ def test_killed_keeper(make_lab: MakeLab, cage: str) -> None:
     lab = make_lab(ONE)
     number = lab.farm.submit(lab.sleeps(306))
     code = KEEPER_DIES.format(tools=TOOLS)
-    tool = lab.patched(f"CODE = {code!r}\n{DIES_BEFORE_IT_TELLS}", "--cage", cage)
+    tool = lab.patched(runner_of(code), "--cage", cage)
     lab.begun(number)
     assert lab.finished(number) == "Infra"
     assert (lab.begins(number), lab.sleepers(306)) == (1, [])

@@ -10,24 +10,17 @@ import sqlite3
 import subprocess
 import sys
 import time
-from typing import Callable, Dict, Iterator, List, Tuple
+from typing import Dict, List, Tuple
 
 import pytest
 from desks import GROUP, write
 from served import TOOLS, TOP, Tool, environment, wait_until
 from wants import wants
-from watched import HOUR, Watched, watched_farms
+from watched import HOUR, Labs, Watched
 
 WATCH = os.path.join(TOOLS, "farm-watch")
 MAIL = "[mail]\nfrom = 'farm@lab.example'\nto = '{owner}@lab.example'\nadmin = 'l@lab.example'\n"
 JOBS = "[job]\nended = true\n"
-Labs = Callable[..., Watched]
-
-
-@pytest.fixture
-def watched(program: str, folder: str) -> Iterator[Labs]:
-    with watched_farms(program, folder) as make:
-        yield make
 
 
 def at(owner: str) -> str:

@@ -8,11 +8,11 @@ import signal
 import subprocess
 import sys
 import time
-from typing import Any, Callable, Dict, Iterator, List, Sequence, Tuple
+from typing import Any, Dict, List, Sequence, Tuple
 
 import pytest
 from served import STARTED, TOOLS, Tool, environment, wait_until
-from watched import HOUR, Watched, watched_farms
+from watched import HOUR, Labs, Watched
 
 JOBS = "[job]\nended = true\n"
 # Runs farm-watch, and kills it at the COUNT-th of its places: each statement that its SQLite
@@ -38,14 +38,7 @@ runpy.run_path(sys.argv[0], run_name="__main__")
 HOLDS, TURN = 10, 60  # holds, and seconds by which the farm's clock moves from kill to kill
 # How often it is killed, and how often at least by each way and in all; with FARM_FULL=1 more often.
 KILLS, EACH, ALL = (45, 8, 30) if os.environ.get("FARM_FULL") == "1" else (24, 4, 16)
-Labs = Callable[..., Watched]
 Told = List[Tuple[str, str]]
-
-
-@pytest.fixture
-def watched(program: str, folder: str) -> Iterator[Labs]:
-    with watched_farms(program, folder) as make:
-        yield make
 
 
 def ended(number: int) -> str:

@@ -6,19 +6,10 @@ import pathlib
 from typing import Any, Dict, List, Optional
 
 import pytest
+from hand_clock import NOW, Clock
 from farm_metrics import collecting
 from farm_metrics.collecting import Collector, History, boards_of
 from fizgruk import calls
-
-NOW = 1_800_000_000
-
-
-class Clock:
-    def __init__(self) -> None:
-        self.at = float(NOW)
-
-    def time(self) -> float:
-        return self.at
 
 
 @pytest.fixture

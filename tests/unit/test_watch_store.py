@@ -4,30 +4,12 @@ from __future__ import annotations
 import os
 import sqlite3
 import tempfile
-import time
 from typing import Any, Iterator, List, Tuple
 
 import pytest
+from hand_clock import NOW, Clock
 from farm_watch import store as watch_store, tell as watch_tell
 from farm_watch.store import DAY, Delivery, Event, Store, nothing, wait_after
-
-NOW = 1_800_000_000
-
-
-class Clock:
-    """A clock in the place of the module `time`, which is set by hand."""
-
-    def __init__(self) -> None:
-        self.at = float(NOW)
-
-    def time(self) -> float:
-        return self.at
-
-    def monotonic(self) -> float:
-        return self.at
-
-    def __getattr__(self, name: str) -> Any:
-        return getattr(time, name)
 
 
 @pytest.fixture

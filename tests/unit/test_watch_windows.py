@@ -3,35 +3,18 @@ from __future__ import annotations
 
 import os
 import tempfile
-import time
 from typing import Any, Dict, Iterator, List, Optional, Sequence, Tuple
 
 import pytest
+from hand_clock import NOW, Clock
 from farm_watch import events as watch_events, holds as watch_holds, passes as watch_passes, watcher
 from farm_watch.rules import Mail, Rules
 from farm_watch.store import Store
 from farm_watch.watcher import Watcher
 from fizgruk import calls
 
-NOW = 1_800_000_000
 HOUR = 3600
 GONE = calls.Refused(404, calls.NO_JOB, "no such job")
-
-
-class Clock:
-    """A clock in the place of the module `time`, which is set by hand."""
-
-    def __init__(self) -> None:
-        self.at = float(NOW)
-
-    def time(self) -> float:
-        return self.at
-
-    def monotonic(self) -> float:
-        return self.at
-
-    def __getattr__(self, name: str) -> Any:
-        return getattr(time, name)
 
 
 class Desk:
