@@ -181,12 +181,12 @@ def test_a_copy_that_cant_be_compared_is_kept(make_farm: Made, folder: str) -> N
 
 
 def test_a_disk_without_room_leaves_the_copies_as_they_are(make_farm: Made, folder: str) -> None:
-    """(The limit is on the size of a file, so the log's end is one that no commit has.)"""
+    """(The limit is on the size of a file, so the file's end is one that no page has.)"""
     farm = make_farm(BOARDS)
     assert backup(farm, folder)[0] == 0
     before = sorted(os.listdir(folder))
     farm.kill()
-    os.truncate(f"{farm.db}-wal", 64 << 20)
+    os.truncate(farm.db, 64 << 20)
     tool, *words = words_of(farm, folder)
     ran = subprocess.run(
         ["sh", "-c", 'ulimit -f 50000; exec "$@"', "sh", sys.executable, os.path.join(TOOLS, tool), *words],
@@ -253,15 +253,14 @@ def test_keep_0_is_refused(make_farm: Made, folder: str) -> None:
     assert backup(make_farm(), folder, "--keep", "0")[0] == 2
 
 
-def test_a_follower_keeps_its_copy_where_earlier_ones_are_of_the_future(
+def test_a_follower_leaves_copies_alone_that_it_didnt_make(
     make_farm: Made, folder: str, start_tool: Callable[..., Tool]
 ) -> None:
-    """Copies that earlier followers made by a clock that was ahead don't let this one remove its own."""
-    make_copies(folder, "farm-20990101T000000Z", "farm-20990102T000000Z", "farm-20990103T000000Z")
+    names = ["farm-20200101T000000Z", "farm-20990102T000000Z"]
+    make_copies(folder, *names)
     follower = start_tool(*words_of(make_farm(), "--follow", folder))
     wait_until("a standby", lambda: read(f"{folder}/as-of"))
     follower.send(signal.SIGTERM)
     assert follower.ends() == 0
     assert os.path.isfile(f"{folder}/farm.db")
-    left = [it for it in copies_in(folder) if it.startswith("farm-2099")]
-    assert left == ["farm-20990103T000000Z"]
+    assert [it for it in copies_in(folder) if it in names] == names

@@ -149,8 +149,9 @@ def test_a_standby_is_served_by_its_name_and_then_left_alone(followed: Tuple[Far
     desk.kill()
     desk.communicate()
     wanted = (
-        f"farm-backup: {folder}/farm.db has {count + 5} commands, and {farm.db} {count}: it was served, or it is "
-        "another farm's; where it isn't wanted, remove it\n"
+        f"farm-backup: {folder}/farm.db has {count + 5} commands, and isn't what was shipped to it from {farm.db}, which "
+        f"were {count}: it was served or changed, and they are two lines of history; neither is touched; name another "
+        "folder, or move it away\n"
     )
     assert backup(farm, "--follow", folder) == (4, "", wanted)
     assert [it for it in os.listdir(folder) if it.startswith(".new-")] == []

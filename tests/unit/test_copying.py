@@ -1,14 +1,15 @@
 """Copies of two files, their names and their order; what is on the disk before it gets its name."""
 from __future__ import annotations
 
+import contextlib
 import os
 import pathlib
 import sqlite3
-import time
+import types
 from typing import Callable, Iterator, List
 
 import pytest
-from farm_backup import copying
+from farm_backup import copying, tail
 from recorded import recorded
 
 MAKE = """\
@@ -78,7 +79,7 @@ def farm(tmp_path: pathlib.Path) -> Iterator[copying.Farm]:
 def no_sleep(monkeypatch: pytest.MonkeyPatch) -> List[float]:
     """The waits, which take no time."""
     waits: List[float] = []
-    monkeypatch.setattr(time, "sleep", waits.append)
+    monkeypatch.setattr(copying, "time", types.SimpleNamespace(sleep=waits.append))
     return waits
 
 
@@ -88,7 +89,7 @@ def place_in(tmp_path: pathlib.Path) -> str:
 
 
 def copied(farm: copying.Farm, place: str, beside: Callable[[], None]) -> List[str]:
-    """Copies, and does something beside it while each file is copied. Returns why it was copied again."""
+    """Copies, and does something beside it once the file is copied. Returns why it was copied again."""
     told: List[str] = []
     copy_file = copying._copy_file
 
@@ -98,31 +99,51 @@ def copied(farm: copying.Farm, place: str, beside: Callable[[], None]) -> List[s
 
     with pytest.MonkeyPatch.context() as patch:
         patch.setattr(copying, "_copy_file", with_more)
-        copying.copied(farm, place, told.append)
+        patch.setattr(tail, "LOOK", 3600)  # all looks are the copier's own
+        copying.copied(farm, place, told.append)[1].close()
     return told
 
 
-def test_a_copy_is_the_two_files(farm: copying.Farm, tmp_path: pathlib.Path) -> None:
-    assert copied(farm, place_in(tmp_path), lambda: None) == []
-    for name in ("farm.db", "farm.db-wal"):
-        assert (tmp_path / "to" / name).read_bytes() == (tmp_path / name).read_bytes()
+def turns_in(place: str) -> List[int]:
+    """What whoever opens a copy finds in it."""
+    with contextlib.closing(sqlite3.connect(f"{place}/farm.db")) as conn:
+        assert conn.execute("pragma integrity_check").fetchall() == [("ok",)]
+        return [it for it, in conn.execute("select turn from turns order by turn")]
 
 
-def test_a_file_that_is_written_meanwhile_is_copied_again(
-    farm: copying.Farm, tmp_path: pathlib.Path, no_sleep: List[float]
+def insert(farm: copying.Farm, turn: int, *more: str) -> None:
+    with contextlib.closing(sqlite3.connect(farm.db, isolation_level=None)) as conn:
+        for words in more:
+            conn.execute(words)
+        conn.execute("insert into turns values (?)", (turn,))
+
+
+def test_a_copy_is_what_the_two_files_hold(farm: copying.Farm, tmp_path: pathlib.Path) -> None:
+    insert(farm, 1)
+    place = place_in(tmp_path)
+    assert copied(farm, place, lambda: None) == []
+    assert (tmp_path / "to" / "farm.db").read_bytes() == (tmp_path / "farm.db").read_bytes()
+    assert turns_in(place) == [1]
+
+
+def test_a_farm_that_grows_and_is_carried_meanwhile_is_copied_at_once(
+    farm: copying.Farm, tmp_path: pathlib.Path
 ) -> None:
-    left = [1]
+    """What was written in the file behind the copier stands in the log that it reads, whose rest stands
+    behind the next one."""
+    for turn in range(200):
+        insert(farm, turn)
+    place = place_in(tmp_path)
 
-    def writes() -> None:
-        if left:
-            left.pop()
-            os.utime(farm.db, ns=(1, 1))
+    def grows() -> None:
+        insert(farm, 200)
+        insert(farm, 201, "pragma wal_checkpoint(restart)")
 
-    assert copied(farm, place_in(tmp_path), writes) == [f"copied again: {farm.db} was written"]
-    assert len(no_sleep) == 1
+    assert copied(farm, place, grows) == []
+    assert turns_in(place) == list(range(202))
 
 
-def test_a_log_that_begins_anew_meanwhile_is_copied_again(
+def test_a_log_that_gets_away_meanwhile_is_copied_again(
     farm: copying.Farm, tmp_path: pathlib.Path, no_sleep: List[float]
 ) -> None:
     left = [1]
@@ -130,20 +151,37 @@ def test_a_log_that_begins_anew_meanwhile_is_copied_again(
     def begins_anew() -> None:
         if left:
             left.pop()
-            conn = sqlite3.connect(farm.db, isolation_level=None)
-            conn.execute("pragma wal_checkpoint(restart)")
-            conn.execute("insert into turns values (1)")
-            conn.close()
+            for turn in (1, 2):
+                insert(farm, turn, "pragma wal_checkpoint(restart)")
 
-    assert copied(farm, place_in(tmp_path), begins_anew) == ["copied again: the log began anew"]
+    place = place_in(tmp_path)
+    assert copied(farm, place, begins_anew) == ["copied again: the log began anew more than once"]
+    assert (len(no_sleep), turns_in(place)) == (1, [1, 2])
+
+
+def test_a_file_in_whose_place_another_is_put_is_copied_again(
+    farm: copying.Farm, tmp_path: pathlib.Path, no_sleep: List[float]
+) -> None:
+    left = [1]
+
+    def replaces() -> None:
+        if left:
+            left.pop()
+            (tmp_path / "other").write_bytes((tmp_path / "farm.db").read_bytes())
+            os.replace(tmp_path / "other", farm.db)
+
+    assert copied(farm, place_in(tmp_path), replaces) == [f"copied again: {farm.db} became another file"]
 
 
 def test_files_that_never_stand_still_are_given_up(
     farm: copying.Farm, tmp_path: pathlib.Path, no_sleep: List[float]
 ) -> None:
-    moments = iter(range(1, 1000))
-    with pytest.raises(copying.NoCopy, match="no copy after 20 tries: .* was written"):
-        copied(farm, place_in(tmp_path), lambda: os.utime(farm.db, ns=(next(moments), 1 + next(moments))))
+    def begins_anew() -> None:
+        for turn in (1, 2):
+            insert(farm, turn, "pragma wal_checkpoint(restart)")
+
+    with pytest.raises(copying.NoCopy, match="^no copy after 20 tries: the log began anew more than once$"):
+        copied(farm, place_in(tmp_path), begins_anew)
     assert no_sleep[:7] == [0.05, 0.1, 0.2, 0.4, 0.8, 1.6, 2.0] and len(no_sleep) == 20
 
 

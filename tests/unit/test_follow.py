@@ -8,10 +8,10 @@ import shutil
 import sqlite3
 import time
 import types
-from typing import BinaryIO, Callable, Iterator, List, Optional
+from typing import BinaryIO, Callable, Iterator, List, Optional, Tuple
 
 import pytest
-from farm_backup import copying, follow, wal
+from farm_backup import copying, follow, standby, tail, wal
 from fizgruk._tools import disk
 
 
@@ -29,8 +29,13 @@ class Pair:
         ):
             self.conn.execute(words)
         (folder / "to").mkdir()
-        copy = copying.copied(self.farm, str(folder / "to"), lambda why: None)
-        self.standby = follow.Standby(self.farm, copy)
+        copy, tailed = copying.copied(self.farm, str(folder / "to"), lambda why: None)
+        tailed.close()
+        self.standby = standby.Standby(copy)
+        self.standby.follow(self.farm.log)
+
+    def ship(self) -> None:
+        self.standby.add(self.standby.take())
 
     def changes(self, turn: int, *places: int) -> None:
         """One commit, which writes a page for each of these rows."""
@@ -62,81 +67,63 @@ def pair(tmp_path: pathlib.Path) -> Iterator[Pair]:
 def test_a_standby_has_what_was_shipped(pair: Pair) -> None:
     pair.changes(1, 1)
     assert pair.turns() == [0, 0, 0]
-    pair.standby.ship()
+    pair.ship()
     assert pair.turns() == [1, 0, 0]
-    pair.standby.ship()
+    pair.ship()
     assert pair.turns() == [1, 0, 0]
 
 
 def test_a_standby_carries_its_log_as_the_desk_does(pair: Pair) -> None:
     """Also the commits of the old log that it hadn't got: their frames stand behind the new one's first."""
     pair.changes(1, 1)
-    pair.standby.ship()
+    pair.ship()
     pair.changes(2, 1, 2, 3)
     pair.carries()
     pair.changes(3, 1)
-    pair.standby.ship()
+    pair.ship()
     assert pair.turns() == [3, 2, 2]
     assert (pair.folder / "to" / "farm.db-wal").stat().st_size < 3 * 4200, "the log was begun anew"
     pair.changes(4, 2)
-    pair.standby.ship()
+    pair.ship()
     assert pair.turns() == [3, 4, 2]
 
 
-def test_a_commit_that_the_standby_missed_shows_in_the_pages_that_it_carries(pair: Pair) -> None:
-    """The new log's frames stand where those of the missed commit stood, so only the pages tell."""
-    pair.standby.ship()
+def test_a_commit_that_the_standby_missed_shows_in_the_frames_written_over(pair: Pair) -> None:
+    """The new log's frames stand where those of the missed commit stood, and where the last one stood that
+    was shipped: so nobody can tell what was between."""
+    pair.ship()
     pair.changes(2, 1)
     pair.carries()
     for turn in range(3, 9):
         pair.changes(turn, 2, 3)
-    with pytest.raises(follow.Anew):
-        pair.standby.ship()
+    with pytest.raises(tail.Anew):
+        pair.ship()
 
 
 def test_a_log_that_began_anew_twice_is_copied_from_its_beginning(pair: Pair) -> None:
     for turn in (1, 2):
         pair.carries()
         pair.changes(turn, 1)
-    with pytest.raises(follow.Anew):
-        pair.standby.ship()
+    with pytest.raises(tail.Anew):
+        pair.ship()
 
 
 def test_a_standby_that_another_wrote_isnt_followed_on(pair: Pair) -> None:
     with open(pair.folder / "to" / "farm.db-wal", "ab") as log:
         log.write(b"x")
-    with pytest.raises(follow.InUse):
-        pair.standby.ship()
+    with pytest.raises(standby.InUse):
+        pair.ship()
 
 
-# ---- a follower over a former standby
-
-
-def follower(tmp_path: pathlib.Path, monkeypatch: pytest.MonkeyPatch, former: int, here: int) -> follow.Follower:
-    """A follower of a farm of `here` commands, whose folder has a standby of `former`."""
-    (tmp_path / "farm.db").write_text("")
-    counts = {"standby": former, "copy": here}
-    monkeypatch.setattr(copying.Farm, "count", lambda farm: counts[pathlib.Path(farm.db).parent.name])
-    for name in counts:
-        (tmp_path / name).mkdir()
-        (tmp_path / name / "farm.db").write_text("")
-    farm = copying.Farm(str(tmp_path / "farm.db"), "false")
-    return follow.Follower(farm, str(tmp_path / "standby"), 1, lambda text: None)
-
-
-@pytest.mark.parametrize("former, here", [(3, 9), (9, 9), (10, 9)])
-def test_a_former_standby_of_this_farm_is_replaced(
-    tmp_path: pathlib.Path, monkeypatch: pytest.MonkeyPatch, former: int, here: int
-) -> None:
-    """One command more may be what the desk's machine lost before it was answered."""
-    found = follower(tmp_path, monkeypatch, former, here)
-    found._compare_with_former(copying.Farm(str(tmp_path / "copy" / "farm.db"), "false"))
-
-
-def test_a_standby_that_was_served_is_left_alone(tmp_path: pathlib.Path, monkeypatch: pytest.MonkeyPatch) -> None:
-    found = follower(tmp_path, monkeypatch, 11, 9)
-    with pytest.raises(follow.InUse, match="has 11 commands, and .* 9: it was served"):
-        found._compare_with_former(copying.Farm(str(tmp_path / "copy" / "farm.db"), "false"))
+def test_what_is_shipped_is_on_the_desks_disk(pair: Pair, monkeypatch: pytest.MonkeyPatch) -> None:
+    """So the standby never has what the desk's machine lost by a power cut."""
+    synced: List[int] = []
+    monkeypatch.setattr(os, "fdatasync", lambda opened: synced.append(os.fstat(opened).st_ino))
+    pair.ship()
+    assert synced == [], "nothing is synced where nothing is shipped"
+    pair.changes(1, 1)
+    assert len(pair.standby.take()) == 1
+    assert synced == [os.stat(pair.farm.log).st_ino]
 
 
 # ---- a log that isn't whole, or goes on meanwhile
@@ -146,7 +133,7 @@ def test_a_standby_that_was_served_is_left_alone(tmp_path: pathlib.Path, monkeyp
 def waits(monkeypatch: pytest.MonkeyPatch) -> List[float]:
     """How long was waited for a header, without a wait."""
     slept: List[float] = []
-    monkeypatch.setattr(follow, "time", types.SimpleNamespace(sleep=slept.append, time=time.time, monotonic=time.monotonic))
+    monkeypatch.setattr(tail, "time", types.SimpleNamespace(sleep=slept.append, time=time.time, monotonic=time.monotonic))
     return slept
 
 
@@ -156,13 +143,13 @@ def test_a_copy_without_a_whole_log_is_no_standby_and_stays_free(pair: Pair) -> 
     shutil.copy(pair.farm.db, copy.db)
     for said in (b"", b"x" * 100):
         (pair.folder / "other" / "farm.db-wal").write_bytes(said)
-        with pytest.raises(follow.Anew):
-            follow.Standby(pair.farm, copy)
+        with pytest.raises(tail.Anew):
+            standby.Standby(copy)
     (pair.folder / "other" / "farm.db-wal").unlink()
     with pytest.raises(FileNotFoundError):
-        follow.Standby(pair.farm, copy)
+        standby.Standby(copy)
     shutil.copy(pair.farm.log, copy.log)
-    follow.Standby(pair.farm, copy).close()
+    standby.Standby(copy).close()
 
 
 def test_a_header_that_is_being_written_is_waited_for(pair: Pair, waits: List[float], monkeypatch: pytest.MonkeyPatch) -> None:
@@ -170,67 +157,58 @@ def test_a_header_that_is_being_written_is_waited_for(pair: Pair, waits: List[fl
     heads = [None, None]
     plain = wal.head_of
     monkeypatch.setattr(wal, "head_of", lambda said: heads.pop() if heads else plain(said))
-    pair.standby.ship()
-    assert waits == [follow.HEADER_WAIT] * 2 and pair.turns() == [1, 0, 0]
+    pair.ship()
+    assert waits == [tail.HEADER_WAIT] * 2 and pair.turns() == [1, 0, 0]
     monkeypatch.setattr(wal, "head_of", lambda said: None)
-    with pytest.raises(follow.Anew):
-        pair.standby.ship()
-    assert len(waits) == 2 + follow.HEADER_TRIES
+    with pytest.raises(tail.Anew):
+        pair.ship()
+    assert len(waits) == 2 + tail.HEADER_TRIES
 
 
-def test_a_log_that_begins_anew_while_it_is_read_is_copied_from_its_beginning(
+def begins_anew_while_read(pair: Pair, monkeypatch: pytest.MonkeyPatch, times: int) -> None:
+    """Lets the log begin anew behind each of so many reads."""
+    plain, turns = tail.Tail._read_from, list(range(2, 2 + times))
+
+    def read(found: tail.Tail, log: BinaryIO) -> bytes:
+        said = plain(found, log)
+        if turns:
+            pair.carries()
+            pair.changes(turns.pop(0), 2)
+        return said
+
+    monkeypatch.setattr(tail.Tail, "_read_from", read)
+
+
+def test_a_log_that_begins_anew_while_it_is_read_is_read_again(pair: Pair, monkeypatch: pytest.MonkeyPatch) -> None:
+    pair.changes(1, 1)
+    begins_anew_while_read(pair, monkeypatch, 1)
+    pair.ship()
+    assert pair.turns() == [1, 2, 0]
+
+
+def test_a_log_that_begins_anew_each_time_it_is_read_is_copied_from_its_beginning(
     pair: Pair, monkeypatch: pytest.MonkeyPatch
 ) -> None:
     pair.changes(1, 1)
-    plain = follow._read_from
-
-    def read(log: BinaryIO, offset: int) -> bytes:
-        said = plain(log, offset)
-        pair.carries()
-        pair.changes(2, 2)
-        return said
-
-    monkeypatch.setattr(follow, "_read_from", read)
-    with pytest.raises(follow.Anew):
-        pair.standby.ship()
+    begins_anew_while_read(pair, monkeypatch, 100)
+    with pytest.raises(tail.Anew):
+        pair.ship()
     assert pair.turns() == [0, 0, 0], "nothing of it was added"
 
 
-def test_a_log_whose_frames_were_changed_behind_it_is_copied_from_its_beginning(pair: Pair) -> None:
+def test_a_log_that_has_other_frames_where_some_were_shipped_lost_commands(pair: Pair) -> None:
     pair.changes(1, 1)
-    pair.standby.ship()
+    pair.ship()
     with open(pair.farm.log, "r+b") as log:
-        log.seek(pair.standby.place.offset - wal.FRAME - 4096)
+        log.seek(pair.standby.replica.pages.place.offset - wal.FRAME - 4096)
         log.write(b"\0" * wal.FRAME)
-    with pytest.raises(follow.Anew):
-        pair.standby.ship()
-
-
-@pytest.mark.parametrize("look", [0, 1])
-def test_a_farm_that_changes_while_its_pages_are_compared_is_copied_anew(
-    pair: Pair, monkeypatch: pytest.MonkeyPatch, look: int
-) -> None:
-    """Of another size before the look at its pages, or written meanwhile."""
-    pair.changes(1, 1)
-    pair.standby.ship()
-    pair.carries()
-    pair.changes(2, 2)
-    plain, looks = copying.Farm.see, [0]
-
-    def see(farm: copying.Farm) -> copying.Seen:
-        seen = plain(farm)
-        looks[0] += 1
-        return seen._replace(file=(*seen.file[:2], seen.file[2] + 4096, seen.file[3])) if looks[0] > look else seen
-
-    monkeypatch.setattr(copying.Farm, "see", see)
-    with pytest.raises(follow.Anew):
-        pair.standby.ship()
-    assert looks == [look + 1]
+    with pytest.raises(tail.Rewound):
+        pair.ship()
 
 
 def test_a_log_that_cant_be_begun_anew_leaves_no_file_open(pair: Pair, monkeypatch: pytest.MonkeyPatch) -> None:
     pair.changes(1, 1)
-    pair.standby.ship()
+    pair.ship()
     pair.carries()
     pair.changes(2, 2)
 
@@ -240,7 +218,7 @@ def test_a_log_that_cant_be_begun_anew_leaves_no_file_open(pair: Pair, monkeypat
     before = len(os.listdir("/proc/self/fd"))
     monkeypatch.setattr(disk, "sync_folder", fails)
     with pytest.raises(OSError, match="Input/output error"):
-        pair.standby.ship()
+        pair.ship()
     assert len(os.listdir("/proc/self/fd")) == before
 
 
@@ -272,14 +250,14 @@ def test_a_trouble_is_told_once_and_that_it_goes_on(tmp_path: pathlib.Path, caps
 
 
 def test_a_copy_whose_log_isnt_whole_is_thrown_away(tmp_path: pathlib.Path, monkeypatch: pytest.MonkeyPatch) -> None:
-    def copied(farm: copying.Farm, folder: str, tell: Callable[[str], None]) -> str:
+    def copied(farm: copying.Farm, folder: str, tell: Callable[[str], None]) -> Tuple[str, tail.Tail]:
         place = pathlib.Path(folder, "new-1")
         place.mkdir()
-        for name in ("farm.db", "farm.db-wal"):
-            (place / name).touch()
-        return str(place)
+        (place / "farm.db").write_bytes(b"SQLite format 3\0\x10\0" + bytes(82))
+        (place / "farm.db-wal").touch()
+        return str(place), tail.Tail("none", wal.Head(b"", 4096, "<", (0, 0)), wal.Place(0, (0, 0)), b"")
 
-    monkeypatch.setattr(copying, "new_copy", copied)
+    monkeypatch.setattr(copying, "followed_copy", copied)
     found = follow.Follower(copying.Farm(str(tmp_path / "farm.db"), "false"), str(tmp_path), 1, lambda text: None)
     with pytest.raises(copying.NoCopy, match="^the copy's log has no whole header$"):
         found._copy()

@@ -120,26 +120,36 @@ def test_a_sum_goes_on_from_the_place_behind_a_commit(tmp_path: pathlib.Path) ->
     assert wal.last_commit(head, log[ends[1] :], first) == first, "a commit is left out"
 
 
-def test_the_pages_of_a_log_are_those_that_it_carries_into_the_file(tmp_path: pathlib.Path) -> None:
-    log, _, file = logs(tmp_path, 5)
-    pages, count = wal.pages_of(head_of(log), log)
-    assert count * SIZE == len(file)
-    assert pages == {it: file[(it - 1) * SIZE : it * SIZE] for it in pages}
-    assert 1 in pages and count in pages
+def test_the_frames_of_a_log_name_their_pages(tmp_path: pathlib.Path) -> None:
+    """Each commit's last one names how many pages the file has."""
+    log, ends, file = logs(tmp_path, 5)
+    data = log[wal.HEADER :]
+    found = list(wal.frames_in(head_of(log), data))
+    assert len(found) * FRAME == len(data)
+    assert [wal.HEADER + it.at + SIZE for it in found if it.commit][-5:] == ends
+    newest = {it.number: data[it.at : it.at + SIZE] for it in found}
+    assert found[-1].commit * SIZE == len(file)
+    assert newest == {it: file[(it - 1) * SIZE : it * SIZE] for it in newest}
 
 
-def test_pages_behind_the_files_new_end_are_left_out(tmp_path: pathlib.Path) -> None:
-    db = tmp_path / "small.db"
-    conn = sqlite3.connect(db, isolation_level=None)
-    for words in (
-        "pragma auto_vacuum = full", "pragma journal_mode = wal", "create table turns (more)",
-        "insert into turns values (zeroblob(100000))", "delete from turns",
-    ):
-        conn.execute(words)
-    log = (tmp_path / "small.db-wal").read_bytes()
-    pages, count = wal.pages_of(head_of(log), log)
-    assert max(pages) <= count < 10
+def test_a_frame_that_is_cut_is_none(tmp_path: pathlib.Path) -> None:
+    log = logs(tmp_path, 2)[0]
+    whole = list(wal.frames_in(head_of(log), log[wal.HEADER :]))
+    assert list(wal.frames_in(head_of(log), log[wal.HEADER : -1])) == whole[:-1]
+
+
+def test_a_log_tells_how_often_it_began_anew(tmp_path: pathlib.Path) -> None:
+    """And what its first salt was at first, which stays."""
+    conn = sqlite3.connect(tmp_path / "farm.db", isolation_level=None)
+    conn.execute("pragma journal_mode = wal")
+    conn.execute("create table turns (turn)")
+    seen = []
+    for turn in range(3):
+        seen.append(wal.turn_of(head_of((tmp_path / "farm.db-wal").read_bytes())))
+        conn.execute("pragma wal_checkpoint(restart)")
+        conn.execute("insert into turns values (?)", (turn,))
     conn.close()
+    assert seen == [(seen[0][0] + it, seen[0][1]) for it in range(3)]
 
 
 @pytest.mark.parametrize("before, after, is_next", [

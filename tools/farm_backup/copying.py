@@ -1,10 +1,9 @@
 """A farm's two files and whole copies of them, made while the desk serves.
 
 The desk writes lab.db only while it carries its log into it, and then begins the log anew with
-other salts. So a copy of lab.db, and of the log behind it, is the farm at a moment of the copying
-where neither file was another one, lab.db wasn't written and the log has the salts that it had
-before. What a carrying that has begun leaves half written in lab.db stands whole in the log, and a
-commit that was copied in part is none to whoever opens the copy.
+other salts. So who reads all that the log gets while lab.db is copied (farm_backup.tail) has each page
+that was written in lab.db meanwhile: written over the copy, log after log, they make it the farm at
+the moment of the last look, however fast it grows. A commit that was read in part is none.
 
 No lock is taken: the desk's locks hold up writers alone, and a reader takes nothing from it."""
 import contextlib
@@ -16,9 +15,9 @@ import stat
 import subprocess
 import tempfile
 import time
-from typing import Callable, List, NamedTuple, Optional, Tuple
+from typing import Callable, List, Optional, Tuple
 
-from farm_backup import wal
+from farm_backup import pages, replica, tail
 from fizgruk._tools import disk
 
 TRIES = 20
@@ -30,14 +29,6 @@ STATUS = b"GET /status HTTP/1.1\r\n\r\n"
 
 class NoCopy(Exception):
     """There is no copy, or none that is a farm."""
-
-
-class Seen(NamedTuple):
-    """What tells whether a farm's file was written or its log begun anew."""
-
-    file: Tuple[int, int, int, int]
-    log: Tuple[int, int]
-    head: Optional[wal.Head]
 
 
 class Farm:
@@ -54,12 +45,10 @@ class Farm:
         """The farm of the same name in another folder."""
         return Farm(os.path.join(folder, self.name), self.program)
 
-    def see(self) -> Seen:
-        file, log = os.stat(self.db), os.stat(self.log)
-        with open(self.log, "rb") as opened:
-            head = wal.head_of(opened.read(wal.HEADER))
-        written = (file.st_dev, file.st_ino, file.st_size, file.st_mtime_ns)
-        return Seen(written, (log.st_dev, log.st_ino), head)
+    def file(self) -> Tuple[int, int]:
+        """Which file it is."""
+        found = os.stat(self.db)
+        return found.st_dev, found.st_ino
 
     def count(self) -> int:
         """How many commands a farm has that no desk serves."""
@@ -90,49 +79,71 @@ def _line(said: bytes) -> str:
 def new_copy(farm: Farm, folder: str, tell: Callable[[str], None]) -> str:
     """A checked copy of a farm in a new folder below `folder`, which the caller names at last.
     `tell` is told where it is copied again."""
-    place = tempfile.mkdtemp(prefix=NEW, dir=folder)
-    try:
-        copied(farm, place, tell).prove()
-        disk.sync_folder(place)
-    except BaseException:
-        shutil.rmtree(place, ignore_errors=True)
-        raise
+    place, followed = followed_copy(farm, folder, tell)
+    followed.close()
     return place
 
 
-def copied(farm: Farm, place: str, tell: Callable[[str], None]) -> Farm:
-    """A copy of a farm's two files in a folder, copied again while they move."""
+def followed_copy(
+    farm: Farm, folder: str, tell: Callable[[str], None]
+) -> Tuple[str, tail.Tail]:
+    """The same, and what reads on in the farm's log behind the copy."""
+    place = tempfile.mkdtemp(prefix=NEW, dir=folder)
+    followed: Optional[tail.Tail] = None
+    try:
+        copy, followed = copied(farm, place, tell)
+        copy.prove()
+        disk.sync_folder(place)
+    except BaseException:
+        if followed:
+            followed.close()
+        shutil.rmtree(place, ignore_errors=True)
+        raise
+    return place, followed
+
+
+def copied(farm: Farm, place: str, tell: Callable[[str], None]) -> Tuple[Farm, tail.Tail]:
+    """A copy of a farm's two files in a folder, copied again where its log got away, and what reads
+    on in the log."""
     copy = farm.within(place)
     wait, why = FIRST_WAIT, ""
     for _ in range(TRIES):
         try:
-            why = _copy_once(farm, copy)
+            os.stat(farm.db)
+            followed = tail.Tail.from_beginning(farm.log)
+            _copy_beside(farm, copy, followed)
+            return copy, followed
         except FileNotFoundError as fault:
             raise NoCopy(f"there is no {fault.filename}: a farm is a file and its log") from fault
-        if not why:
-            _sync(copy)
-            return copy
+        except pages.NoDatabase as fault:
+            raise NoCopy(f"the copy is no farm, and is thrown away ({fault})") from fault
+        except tail.Anew as fault:
+            why = str(fault)
         tell(f"copied again: {why}")
         time.sleep(wait)
         wait = min(2 * wait, LONGEST_WAIT)
     raise NoCopy(f"no copy after {TRIES} tries: {why}")
 
 
-def _copy_once(farm: Farm, copy: Farm) -> str:
-    """Copies both files, the log last. Returns why this is no copy, or nothing."""
-    before = farm.see()
-    if before.head is None:
-        return "the log has no whole header"
-    _copy_file(farm.db, copy.db)
-    _copy_file(farm.log, copy.log)
-    after = farm.see()
-    with open(copy.log, "rb") as log:
-        head = wal.head_of(log.read(wal.HEADER))
-    if not before.head == head == after.head:
-        return "the log began anew"
-    if before != after:
-        return f"{farm.db} was written"
-    return ""
+def _copy_beside(farm: Farm, copy: Farm, followed: tail.Tail) -> None:
+    """Copies the file while all that its log gets is read, and adds that."""
+    which = farm.file()
+    followed.start()
+    try:
+        _copy_file(farm.db, copy.db)
+        with open(copy.db, "r+b") as file, open(copy.log, "w+b", buffering=0) as log:
+            os.fchmod(log.fileno(), stat.S_IMODE(os.stat(farm.log).st_mode) & 0o666)
+            replica.write_at(log.fileno(), followed.first.raw, 0)
+            made = replica.Replica(file.fileno(), log.fileno())
+            for part in followed.take():
+                made.add(part)
+            for opened in (file, log):
+                os.fsync(opened.fileno())
+        if farm.file() != which:
+            raise tail.Anew(f"{farm.db} became another file")
+    except BaseException:
+        followed.close()
+        raise
 
 
 def _copy_file(source: str, target: str) -> None:
@@ -140,13 +151,6 @@ def _copy_file(source: str, target: str) -> None:
     with open(source, "rb") as old, open(target, "wb") as new:
         os.fchmod(new.fileno(), stat.S_IMODE(os.fstat(old.fileno()).st_mode) & 0o666)
         shutil.copyfileobj(old, new, 1 << 20)
-
-
-def _sync(farm: Farm) -> None:
-    """Waits until both files are on the disk."""
-    for name in (farm.db, farm.log):
-        with open(name, "rb") as file:
-            os.fsync(file.fileno())
 
 
 def take_folder(folder: str) -> Optional[int]:

@@ -28,8 +28,8 @@ STATUSES = (
     (
         "4",
         "There is no copy that is a farm, or DIR can't be used, or is in use by another "
-        "farm-backup. Standard error has the reason in a line. What was in DIR before is there "
-        "still.",
+        "farm-backup; --follow: the standby was served, or the farm lost commands. Standard error "
+        "has the reason in a line. What was in DIR before is there still.",
     ),
 )
 

@@ -5,7 +5,7 @@ behind it has a header of 24 bytes and a page: the page's number, the size of th
 where a commit ends with this frame, the header's salts, and a sum that goes on from the frame
 before. The log ends before the first frame whose salts or sum are wrong."""
 import struct
-from typing import Dict, NamedTuple, Optional, Tuple
+from typing import Iterator, NamedTuple, Optional, Tuple
 
 HEADER, FRAME = 32, 24
 MAGIC = 0x377F0682  # one more: its sums are over big-endian words
@@ -74,19 +74,29 @@ def last_commit(head: Head, data: bytes, place: Place) -> Place:
     return found
 
 
+class Frame(NamedTuple):
+    """A frame of a log."""
+
+    number: int  # of its page
+    commit: int  # how many pages the file has, where a commit ends with this frame; else 0
+    at: int  # where its page begins in the bytes that were given
+
+
+def frames_in(head: Head, data: bytes) -> Iterator[Frame]:
+    """The frames of bytes that begin with one and are whole commits."""
+    for at in range(0, len(data) - FRAME - head.page_size + 1, FRAME + head.page_size):
+        number, commit = struct.unpack_from(">II", data, at)
+        yield Frame(number, commit, at + FRAME)
+
+
+def turn_of(head: Head) -> Tuple[int, int]:
+    """How often a log began anew, and what its first salt was before it ever did: one file's logs
+    all have the same."""
+    turn, salt = (struct.unpack_from(">I", head.raw, at)[0] for at in (12, SALTS.start))
+    return turn, (salt - turn) & WORD
+
+
 def follows(head: Head, before: Head) -> bool:
     """Whether a log with this header began next after the one with that: the first salt counts."""
     one, other = (struct.unpack_from(">I", it.raw, SALTS.start)[0] for it in (head, before))
     return head.page_size == before.page_size and one == (other + 1) & WORD
-
-
-def pages_of(head: Head, data: bytes) -> Tuple[Dict[int, bytes], int]:
-    """The newest form of each page that a log's whole commits have, which are all of `data`, and
-    how many pages the file has after them."""
-    pages: Dict[int, bytes] = {}
-    count = 0
-    for at in range(HEADER, len(data), FRAME + head.page_size):
-        number, commit = struct.unpack_from(">II", data, at)
-        pages[number] = data[at + FRAME : at + FRAME + head.page_size]
-        count = commit or count
-    return {number: page for number, page in pages.items() if number <= count}, count

@@ -4,35 +4,13 @@ asked for."""
 import os
 import stat
 import subprocess
-from typing import List, Optional
+from typing import List
 
-MOST = 1_048_576  # bytes of a file of the dispatcher's own, of which none is near that
+from fizgruk._tools.disk import MOST, Strange, text_in
+
+__all__ = ["MOST", "Removals", "Strange", "size_of", "text_in"]
 MOST_ENTRIES = 200_000  # of a folder that is measured
 BLOCK = 512
-
-
-class Strange(ValueError):
-    """A file isn't of the kind that it was made as."""
-
-
-def text_in(file: str, most: int = MOST) -> Optional[str]:
-    """A file's text, with a mark for each byte that is none; None where there is no such file.
-    Raises Strange where it is no file, or longer."""
-    try:
-        opened = os.open(file, os.O_RDONLY | os.O_NOFOLLOW | os.O_NONBLOCK | os.O_CLOEXEC)
-    except FileNotFoundError:
-        return None
-    except OSError as fault:
-        raise Strange(f"{file}: {fault.strerror}") from fault
-    try:
-        about = os.fstat(opened)
-        if not stat.S_ISREG(about.st_mode):
-            raise Strange(f"{file} is no file")
-        if about.st_size > most:
-            raise Strange(f"{file} has {about.st_size:,} bytes")
-        return os.read(opened, most).decode(errors="replace")
-    finally:
-        os.close(opened)
 
 
 def size_of(folder: str) -> int:

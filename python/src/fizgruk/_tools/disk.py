@@ -1,8 +1,11 @@
-"""Files that a machine's stop leaves whole, and locks that end with the process that has them."""
+"""Files that a machine's stop leaves whole, locks that end with the process that has them, and files
+that others may have made."""
 import fcntl
 import os
+import stat
 from typing import Optional
 
+MOST = 1_048_576  # bytes of a file of a tool's own, of which none is near that
 READABLE = 0o644  # by the proxy's user and other tools too
 
 
@@ -42,3 +45,27 @@ def take_lock(file: str) -> Optional[int]:
         os.close(opened)
         return None
     return opened
+
+
+class Strange(ValueError):
+    """A file isn't of the kind that it was made as."""
+
+
+def text_in(file: str, most: int = MOST) -> Optional[str]:
+    """A file's text, with a mark for each byte that is none; None where there is no such file.
+    Raises Strange where it is no file, or longer."""
+    try:
+        opened = os.open(file, os.O_RDONLY | os.O_NOFOLLOW | os.O_NONBLOCK | os.O_CLOEXEC)
+    except FileNotFoundError:
+        return None
+    except OSError as fault:
+        raise Strange(f"{file}: {fault.strerror}") from fault
+    try:
+        about = os.fstat(opened)
+        if not stat.S_ISREG(about.st_mode):
+            raise Strange(f"{file} is no file")
+        if about.st_size > most:
+            raise Strange(f"{file} has {about.st_size:,} bytes")
+        return os.read(opened, most).decode(errors="replace")
+    finally:
+        os.close(opened)

@@ -1,0 +1,123 @@
+"""A standby: a whole copy of a farm that goes on as the farm does, with a record of what was shipped to
+it, by which one that was served since is known.
+
+The standby is locked as a desk locks a farm, so that nobody serves it while commits are added."""
+import contextlib
+import fcntl
+import json
+import os
+from typing import Any, Iterator, List, NamedTuple, Optional, Tuple
+
+from farm_backup import copying, pages, points, replica, tail, wal
+from fizgruk._tools import disk
+
+# The bytes of a database that SQLite locks.
+LOCKS, LOCKED = 1 << 30, 512
+RECORD = ".shipped"
+MOST_ENDS = 20_000  # sums in a record
+
+
+class InUse(Exception):
+    """Another program has the standby, or had it; or another line of history is in it."""
+
+
+class Record(NamedTuple):
+    """What was shipped to a standby. The sum of its pages is one of `ends`: that before the last
+    shipping, or that behind one of its commits. Behind the last the farm is at this point."""
+
+    ends: List[str]
+    point: points.Point
+    head: str  # of the log
+    generation: int
+
+    def why_other(self, found: pages.Pages) -> str:
+        """Why a farm isn't a later one of the same history; nothing where it is."""
+        before = wal.head_of(bytes.fromhex(self.head))
+        if found.head and before:
+            (now, base), (then, former) = (wal.turn_of(it) for it in (found.head, before))
+            if base == former and 0 < now < then:
+                return "its log is an earlier one"
+        return points.why_other(self.point, found)
+
+    def write(self, folder: str) -> None:
+        said = {**self._asdict(), "point": self.point.said()}
+        disk.write_synced(os.path.join(folder, RECORD), json.dumps(said) + "\n")
+
+
+def record_in(folder: str) -> Optional[Record]:
+    """The record in a copy's folder; None where there is none that can be read."""
+    try:
+        said: Any = json.loads(disk.text_in(os.path.join(folder, RECORD)) or "")
+        ends = [str(it) for it in said["ends"][:MOST_ENDS]]
+        head = bytes.fromhex(said["head"]).hex()
+        return Record(ends, points.point_in(said["point"]), head, int(said["generation"]))
+    except (ValueError, KeyError, TypeError, IndexError):
+        return None
+
+
+def sum_text(number: int) -> str:
+    return f"{number % pages.SUMS:032x}"
+
+
+@contextlib.contextmanager
+def pages_in(copy: copying.Farm) -> Iterator[pages.Pages]:
+    """The pages of two files that nobody writes."""
+    with contextlib.ExitStack() as opened:
+        file = opened.enter_context(open(copy.db, "rb")).fileno()
+        log: Optional[int] = None
+        if os.path.exists(copy.log):
+            log = opened.enter_context(open(copy.log, "rb")).fileno()
+        yield pages.Pages(file, log)
+
+
+class Standby:
+    """One whole copy, and how far it has come."""
+
+    def __init__(self, copy: copying.Farm, followed: Optional[tail.Tail] = None):
+        """`copy` is one which nobody else has open; `followed` reads what it lacks, where somebody
+        does so already."""
+        self.copy = copy
+        self.tail = followed
+        self.locked = os.open(copy.db, os.O_RDWR | os.O_CLOEXEC)
+        log = -1
+        try:
+            fcntl.lockf(self.locked, fcntl.LOCK_EX | fcntl.LOCK_NB, LOCKED, LOCKS)
+            log = os.open(copy.log, os.O_RDWR | os.O_CLOEXEC)
+            self.replica = replica.Replica(self.locked, log, copy.log)
+            os.ftruncate(log, self.replica.pages.place.offset)
+            os.fsync(log)
+        except BaseException:
+            for opened in (log, self.locked):
+                if opened >= 0:
+                    os.close(opened)
+            raise
+        self.left = self._stands()
+
+    def follow(self, log: str) -> tail.Tail:
+        """Goes on from where it ends in the log of a farm. Returns what reads there."""
+        found = self.replica
+        self.tail = tail.Tail(log, found.head, found.pages.place, found.last_frame())
+        return self.tail
+
+    def close(self) -> None:
+        """Lets others have the copy."""
+        if self.tail:
+            self.tail.close()
+        os.close(self.replica.log)
+        os.close(self.locked)
+
+    def take(self) -> List[tail.Part]:
+        """What the farm's log has got since the last time."""
+        if self._stands() != self.left:
+            raise InUse("the standby's log was changed by another program: it isn't followed on")
+        return self.tail.take() if self.tail else []
+
+    def add(self, parts: List[tail.Part]) -> None:
+        """Adds parts of the farm's log."""
+        for part in parts:
+            self.replica.add(part)
+        self.left = self._stands()
+
+    def _stands(self) -> Tuple[int, int]:
+        found = os.fstat(self.replica.log)
+        return found.st_size, found.st_mtime_ns
