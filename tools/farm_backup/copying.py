@@ -38,6 +38,7 @@ class Farm:
         """`name` may be a link: the log lies beside the file that it leads to, as for a desk."""
         self.name = os.path.basename(name)
         self.db = os.path.realpath(name)
+        self.file_name = os.path.basename(self.db)
         self.log = f"{self.db}-wal"
         self.program = program
 

@@ -8,13 +8,12 @@
 A standby is only added to, or replaced by a newer copy, where it is as it was shipped and the farm is
 a later one of the same history. Else there are two lines of history, of which no program knows which
 one is wanted: the follower ends, and touches neither."""
-import fcntl
 import os
 import shutil
 import time
 from typing import Callable, List, Optional
 
-from farm_backup import copying, pages, points, standby, tail
+from farm_backup import copying, failover, pages, points, standby, tail
 from fizgruk._tools import disk, interrupts
 
 AS_OF = "as-of"
@@ -59,6 +58,7 @@ class Follower:
     def _ship_or_copy(self) -> Optional[float]:
         """Ships what there is, or all. Returns a later moment before which all was shipped, where
         that took its time."""
+        self._demand_unfenced()
         if self.standby is None:
             self._demand_farm()
             self._take_up()
@@ -105,7 +105,8 @@ class Follower:
         except pages.NoDatabase as fault:
             raise copying.NoCopy(f"{self.farm.db} is no farm: {fault}") from fault
         texts = [standby.sum_text(it) for it in ends]
-        self.record = standby.Record(texts, point, head.hex(), 1)
+        generation = failover.generation_of(self.farm)
+        self.record = standby.Record(texts, point, head.hex(), generation)
         self.record.write(folder)
 
     def _copy(self) -> None:
@@ -173,24 +174,17 @@ class Follower:
         """Demands that the standby's name is free, or leads to one that nobody has open."""
         if os.path.lexists(self.name) and not os.path.islink(self.name):
             raise InUse(f"{self.name} is no standby but a farm's own file: name another folder")
-        if not os.path.exists(self.name):
-            return
-        opened = os.open(self.name, os.O_RDWR | os.O_CLOEXEC)
-        try:
-            fcntl.lockf(opened, fcntl.LOCK_EX | fcntl.LOCK_NB, standby.LOCKED, standby.LOCKS)
-        except BlockingIOError as fault:
-            raise InUse(f"{self.name} is open elsewhere: a desk serves it") from fault
-        finally:
-            os.close(opened)
+        if os.path.exists(self.name):
+            standby.demand_free(self.name)
 
     def _take_up(self) -> None:
         """Goes on with the standby that is there, where it is as it was shipped."""
+        self._look_at_former()
         if not os.path.exists(self.name):
             return
-        self._look_at_former()
         copy = copying.Farm(self.name, self.farm.program)
         self.record = standby.record_in(os.path.dirname(copy.db))
-        self.sum = self._demand_as_shipped(copy)
+        self.sum = standby.demand_as_shipped(self.name, self.record, self.farm.db)
         try:
             self.standby = standby.Standby(copy)
         except (tail.Anew, FileNotFoundError):
@@ -199,26 +193,17 @@ class Follower:
         self._remove_superseded(name, self.standby.replica.pages)
         self.standby.follow(self.farm.log).start()
 
-    def _demand_as_shipped(self, copy: copying.Farm) -> int:
-        """Demands that a standby is as it was shipped. Returns the sum of its pages."""
-        if self.record is None:
-            raise InUse(
-                f"{self.name} has no record of what was shipped to it from {self.farm.db}: it may "
-                "have been served, and isn't touched; name another folder, or move it away"
-            )
+    def _demand_unfenced(self) -> None:
+        """Demands that the standby wasn't promoted over this farm, which is set aside where it was."""
+        mark = failover.fencing(self.farm, self.folder)
+        if mark is None:
+            return
+        told: List[str] = []
         try:
-            with standby.pages_in(copy) as found:
-                total = pages.sum_of_all(found)
-                if standby.sum_text(total) in self.record.ends:
-                    return total
-                count = f"{points.point_of(found).commands} commands"
-        except pages.NoDatabase as fault:
-            count = f"no farm ({fault})"
-        raise InUse(
-            f"{self.name} has {count}, and isn't what was shipped to it from {self.farm.db}, which "
-            f"were {self.record.point.commands}: it was served or changed, and they are two lines of "
-            "history; neither is touched; name another folder, or move it away"
-        )
+            failover.demote(self.farm, self.folder, told.append)
+        except OSError as fault:
+            told = [f"it can't be set aside ({fault}), so stop its desk"]
+        raise InUse("; ".join([f"{self.name} was promoted {mark.said()}", *told]))
 
     def _other(self, why: str) -> InUse:
         """That the farm isn't the one that was followed."""
@@ -237,13 +222,5 @@ class Follower:
             record = standby.record_in(folder)
             if name == current or record is None or record.why_other(found):
                 continue
-            if _is_as_shipped(self.farm.within(folder), record):
+            if standby.is_as_shipped(self.farm.within(folder), record):
                 shutil.rmtree(folder, ignore_errors=True)
-
-
-def _is_as_shipped(copy: copying.Farm, record: standby.Record) -> bool:
-    try:
-        with standby.pages_in(copy) as found:
-            return standby.sum_text(pages.sum_of_all(found)) in record.ends
-    except (pages.NoDatabase, OSError):
-        return False

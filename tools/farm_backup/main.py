@@ -6,7 +6,7 @@ import sys
 import time
 from typing import Optional, Sequence
 
-from farm_backup import copying, follow
+from farm_backup import copying, failover, follow
 from fizgruk import calls
 from fizgruk._tools import disk, interrupts, parsers, settings
 
@@ -40,15 +40,19 @@ def main(words: Optional[Sequence[str]] = None) -> int:
     folder = os.path.realpath(options.folder)
     try:
         interrupts.catch_signals()
+        if options.demote:
+            return demote(farm, folder, options)
         os.makedirs(folder, mode=0o700, exist_ok=True)
         lock = copying.take_folder(folder)
         if lock is None:
             return told(FAULT, f"{folder} is in use by another farm-backup")
+        if options.promote:
+            return promote(farm, folder, options)
         if options.follow:
             follow.Follower(farm, folder, options.every, tell).run()
         return back_up(farm, folder, options)
     except interrupts.Interrupted:
-        return 0 if options.follow else told(FAULT, "ended by a signal: there is no copy")
+        return 0 if options.follow else told(FAULT, "ended by a signal: run it again")
     except (copying.NoCopy, follow.InUse, OSError) as fault:
         return told(FAULT, str(fault))
 
@@ -58,6 +62,8 @@ def parser_of() -> parsers.Parser:
     parser.forms = (
         f"{PROGRAM} [--db FILE] [--keep N] [--server URL] [--program FILE] [--verbose] DIR",
         f"{PROGRAM} --follow [--db FILE] [--every SECONDS] [--program FILE] DIR",
+        f"{PROGRAM} --promote [--db FILE] [--units] [--program FILE] DIR",
+        f"{PROGRAM} --demote [--db FILE] [--units] DIR",
     )
     option = parser.add_argument
     option("--db", metavar="FILE", default=DB, help="The farm's file (default %(default)s).")
@@ -70,6 +76,19 @@ it has fewer. Where no answer comes this is told, and the copy is kept."""
     option("--follow", action="store_true", help="Keep a standby in DIR.")
     about = "Between two shippings to the standby (default 1)."
     option("--every", metavar="SECONDS", type=_seconds, default=1.0, help=about)
+    about = """\
+Make the standby in DIR this machine's farm: FILE and its log are a copy of it then, and what stood
+there is set aside beside them, in fenced-N. The farm that the standby followed is fenced from then
+on: a follower of it, or '--demote', sets it aside where it comes back. It can be run again."""
+    option("--promote", action="store_true", help=about)
+    about = """\
+Set FILE and its log aside, in fenced-N beside them, where the standby in DIR was promoted over them;
+a desk that has them open ends. Else nothing is done."""
+    option("--demote", action="store_true", help=about)
+    about = """\
+Stop the units farm-dispatch and farm before '--promote', and enable and start them after it; disable
+and stop them after '--demote' has set something aside."""
+    option("--units", action="store_true", help=about)
     about = "The program that checks a copy (default %(default)s, as the shell finds it)."
     option("--program", metavar="FILE", default="farm", help=about)
     about = "Tell on standard error why a copy is made again, and with which desk it is compared."
@@ -81,8 +100,13 @@ it has fewer. Where no answer comes this is told, and the copy is kept."""
 def options_of(words: Optional[Sequence[str]]) -> argparse.Namespace:
     parser = parser_of()
     options = parser.parse_args(words)
-    if options.follow and (options.keep or options.server):
-        parser.error("--keep and --server aren't for --follow")
+    others = [it for it in ("follow", "promote", "demote") if getattr(options, it)]
+    if len(others) > 1:
+        parser.error(f"--{others[0]} and --{others[1]} don't go together")
+    if others and (options.keep or options.server):
+        parser.error(f"--keep and --server aren't for --{others[0]}")
+    if options.units and not (options.promote or options.demote):
+        parser.error("--units is for --promote and --demote")
     return options
 
 
@@ -140,6 +164,27 @@ def back_up(farm: copying.Farm, folder: str, options: argparse.Namespace) -> int
                 shutil.rmtree(os.path.join(folder, old))
     print(os.path.join(folder, name), flush=True)
     return 0
+
+
+def promote(farm: copying.Farm, folder: str, options: argparse.Namespace) -> int:
+    """Makes a standby the farm, and lets a desk begin with it where that is asked for."""
+    if options.units:
+        failover.call_units("stop", *reversed(failover.UNITS))
+    failover.promote(farm, folder, say)
+    if options.units:
+        failover.call_units("enable", "--now", *failover.UNITS)
+    return 0
+
+
+def demote(farm: copying.Farm, folder: str, options: argparse.Namespace) -> int:
+    """Sets the farm aside where its standby was promoted."""
+    if failover.demote(farm, folder, say) and options.units:
+        failover.call_units("disable", "--now", *reversed(failover.UNITS))
+    return 0
+
+
+def say(text: str) -> None:
+    print(text, flush=True)
 
 
 def answered_at(server: str) -> Optional[int]:

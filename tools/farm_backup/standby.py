@@ -70,6 +70,52 @@ def pages_in(copy: copying.Farm) -> Iterator[pages.Pages]:
         yield pages.Pages(file, log)
 
 
+def can_lock(opened: int) -> bool:
+    """Whether nobody has a file open as a farm; it is locked until the process closes it."""
+    try:
+        fcntl.lockf(opened, fcntl.LOCK_EX | fcntl.LOCK_NB, LOCKED, LOCKS)
+        return True
+    except (BlockingIOError, PermissionError):
+        return False
+
+
+def demand_free(name: str) -> None:
+    """Demands that nobody has a standby open."""
+    with open(name, "r+b") as opened:
+        if not can_lock(opened.fileno()):
+            raise InUse(f"{name} is open elsewhere: a desk serves it")
+
+
+def demand_as_shipped(name: str, record: Optional[Record], farm: str) -> int:
+    """Demands that a standby is as it was shipped from a farm. Returns the sum of its pages."""
+    if record is None:
+        raise InUse(
+            f"{name} has no record of what was shipped to it from {farm}: it may have been served, "
+            "and isn't touched; name another folder, or move it away"
+        )
+    try:
+        with pages_in(copying.Farm(name, "")) as found:
+            total = pages.sum_of_all(found)
+            if sum_text(total) in record.ends:
+                return total
+            count = f"{points.point_of(found).commands} commands"
+    except pages.NoDatabase as fault:
+        count = f"no farm ({fault})"
+    raise InUse(
+        f"{name} has {count}, and isn't what was shipped to it from {farm}, which were "
+        f"{record.point.commands}: it was served or changed, and they are two lines of history; "
+        "neither is touched; name another folder, or move it away"
+    )
+
+
+def is_as_shipped(copy: copying.Farm, record: Record) -> bool:
+    try:
+        with pages_in(copy) as found:
+            return sum_text(pages.sum_of_all(found)) in record.ends
+    except (pages.NoDatabase, OSError):
+        return False
+
+
 class Standby:
     """One whole copy, and how far it has come."""
 
