@@ -359,7 +359,7 @@ def document():
         "openapi": "3.1.0",
         "info": {"title": "Fizgruk", "version": "2.0", "description": " ".join(ABOUT.split())},
         "servers": [
-            {"url": "http://127.0.0.1:8080", "description": "the desk itself"},
+            {"url": "http://127.0.0.1:880", "description": "the desk itself"},
             {"url": "https://farm.lab.example", "description": "the proxy in front of it"},
         ],
         "security": [{}, {"login": []}],

@@ -25,7 +25,7 @@ unit() {
 }
 served() {
     tries=0
-    until curl -sS http://127.0.0.1:8080/status > /tmp/status 2>&1; do
+    until curl -sS http://127.0.0.1:880/status > /tmp/status 2>&1; do
         tries=$((tries + 1))
         [ "$tries" -lt 300 ] || fail "nothing is served: $(systemctl status farm)"
         sleep 0.1
@@ -71,11 +71,12 @@ said=$(runuser -u farm -- farm import --db $home/lab.db --at "$(date +%s)" /dev/
 rm /root/lab.toml
 systemctl start farm
 served
-curl -sS -H 'x-user: admin' -d '{"health":"Good"}' http://127.0.0.1:8080/boards/qemu-01/health > /dev/null
+curl -sS -H 'x-user: admin' -d '{"health":"Good"}' http://127.0.0.1:880/boards/qemu-01/health > /dev/null
 desk --user ann reserve virtual --acquire > /tmp/board 2> /dev/null || fail "the first reservation"
 [ "$(tail -n 1 /tmp/board)" = qemu-01 ] || fail "the first reservation gives $(cat /tmp/board)"
 runuser -u www-data -- grep -q '"jobs":' /var/lib/farm-dispatch/history.json || fail "nginx's user reads no history"
 ! runuser -u www-data -- ls /var/lib/farm-dispatch/jobs 2> /dev/null || fail "nginx's user reads jobs' folders"
+! runuser -u nobody -- curl -sS http://127.0.0.1:880/status 2> /dev/null || fail "any account asks the desk's port"
 metrics=/var/lib/prometheus/node-exporter
 mkdir -p $metrics
 systemctl start farm-metrics
@@ -90,7 +91,7 @@ as_farm timeout 25 farm serve --db $home/lab.db --port 8081 --max 1000 > /tmp/ot
 until grep -q listening /tmp/other; do sleep 0.1; done
 systemctl start farm || :
 sleep 20
-! curl -sS http://127.0.0.1:8080/status > /tmp/status 2>&1 || fail "two programs serve one farm"
+! curl -sS http://127.0.0.1:880/status > /tmp/status 2>&1 || fail "two programs serve one farm"
 wait
 served
 echo "package: the unit tries again while another program has the farm"
@@ -102,7 +103,7 @@ unit farm enabled active 'an upgrade'
 unit farm-dispatch enabled active 'an upgrade'
 [ "$(find $home -path '*/before-2*/lab.db' | wc -l)" = 1 ] || fail "the copy of an upgrade"
 served
-curl -sS http://127.0.0.1:8080/reservations | grep -q '"board":"qemu-01".*"acquired"' || fail "what an upgrade keeps"
+curl -sS http://127.0.0.1:880/reservations | grep -q '"board":"qemu-01".*"acquired"' || fail "what an upgrade keeps"
 systemctl disable -q --now farm-dispatch
 upgrade
 unit farm enabled active 'an upgrade beside a disabled unit'
@@ -121,7 +122,7 @@ desk --user ann cancel-reservation 1
 sed -n '/^## When a farm is full/,/^## What/s/^    //p' /usr/share/doc/fizgruk-farm/USING.md > /tmp/next.sh
 (cd /root && sh -eu /tmp/next.sh && rm next.toml) > "$log" 2>&1 || fail "the next farm: $(cat "$log")"
 grep -q '^accepted 15, kept 0$' "$log" && grep -qx 'qemu-01 Good' "$log" || fail "the next farm: $(cat "$log")"
-curl -sS http://127.0.0.1:8080/status | grep -q '"next":1,' || fail "the next farm isn't new"
+curl -sS http://127.0.0.1:880/status | grep -q '"next":1,' || fail "the next farm isn't new"
 echo "package: the next farm begins as USING.md says"
 
 # ---- a farm of the first edition is made this edition's, by an upgrade and where a package was removed before

@@ -68,7 +68,7 @@ _desk() {
     fi
     case $command:$before:$word in
         *:--priority:*) words="low medium high" ;;
-        *:--server:*) words="http://127.0.0.1:8080 https://" ;;
+        *:--server:*) words="http://127.0.0.1:880 https://" ;;
         *:--check:*) words="none hours jobs" ;;
         *:--by:*) words="owner board type" ;;
         *:--user:* | *:--timeout:* | *:--every:* | *:--last:* | *:--limit:* | *:--since:*) words= ;;

@@ -16,10 +16,11 @@ TYPED = {
     "python/src": ["fizgruk"],
     "tests/unit": ["."],
     "tests/tools": ["."],
+    "tests/security": ["."],
     "tests/gate": ["counted.py", "functions.py", "toolchain.py", "waves.py", "waves_test.py"],
 }
 # Where the tests find what they import, as pytest.ini says.
-IMPORTED = ("tools", "python/src", "bench", "tests/shared", "tests/tools", "tests/gate")
+IMPORTED = ("tools", "python/src", "bench", "tests/shared", "tests/tools", "tests/security", "tests/gate")
 
 
 def files_of_the_project() -> list[pathlib.Path]:

@@ -33,6 +33,7 @@ field() { dpkg-deb -f "$folder"/"$1"_*.deb "$2"; }
 ! grep -l 'systemctl\|deb-systemd\|adduser' "$folder"/fizgruk-desk/*inst || fail "the client's package starts something"
 for file in lib/systemd/system/farm.service lib/systemd/system/farm-dispatch.service usr/bin/farm usr/bin/farm-dispatch \
     lib/systemd/system/farm-watch.service usr/bin/farm-watch \
+    lib/systemd/system/farm-port.service usr/share/fizgruk/farm-port.nft \
     lib/systemd/system/farm-backup.timer lib/systemd/system/farm-metrics.timer \
     usr/share/fizgruk/page/farm.html etc/nginx/sites-available/farm etc/farm/run-job etc/farm/check-board \
     etc/farm/run-job-labgrid etc/farm/run-job-lava; do
@@ -43,7 +44,7 @@ for name in fizgruk-desk fizgruk-farm; do
     [ "$(field $name Breaks)$(field $name Replaces)" = 'fizgruk (<< 2.0-1~)fizgruk (<< 2.0-1~)' ] ||
         fail "$name doesn't take the files of 2.0"
 done
-for name in 'fizgruk-desk (= ' 'python3-fizgruk (= ' 'python3:any'; do
+for name in 'fizgruk-desk (= ' 'python3-fizgruk (= ' 'python3:any' nftables; do
     field fizgruk-farm Depends | grep -q "$name" || fail "fizgruk-farm doesn't depend on $name"
 done
 field fizgruk-desk Depends | grep -q 'python3-fizgruk (= ' || fail "the client doesn't depend on the library"
@@ -100,6 +101,8 @@ done
 for line in StartLimitIntervalSec=0 Restart=on-failure LimitNOFILE=2048; do
     grep -qx "$line" "$tree/lib/systemd/system/farm.service" || fail "farm.service doesn't say $line"
 done
+grep -q -- '--port 880 ' "$tree/lib/systemd/system/farm.service" && grep -q '127.0.0.1:880;' "$tree/etc/nginx/sites-available/farm" ||
+    fail "the desk's port"
 # (nginx's user goes through the dispatcher's folder to the history and the logs)
 grep -qx StateDirectoryMode=0711 "$tree/lib/systemd/system/farm-dispatch.service" || fail "who gets to the history"
 grep -q '0711 /var/lib/farm-dispatch$' "$folder/fizgruk-farm/postinst" || fail "who gets to the history at first"
@@ -107,7 +110,7 @@ grep -q 'root /var/lib/farm-dispatch;' "$tree/etc/nginx/sites-available/farm" ||
 if grep -rn /usr/local "$tree/lib" "$tree/etc"; then fail "names of an installation by hand"; fi
 if command -v systemd-analyze > /dev/null; then
     cp "$tree"/lib/systemd/system/*.timer "$folder"
-    for unit in farm farm-dispatch farm-watch farm-backup farm-metrics; do
+    for unit in farm farm-port farm-dispatch farm-watch farm-backup farm-metrics; do
         sed "s,/usr/bin/,$tree/usr/bin/,; s,/etc/farm,$tree/etc/farm,g" "$tree/lib/systemd/system/$unit.service" > "$folder/$unit.service"
     done
     systemd-analyze --man=no verify "$folder"/*.service "$folder"/*.timer > "$folder/said" 2>&1 || :

@@ -81,7 +81,7 @@ def refused(told: str, **given: str) -> None:
 def test_default_settings(monkeypatch: pytest.MonkeyPatch) -> None:
     """Without any the desk is this machine's, and the user the login's."""
     monkeypatch.setenv("LOGNAME", "cat")
-    assert settings.read_settings({}) == settings.Settings("http://127.0.0.1:8080", "cat", None, None, 30.0)
+    assert settings.read_settings({}) == settings.Settings("http://127.0.0.1:880", "cat", None, None, 30.0)
 
 
 def test_users_file_over_the_systems(home: pathlib.Path, monkeypatch: pytest.MonkeyPatch) -> None:

@@ -51,7 +51,7 @@ def around(folder: str, monkeypatch: pytest.MonkeyPatch) -> Around:
 
 
 def test_without_a_word_the_login_asks_a_desk_on_this_machine(around: Around) -> None:
-    assert around.reads() == Settings("http://127.0.0.1:8080", "login", None, None, 30)
+    assert around.reads() == Settings("http://127.0.0.1:880", "login", None, None, 30)
     assert around.reads(user="admin").user == "admin"
 
 

@@ -14,7 +14,7 @@ from typing import Dict, Mapping, Optional, Sequence, Tuple
 from fizgruk.errors import BadSettings
 
 SYSTEM_FILE = "/etc/farm/desk.ini"
-SERVER = "http://127.0.0.1:8080"
+SERVER = "http://127.0.0.1:880"
 SECTION, ENVIRONMENT = "desk", "DESK_"
 WORDS = ("server", "user", "password_file", "ca_file", "timeout")
 # What the section may have besides, which is the command's alone.

@@ -15,7 +15,7 @@ from typing import Callable, Dict, Optional, Sequence, Tuple
 from fizgruk._tools.parsers import Parser
 
 SYSTEM_FILE, OWN_FILE = "/etc/farm/desk.ini", "~/.config/farm/desk.ini"
-SERVER = "http://127.0.0.1:8080"
+SERVER = "http://127.0.0.1:880"
 NO_LOGIN = "a server's address has no user and no password in it: --user and --password-file"
 LOOPBACK = ("127.0.0.1", "localhost", "::1")
 WORDS = ("server", "user", "password_file", "ca_file", "timeout")

@@ -1,0 +1,77 @@
+"""The desk's port believes what name it is told: who may connect to it on the machine that it serves, and who can
+listen in its place."""
+from __future__ import annotations
+
+import pytest
+
+from machine import ACCOUNTS, PORT, Machine
+
+pytestmark = [pytest.mark.xdist_group("machine"), pytest.mark.slow(15)]
+TABLE = ("nft", "list", "table", "inet", "farm")
+BIND = f"import socket; socket.create_server(('127.0.0.1', {PORT}))"
+CONNECTS_NOT = 7
+
+
+@pytest.fixture
+def desk(machine: Machine) -> Machine:
+    machine.serve()
+    return machine
+
+
+def test_only_the_desks_own_accounts_the_proxy_and_root_reach_the_port(desk: Machine) -> None:
+    for account in (*ACCOUNTS, "www-data", "root"):
+        assert desk.asked(account, "admin", "/status") == 0, account
+    for account in ("ann", "nobody", "games"):
+        assert desk.asked(account, "admin", "/status") == CONNECTS_NOT, account
+    desk.run("sh", "-c", "systemd-run -q --wait -p DynamicUser=yes true")
+    job = ("systemd-run", "-q", "--wait", "-p", "DynamicUser=yes", *desk.curl("admin", "/status"))
+    assert desk.run(*job, check=False).returncode == CONNECTS_NOT, "an account that systemd makes"
+
+
+def test_no_login_can_listen_in_the_desks_place(desk: Machine) -> None:
+    desk.run("systemctl", "stop", "farm")
+    for account in ("ann", "nobody", "farm-dispatch", "www-data"):
+        ran = desk.run("python3", "-c", BIND, user=account, check=False)
+        assert (ran.returncode, "Permission denied" in ran.stderr) == (1, True), (account, ran.stderr)
+
+
+def test_the_table_is_there_as_long_as_the_desk_is(desk: Machine) -> None:
+    assert "reject" in desk.run(*TABLE).stdout
+    desk.run("systemctl", "restart", "farm")
+    assert "reject" in desk.run(*TABLE).stdout
+    desk.run("systemctl", "stop", "farm")
+    desk.wait("the table is gone", "sh", "-c", f"! {' '.join(TABLE)} > /dev/null 2>&1 && echo gone")
+    desk.serve()
+    assert "reject" in desk.run(*TABLE).stdout
+
+
+def test_a_desk_without_the_table_serves_nobody(desk: Machine) -> None:
+    desk.run("systemctl", "stop", "farm")
+    rule = "/usr/local/lib/farm-tools/farm-port.nft"
+    desk.run("mv", rule, f"{rule}.away")
+    try:
+        assert desk.run("systemctl", "start", "farm", check=False).returncode != 0
+        assert desk.asked("root", "admin", "/status") == CONNECTS_NOT
+    finally:
+        desk.run("mv", f"{rule}.away", rule)
+        desk.run("systemctl", "reset-failed", "farm-port", "farm", check=False)
+
+
+@pytest.mark.parametrize("word", ["reload", "restart"])
+def test_the_table_comes_back_when_debians_firewall_flushes_all(desk: Machine, word: str) -> None:
+    desk.write("/etc/nftables.conf", "#!/usr/sbin/nft -f\nflush ruleset\n", 0o755)
+    desk.run("systemctl", "start", "nftables")
+    desk.serve()
+    desk.run("systemctl", word, "nftables")
+    desk.wait("the desk, which begins again where the table does", *desk.curl("root", "/status"))
+    desk.wait("the table", *TABLE)
+    assert desk.asked("ann", "admin", "/status") == CONNECTS_NOT
+
+
+def test_the_nightly_backup_compares_its_copy_with_what_the_desk_says(desk: Machine) -> None:
+    desk.run("systemctl", "start", "farm-backup")
+    said = desk.journal("farm-backup")
+    assert "isn't compared" not in said and "/var/lib/farm-backup/farm-" in said, said
+    server = f"http://127.0.0.1:{PORT}"
+    ran = desk.run("farm-backup", "--verbose", "--server", server, "/var/lib/farm-backup", user="farm")
+    assert f"compared with the desk at {server}: " in ran.stderr
