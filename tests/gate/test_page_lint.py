@@ -14,15 +14,10 @@ from served import TOOLS, TOP
 from wants import wants
 
 PAGE = pathlib.Path(TOOLS, "page", "farm.html")
+SCRIPT = pathlib.Path(TOOLS, "page", "farm.js")
 RULES = pathlib.Path(TOP, "tests", "gate", "eslint.json")
 # (the usual format wants parts that Debian's package doesn't bring)
 ESLINT = ("eslint", "--no-eslintrc", "--format", "unix")
-
-
-def script_of(page: str) -> str:
-    """The script of a page, on the lines that it has there."""
-    before, script = re.split(r"<script>", page.partition("</script>")[0])
-    return "\n" * before.count("\n") + script
 
 
 def said(script: pathlib.Path, *words: object) -> str:
@@ -39,13 +34,14 @@ def said(script: pathlib.Path, *words: object) -> str:
 def script(tmp_path: pathlib.Path) -> pathlib.Path:
     """A file of the page's script."""
     file = tmp_path / "page.js"
-    file.write_text(script_of(PAGE.read_text(encoding="utf-8")), encoding="utf-8")
+    file.write_text(SCRIPT.read_text(encoding="utf-8"), encoding="utf-8")
     return file
 
 
 def test_the_page_has_one_script_and_no_handlers_in_its_elements() -> None:
     page = PAGE.read_text(encoding="utf-8")
-    assert len(re.findall(r"<script", page)) == 1
+    assert re.findall(r"<script[^>]*>[^<]*", page) == ['<script src="farm.js">']
+    assert re.findall(r"<style| style=", page) == []
     assert re.findall(r"<[^>]* on[a-z]+=", page) == []
 
 

@@ -70,6 +70,7 @@ class Site:
             site = text.read()
         for old, new in [
             ("listen 443 ssl", f"listen 127.0.0.1:{self.port} ssl"),
+            ("farm.lab.example", "localhost"),
             ("http://127.0.0.1:880", farm.server),
             ("/etc/ssl/certs/farm.pem", self.certificate),
             ("/etc/ssl/private/farm.key", f"{self.folder}/farm.key"),

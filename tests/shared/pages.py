@@ -20,6 +20,12 @@ BOARDS: List[Board] = [("b1", "bbb", ["hdmi", "serial"]), ("b2", "bbb", ["serial
 HOUR = 3600
 PHONE = 390
 PAGE = os.path.join(TOOLS, "page", "farm.html")
+# The page's files, by their paths.
+FILES = {
+    "/": ("farm.html", "text/html; charset=utf-8"),
+    "/farm.css": ("farm.css", "text/css; charset=utf-8"),
+    "/farm.js": ("farm.js", "text/javascript; charset=utf-8"),
+}
 # Lets a page look every half second instead of every five.
 HURRY = """(real => window.setTimeout = (call, wait, ...more) =>
   real(call, wait === 5000 ? 500 : wait, ...more))(window.setTimeout);"""
@@ -65,9 +71,10 @@ class Door(http.server.BaseHTTPRequestHandler):
 
     def do_GET(self) -> None:
         lab, path = self.lab, urllib.parse.urlsplit(self.path).path
-        if path == "/":
-            with open(PAGE, "rb") as text:
-                self.answer(200, "text/html; charset=utf-8", text.read())
+        if path in FILES:
+            name, kind = FILES[path]
+            with open(os.path.join(os.path.dirname(PAGE), name), "rb") as text:
+                self.answer(200, kind, text.read())
             return
         lab.asked.append((path, time.monotonic()))
         lab.may_answer.wait()

@@ -2,6 +2,7 @@
 proxy in examples/ does. What a user does with it is in test_page_work.py."""
 from __future__ import annotations
 
+import os
 import re
 import time
 import urllib.parse
@@ -10,8 +11,8 @@ from typing import Callable, List, Set, Tuple
 import pytest
 
 from browser import Page
-from pages import BOARDS, HOUR, PAGE, PHONE, SHOWN, Lab, Shown, names, seen, tell_at, until
-from served import wait_until
+from pages import BOARDS, FILES, HOUR, PHONE, SHOWN, Lab, Shown, names, seen, tell_at, until
+from served import TOOLS, wait_until
 
 pytestmark = pytest.mark.xdist_group("page1")
 OVER = "over: waits for the next pass"
@@ -396,8 +397,12 @@ def test_all_texts_have_contrast(lab: Lab, scheme: str) -> None:
     assert lab.opened(scheme=scheme).poor_texts() == set()
 
 
-def test_it_holds_its_script_and_style_itself_and_names_no_other_place() -> None:
-    with open(PAGE, encoding="utf-8") as text:
-        page = text.read()
-    assert re.findall(r"https?://|//[a-z]|@import|<link[^>]*href=\"[^d]", page) == []
-    assert re.findall(r"<script[^>]*src", page) == []
+def test_its_script_and_style_are_its_own_files_and_name_no_other_place() -> None:
+    texts = {}
+    for path, (name, _) in FILES.items():
+        with open(os.path.join(TOOLS, "page", name), encoding="utf-8") as text:
+            texts[path] = text.read()
+    named = re.findall(r"(?:href|src)=\"(.*?)\"", texts["/"])
+    assert named == ["data:,", "farm.css", "farm.js"]
+    assert re.findall(r"https?://|//[a-z]|@import|url\(", texts["/"] + texts["/farm.css"]) == []
+    assert re.findall(r"https?://|import ", texts["/farm.js"]) == []

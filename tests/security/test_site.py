@@ -1,0 +1,340 @@
+"""The site of examples/nginx.conf under attack: frames, scripts that aren't its own, foreign origins, passwords that are
+guessed, heads and bodies that never end, commands without end, and what nginx itself answers."""
+from __future__ import annotations
+
+import http.server
+import json
+import os
+import re
+import socket
+import ssl
+import threading
+import time
+import urllib.parse
+from typing import Callable, Dict, Iterator, List, Tuple
+
+import pytest
+
+from browser import Browser, Visit, wants_a_browser
+from nginx_site import WORDS, Site
+from served import TOOLS, Farm, read, wait_until
+
+JSON = "application/json"
+RESERVE = ("-d", '{"tags":[]}')
+
+
+@pytest.fixture
+def farm(make_farm: Callable[..., Farm]) -> Farm:
+    return make_farm([("b1", "bbb", ["rack=3"])])
+
+
+@pytest.fixture
+def site(farm: Farm, make_site: Callable[..., Site]) -> Site:
+    return make_site(farm)
+
+
+@pytest.fixture(scope="module")
+def browser(tmp_path_factory: pytest.TempPathFactory) -> Iterator[Browser]:
+    wants_a_browser()
+    started = Browser(str(tmp_path_factory.mktemp("browser")))
+    yield started
+    started.end()
+
+
+@pytest.fixture
+def visit(browser: Browser) -> Iterator[Visit]:
+    begun = browser.visit()
+    yield begun
+    begun.end()
+
+
+def reserved(farm: Farm) -> int:
+    """How many reservations ever were."""
+    return len(farm.look("/reservations")["reservations"])
+
+
+def with_login(site: Site) -> str:
+    return site.server.replace("https://", f"https://ann:{urllib.parse.quote(WORDS['ann'])}@")
+
+
+# ---- the page in a browser
+
+def framing(site: Site) -> http.server.ThreadingHTTPServer:
+    """A page at another port of the site's own host, which lays the site's page over itself."""
+    body = f'<!DOCTYPE html><iframe src="{site.server}/" width="900" height="800"></iframe>'.encode()
+
+    class Framing(http.server.BaseHTTPRequestHandler):
+        """It."""
+
+        def do_GET(self) -> None:
+            self.send_response(200)
+            self.send_header("content-type", "text/html")
+            self.send_header("content-length", str(len(body)))
+            self.end_headers()
+            self.wfile.write(body)
+
+        def log_message(self, format: str, *args: object) -> None:  # pylint: disable=redefined-builtin
+            pass
+
+    server = http.server.ThreadingHTTPServer(("127.0.0.1", 0), Framing)
+    trusted = ssl.create_default_context(ssl.Purpose.CLIENT_AUTH)
+    trusted.load_cert_chain(site.certificate, f"{site.folder}/farm.key")
+    server.socket = trusted.wrap_socket(server.socket, server_side=True)
+    threading.Thread(target=server.serve_forever, daemon=True).start()
+    return server
+
+
+@pytest.mark.xdist_group("page2")
+def test_no_page_of_another_port_has_the_page_in_its_frame(farm: Farm, site: Site, visit: Visit) -> None:
+    """In a browser that keeps the login, with real clicks all over what is seen of it."""
+    own = visit.open(with_login(site))
+    wait_until("the page", lambda: "as of" in own.ask("document.getElementById('said').textContent"))
+    server = framing(site)
+    try:
+        foreign = visit.open(f"https://localhost:{server.server_address[1]}/", 900, 800)
+        time.sleep(1)
+        frames = foreign.do("Page.getFrameTree")["frameTree"]["childFrames"]
+        assert [it["frame"]["url"].partition(":")[0] for it in frames] == ["chrome-error"]
+        for y in range(20, 800, 30):
+            for x in (40, 200, 400, 600, 800):
+                foreign.click_at(x, y)
+    finally:
+        server.shutdown()
+        server.server_close()
+    assert reserved(farm) == 0
+
+
+@pytest.mark.xdist_group("page2")
+def test_a_script_that_came_into_the_page_doesnt_run(site: Site, visit: Visit) -> None:
+    own = visit.open(with_login(site))
+    wait_until("the page", lambda: "as of" in own.ask("document.getElementById('said').textContent"))
+    add = "document.body.append(Object.assign(document.createElement({!r}), {}))"
+    own.ask(f"void {add.format('script', '{textContent: `window.ran = 1`}')}")
+    own.ask("void document.body.insertAdjacentHTML('beforeend', `<img src='data:,' onerror='window.ran = 2'>`)")
+    own.ask(f"void {add.format('script', '{src: `data:text/javascript,window.ran=3`}')}")
+    time.sleep(0.5)
+    assert own.ask("window.ran === undefined")
+    styled = "document.body.insertAdjacentHTML('beforeend', `<p id=x style='color: rgb(1, 2, 3)'>x</p>`)"
+    own.ask(f"void {styled}")
+    assert own.ask("getComputedStyle(document.getElementById('x')).color") != "rgb(1, 2, 3)"
+
+
+@pytest.mark.xdist_group("page2")
+def test_page_has_its_own_policy(farm: Farm, make_site: Callable[..., Site], visit: Visit) -> None:
+    """The same where the site says none."""
+    site = make_site(farm, ("add_header content-security-policy", "add_header x-no-policy"))
+    test_a_script_that_came_into_the_page_doesnt_run(site, visit)
+
+
+# ---- what every answer says
+
+POLICY = "default-src 'none'; script-src 'self'; style-src 'self'; connect-src 'self'"
+
+
+def test_each_answer_forbids_frames_and_foreign_scripts_and_says_no_version(kept_files: None, site: Site) -> None:
+    del kept_files
+    for path, user, status in (
+        ("/", "ann", 200), ("/farm.js", "ann", 200), ("/queue", "ann", 200), ("/whoami", "ann", 200),
+        ("/logs/1", "ann", 200), ("/history.json", "ann", 200), ("/queue", "", 401), ("/no/such", "ann", 404),
+        ("/logs/2", "ann", 404),
+    ):
+        got, fields, _ = site.got(path, user=user)
+        assert got == status, path
+        policy = fields["content-security-policy"]
+        assert policy.startswith(POLICY) and "frame-ancestors 'none'" in policy and "unsafe" not in policy, path
+        assert fields["x-frame-options"] == "deny", path
+        assert fields["strict-transport-security"] == "max-age=31536000", path
+        assert fields["x-content-type-options"] == "nosniff", path
+        assert fields["server"] == "nginx", path
+
+
+@pytest.fixture
+def kept_files(site: Site) -> None:
+    """A log and a history, as the dispatcher keeps them."""
+    os.makedirs(f"{site.folder}/dispatch/logs")
+    for name in ("logs/1", "history.json"):
+        with open(f"{site.folder}/dispatch/{name}", "w", encoding="utf-8") as file:
+            file.write("{}")
+
+
+@pytest.mark.parametrize("name, kind", [("farm.css", "text/css"), ("farm.js", "text/javascript")])
+def test_the_pages_files_are_served_to_those_who_have_a_password(site: Site, name: str, kind: str) -> None:
+    status, fields, body = site.got(f"/{name}")
+    assert (status, fields["content-type"], fields["cache-control"]) == (200, f"{kind}; charset=utf-8", "no-cache")
+    assert body.decode() == read(f"{TOOLS}/page/{name}")
+    assert site.got(f"/{name}", user="")[0] == 401
+
+
+def raw(site: Site, request: bytes, wait: float = 20) -> bytes:
+    """What a connection gets for these bytes until it is closed, or nothing more comes."""
+    with line_to(site) as line:
+        line.settimeout(wait)
+        line.sendall(request)
+        said = b""
+        try:
+            while True:
+                more = line.recv(65536)
+                if not more:
+                    return said
+                said += more
+        except TimeoutError:
+            return said + b"(open)"
+
+
+def line_to(site: Site) -> ssl.SSLSocket:
+    trusted = ssl.create_default_context(cafile=site.certificate)
+    return trusted.wrap_socket(socket.create_connection(("127.0.0.1", site.port)), server_hostname="localhost")
+
+
+@pytest.mark.parametrize(
+    "request_line, fields, status",
+    [
+        ("POST /jobs HTTP/1.1", "transfer-encoding: gzip\r\n", 501),
+        ("TRACE / HTTP/1.1", "", 405),
+        ("GET / HTTP/9.9", "", 505),
+        ("GET /\x01 HTTP/1.1", "", 400),
+        ("GET / HTTP/1.1", "transfer-encoding: chunked\r\ncontent-length: 3\r\n", 400),
+    ],
+)
+def test_what_nginx_refuses_itself_is_told_in_json(site: Site, request_line: str, fields: str, status: int) -> None:
+    said = raw(site, f"{request_line}\r\nhost: localhost\r\nconnection: close\r\n{fields}\r\n".encode("latin-1"))
+    head, _, body = said.partition(b"\r\n\r\n")
+    assert head.split()[1] == str(status).encode(), said
+    assert json.loads(body)["code"] == status
+    assert b"nginx/" not in head and b"<html" not in body
+
+
+# ---- whose page a command is from
+
+def origin(site: Site, text: str) -> List[str]:
+    text = text.replace("PORT", str(site.port))
+    return [word for it in text.split("|") for word in ("-H", it)]
+
+
+def test_a_foreign_name_that_leads_to_the_site_is_a_foreign_origin(farm: Farm, site: Site) -> None:
+    """As where a page's name is led to the site's address: host and origin are the same then."""
+    for fields in (
+        "Host: evil.example|Origin: https://evil.example", "Host: evil.example:PORT|Origin: https://evil.example:PORT",
+        "Host: localhost|Origin: https://evil.example", "Host: 127.0.0.1:PORT|Origin: https://127.0.0.1:PORT",
+    ):
+        assert site.said(*origin(site, fields), *RESERVE, "/reservations")[0] == 403, fields
+    assert reserved(farm) == 0
+    assert site.said(*origin(site, "Origin: https://localhost:PORT"), *RESERVE, "/reservations")[0] == 200
+
+
+def test_at_the_usual_port_the_sites_origin_has_none(farm: Farm, make_site: Callable[..., Site]) -> None:
+    site = make_site(farm, ("https://$server_name:$server_port", "https://$server_name:443"))
+    assert site.said(*origin(site, "Origin: https://localhost"), *RESERVE, "/reservations")[0] == 200
+    assert site.said(*origin(site, "Origin: https://localhost.evil"), *RESERVE, "/reservations")[0] == 403
+    assert site.said(*origin(site, "Origin: http://localhost"), *RESERVE, "/reservations")[0] == 403
+
+
+# ---- who takes all
+
+def test_a_wrong_password_waits_and_a_right_one_doesnt(site: Site) -> None:
+    began = time.monotonic()
+    for _ in range(3):
+        assert site.said("/queue", user="")[0] == 401
+        assert site.got("/queue", "-u", "ann:guess", user="")[0] == 401
+    assert time.monotonic() - began > 5, "six guesses"
+
+
+def test_one_address_has_so_many_connections(farm: Farm, make_site: Callable[..., Site]) -> None:
+    """With fewer of them, and guesses that wait long, so that these are all there at once."""
+    site = make_site(farm, ("farm_connections 200", "farm_connections 4"), ("auth_delay 1s", "auth_delay 5s"))
+    lines = [line_to(site) for _ in range(4)]
+    for line in lines:
+        line.sendall(b"GET /queue HTTP/1.1\r\nhost: localhost\r\n\r\n")
+    time.sleep(0.5)
+    assert site.said("/queue")[0] == 429
+    for line in lines:
+        line.close()
+
+
+def test_one_users_commands_without_end_are_refused_and_anothers_and_looks_are_not(
+    farm: Farm, make_site: Callable[..., Site]
+) -> None:
+    """A site that takes fewer, so that few commands are many."""
+    site = make_site(farm, ("rate=2r/s", "rate=1r/m"), ("burst=150 delay=100", "burst=6 delay=6"))
+    statuses = [site.said(*RESERVE, "/reservations")[0] for _ in range(20)]
+    assert statuses == [200] * 7 + [429] * 13
+    assert site.said(*RESERVE, "/reservations")[2] == {"code": 429, "text": "Too Many Requests"}
+    assert reserved(farm) == 7
+    assert [site.said("/queue")[0] for _ in range(10)] == [200] * 10, "her looks"
+    told = [site.said("-X", "POST", "/pass", user="dispatcher")[0] for _ in range(20)]
+    assert told == [200] * 20, "the dispatcher's commands, of the same address"
+
+
+def test_a_wrong_password_uses_up_nothing_of_whose_name_it_is(farm: Farm, make_site: Callable[..., Site]) -> None:
+    site = make_site(farm, ("rate=2r/s", "rate=1r/m"), ("burst=150 delay=100", "burst=2 delay=2"), ("auth_delay 1s", "auth_delay 0"))
+    for _ in range(10):
+        assert site.got("/reservations", "-u", "ann:guess", *RESERVE, user="")[0] == 401
+    assert site.said(*RESERVE, "/reservations")[0] == 200
+
+
+def test_two_thousand_reservations_at_once_leave_room_for_the_others(farm: Farm, site: Site) -> None:
+    """As a user's loop did: 2,090 in 20 seconds."""
+    line, fields = site.connection()
+    until, done, refused = time.monotonic() + 20, 0, 0
+    lines = [site.connection() for _ in range(8)]
+
+    def ask_on(line: object, fields: Dict[str, str]) -> None:
+        nonlocal done, refused
+        while time.monotonic() < until:
+            line.request("POST", "/reservations", body='{"tags":[]}', headers=fields)  # type: ignore[attr-defined]
+            answer = line.getresponse()  # type: ignore[attr-defined]
+            answer.read()
+            done, refused = done + (answer.status == 200), refused + (answer.status == 429)
+
+    threads = [threading.Thread(target=ask_on, args=it) for it in lines]
+    for it in threads:
+        it.start()
+    for it in threads:
+        it.join()
+    line.close()
+    assert reserved(farm) < 200, "a hundred at once, and two a second"
+
+
+# ---- heads and bodies that never end
+
+HALVES: List[Tuple[str, bytes]] = [
+    ("a half head", b"GET /queue HTTP/1.1\r\nhost: local"),
+    ("nothing", b""),
+]
+
+
+@pytest.mark.slow(12)
+@pytest.mark.parametrize("kind, sent", HALVES, ids=[it[0] for it in HALVES])
+def test_a_head_that_doesnt_end_is_closed_within_seconds(site: Site, kind: str, sent: bytes) -> None:
+    del kind
+    began = time.monotonic()
+    said = raw(site, sent, 50)
+    assert not said.endswith(b"(open)") and time.monotonic() - began < 40
+
+
+@pytest.mark.slow(12)
+def test_a_body_that_doesnt_come_is_closed_within_seconds(site: Site) -> None:
+    _, fields = site.connection()
+    head = f"POST /jobs HTTP/1.1\r\nhost: localhost\r\nauthorization: {fields['authorization']}\r\ncontent-length: 9\r\n\r\n"
+    said = raw(site, head.encode() + b"x", 50)
+    assert not said.endswith(b"(open)")
+    assert re.match(rb"(HTTP/1.1 408 |$)", said), said
+
+
+@pytest.mark.slow(12)
+def test_many_half_heads_shut_nobody_out_for_long(site: Site) -> None:
+    """All the places that this nginx has: each head had a minute before."""
+    lines = []
+    for _ in range(600):
+        try:
+            line = line_to(site)
+            line.sendall(b"GET /queue HTTP/1.1\r\nhost: local")
+        except OSError:
+            break  # nobody has a place any more
+        lines.append(line)
+    assert len(lines) > 400
+    try:
+        wait_until("an answer", lambda: site.curl("-m", "2", "-o", "/dev/null", "/") == 0, 30)
+    finally:
+        for line in lines:
+            line.close()
