@@ -54,7 +54,7 @@ SET_UP = """\
 set -e
 cd /tmp/source
 install farm /usr/local/bin
-install -Dt /usr/local/lib/farm-tools tools/desk tools/farm-*
+install -Dt /usr/local/lib/farm-tools tools/desk tools/farm-* $(ls tools/job-in-account 2> /dev/null)
 cp -rLt /usr/local/lib/farm-tools tools/farm_* tools/fizgruk tools/page
 install -m 644 -t /usr/local/lib/farm-tools examples/farm-port.nft
 install -Dt /etc/farm examples/run-job examples/check-board

@@ -351,7 +351,7 @@ def test_a_command_that_cant_be_run_is_told_as_a_shell_does(command: str, fault:
     ({"limit": "soon"}, "limit: 'soon' is no time, as '90 minutes' is one"),
     ({"log_limit": "much"}, "log_limit: 'much' is no size, as '100 MB' is one"),
     ({"serves": "two words"}, "serves: 'two words' is no tag, as worker=rack2 is one"),
-    ({"cage": "box"}, "cage: 'box' is none of best, cgroup, namespace, none"),
+    ({"cage": "box"}, "cage: 'box' is none of best, account, cgroup, namespace, none"),
     ({"clock": "none"}, "clock: 'none' is neither synchronized nor any"),
 ])
 def test_settings_that_say_nothing_are_told(more: Dict[str, Optional[str]], told: str) -> None:

@@ -97,8 +97,8 @@ class Meter:
 def counts_of(mark: str) -> Counts:
     """What is counted of the cage of this mark until now."""
     found: Counts = {}
-    kind, _, own = mark.partition(":")
-    for it in KINDS if kind == cages.CGROUP else ():
+    own = cages.cgroup_of(mark)
+    for it in KINDS if own else ():
         for folder in (own, os.path.dirname(own)):
             count = _count_in(os.path.join(folder, it.file), it.line)
             if count is not None:
@@ -109,7 +109,7 @@ def counts_of(mark: str) -> Counts:
 
 def met_since(mark: str, before: Counts) -> List[str]:
     """The limits that were met since these were the counts, in words."""
-    own, now = mark.partition(":")[2], counts_of(mark)
+    own, now = cages.cgroup_of(mark), counts_of(mark)
     told = []
     for it in KINDS:
         for file, count in now.items():
@@ -124,17 +124,16 @@ def met_since(mark: str, before: Counts) -> List[str]:
 
 def was_out_of_memory(mark: str) -> bool:
     """Whether the kernel killed something of this cage alone for lack of memory."""
-    kind, _, own = mark.partition(":")
-    count = _count_in(os.path.join(own, MEMORY.file), MEMORY.line)
-    return kind == cages.CGROUP and bool(count)
+    own = cages.cgroup_of(mark)
+    return bool(own and _count_in(os.path.join(own, MEMORY.file), MEMORY.line))
 
 
 def own_limit_met(mark: str) -> str:
     """The limit of memory of this cage alone, in words, where that was met; nothing where it wasn't,
     or there is none."""
-    kind, _, own = mark.partition(":")
-    met = _count_in(os.path.join(own, MEMORY.file), "oom")
-    return _most_of(MEMORY, own) if kind == cages.CGROUP and met else ""
+    own = cages.cgroup_of(mark)
+    met = own and _count_in(os.path.join(own, MEMORY.file), "oom")
+    return _most_of(MEMORY, own) if met else ""
 
 
 def _most_of(kind: Kind, cgroup: str) -> str:

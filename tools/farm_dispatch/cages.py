@@ -3,6 +3,9 @@
 A job's command runs in a cage of its own, which has a mark, by which whoever comes later finds what
 is in it:
 
+    account:BOOT:PID-TIME:PATH
+                         a service of systemd's, whose cgroup PATH is, with an account of its own
+                         (farm_dispatch.accounts). It ends with the keeper that the mark names.
     cgroup:PATH          a cgroup (version 2) below the dispatcher's own (systemd: Delegate=yes).
                          The process that runs the command is in PATH, the command in PATH/command.
     pidns:BOOT:PID-TIME  a namespace of processes, made without root by one of users. It dies with
@@ -23,8 +26,10 @@ import subprocess
 import time
 from typing import Dict, Iterator, List, NamedTuple, Optional, Sequence, Set, Tuple
 
-CGROUP, NAMESPACE, NONE = "cgroup", "namespace", "none"
-FORMS = (CGROUP, NAMESPACE, NONE)
+from farm_dispatch import accounts
+
+ACCOUNT, CGROUP, NAMESPACE, NONE = "account", "cgroup", "namespace", "none"
+FORMS = (ACCOUNT, CGROUP, NAMESPACE, NONE)
 COMMAND = "command"  # the cgroup of the command, below the one of the process that runs it
 DISPATCHER = "farm-dispatcher"  # the dispatcher's own, beside its jobs', where these have limits
 DIES_FIRST = 500  # what a command adds to what the kernel goes by when it kills for lack of memory
@@ -54,12 +59,16 @@ class Cage(NamedTuple):
 
 def best_form() -> str:
     """The first form that can be made here."""
+    if accounts.are_there():
+        return ACCOUNT
     if own_cgroup():
         return CGROUP
     return NAMESPACE if _can_unshare() else NONE
 
 
 def can_make(form: str) -> bool:
+    if form == ACCOUNT:
+        return accounts.are_there()
     if form == CGROUP:
         return bool(own_cgroup())
     return form == NONE or _can_unshare()
@@ -68,7 +77,7 @@ def can_make(form: str) -> bool:
 def own_cgroup() -> str:
     """The folder of this process's cgroup, where cgroups may be made below it that can be killed;
     nothing else."""
-    mount = next((it.split()[1] for it in _lines("/proc/self/mounts") if " cgroup2 " in it), "")
+    mount = _mount_of_cgroups()
     path = next((it[3:] for it in _lines("/proc/self/cgroup") if it.startswith("0::")), "")
     if not mount or not path:
         return ""
@@ -85,6 +94,20 @@ def own_cgroup() -> str:
         return own if may_enter and os.path.exists(os.path.join(trial, "cgroup.kill")) else ""
     finally:
         os.rmdir(trial)
+
+
+def cgroup_of(mark: str) -> str:
+    """The cgroup of what a mark is of; nothing where it is none of this boot."""
+    kind, _, value = mark.partition(":")
+    if kind != ACCOUNT:
+        return value if kind == CGROUP else ""
+    boot, _, rest = value.partition(":")
+    path = rest.partition(":")[2]
+    return f"{_mount_of_cgroups()}{path}" if boot == boot_id() and path else ""
+
+
+def _mount_of_cgroups() -> str:
+    return next((it.split()[1] for it in _lines("/proc/self/mounts") if " cgroup2 " in it), "")
 
 
 def _can_unshare() -> bool:
@@ -108,6 +131,9 @@ def _can_unshare() -> bool:
 def is_empty(mark: str, cage: Cage) -> bool:
     """Whether no process of the job's command is left."""
     kind, _, value = mark.partition(":")
+    if kind == ACCOUNT:
+        own = cgroup_of(mark)  # it goes when systemd has ended all of the service
+        return not own or first_of(_keeper_in(value)) is None and not os.path.isdir(own)
     if kind == CGROUP:
         return not _is_populated(os.path.join(value, COMMAND))
     if kind == "pidns":
@@ -118,6 +144,9 @@ def is_empty(mark: str, cage: Cage) -> bool:
 def kill(mark: str, cage: Cage) -> None:
     """Kills all that is in a cage."""
     kind, _, value = mark.partition(":")
+    if kind == ACCOUNT:
+        _kill(first_of(_keeper_in(value)))
+        return
     if kind == CGROUP:
         _write(os.path.join(value, COMMAND, "cgroup.kill"), "1")
         return
@@ -158,13 +187,19 @@ def remove(mark: str) -> bool:
 def left_in(mark: str, cage: Cage) -> str:
     """What is left in a cage, for people: each process with its state."""
     kind, _, value = mark.partition(":")
-    if kind == CGROUP:
-        pids = [int(it) for it in _lines(os.path.join(value, COMMAND, "cgroup.procs"))]
+    if kind in (ACCOUNT, CGROUP):
+        own = cgroup_of(mark) if kind == ACCOUNT else os.path.join(value, COMMAND)
+        pids = [int(it) for it in _lines(os.path.join(own, "cgroup.procs"))]
     elif kind == "pidns":
         pids = [it for it in (first_of(value),) if it]
     else:
         pids = sorted(_found(value, cage))
     return ", ".join(f"{it} ({_stat(it)[0] or 'gone'})" for it in pids[:10]) or "its lock is held"
+
+
+def _keeper_in(value: str) -> str:
+    """The keeper that an account's mark names, by boot, number and time."""
+    return ":".join(value.split(":")[:2])
 
 
 def first_of(value: str) -> Optional[int]:
@@ -231,7 +266,8 @@ def keep(cage: Cage, command: Sequence[str], environment: Dict[str, str], output
             os.close(told)
             _LIBC.prctl(_PR_SET_PDEATHSIG, int(signal.SIGKILL))
             if os.getppid() in (caller, 0):  # 0: it is beyond this namespace
-                _Keeper(cage, tells, goes).run(command, environment, output)
+                kind = _AccountKeeper if cage.form == ACCOUNT else _Keeper
+                kind(cage, tells, goes).run(command, environment, output)
         except BaseException as fault:  # pylint: disable=broad-except
             _say(tells, f"fault {fault}")
         finally:
@@ -305,6 +341,31 @@ class _Keeper:
         if self.child:
             with contextlib.suppress(ProcessLookupError, PermissionError):
                 os.killpg(self.child, signal.SIGTERM)
+
+
+class _AccountKeeper(_Keeper):
+    """The keeper of a service: it has the connection, and tells what comes over it."""
+
+    def run(self, command: Sequence[str], environment: Dict[str, str], output: int) -> None:
+        self.account = account = accounts.Account()
+        accounts.allow(self.cage.folder, account.uid)
+        _say(self.tells, f"mark {ACCOUNT}:{name_of(os.getpid())}:{account.cgroup}")
+        if os.read(self.goes, 1) != b"g":
+            return
+        folder = self.cage.folder
+        order = {"command": list(command), "environment": environment, "folder": folder}
+        account.start(order, output)
+        os.close(output)
+        self.child = os.getpid()
+        if self.is_told:
+            self._hand_on()
+        for line in account.lines():
+            _say(self.tells, line)
+
+    def _hand_on(self, *_: object) -> None:
+        self.is_told = True
+        if self.child:
+            self.account.end()
 
 
 def enter(cgroup: str) -> None:

@@ -47,6 +47,8 @@ class Groups:
         self.place, self.options = place, options
         for name in (folders.GROUPS, folders.JOBS, folders.CAGES):
             os.makedirs(os.path.join(place, name), mode=0o750, exist_ok=True)
+        if options.cage == cages.ACCOUNT:
+            folders.made_for_all(os.path.join(place, folders.JOBS))  # each folder is its job's alone
         self.identity = identity_of(place)
         self.cgroup = cages.own_cgroup() if options.cage == cages.CGROUP else ""
         self.removals = strangers.Removals()

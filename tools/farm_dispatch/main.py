@@ -28,7 +28,8 @@ NO_CAGE = (
 )
 NO_LIMITS = (
     "jobs have no limits of memory and processes of their own: these want a cgroup of version 2, the "
-    "controllers memory and pids, and the cgroup farm-dispatcher (DelegateSubgroup of the unit)"
+    "controllers memory and pids, and the cgroup farm-dispatcher (DelegateSubgroup of the unit); jobs "
+    "with accounts have MemoryMax and TasksMax of farm-job@.service"
 )
 NO_TOML = "timeouts of jobs aren't read: this Python has neither tomllib nor tomli (python3-tomli)"
 SIZES, NO_LIMIT = ("log_limit", "folder_limit", "memory_limit"), "none"
@@ -51,7 +52,8 @@ MORE = {
     "cage": (
         "WORD",
         "best",
-        "By what all processes of a job are found and ended: 'cgroup', a cgroup below its own "
+        "By what all processes of a job are found and ended: 'account', a service of systemd's for "
+        "each job, with an account of its own (farm-job@.service); 'cgroup', a cgroup below its own "
         "('Delegate=yes' of the unit); 'namespace', one of processes, in which sudo(8) doesn't "
         "work; 'none', the environment and an open file, which a process can drop; 'best', the "
         "first of these that can be made",

@@ -108,6 +108,7 @@ class Run:
         self.measure = time.monotonic() + MEASURES
         self.told: Optional[float] = None  # since when it is told to end
         self.late = ""  # the limit that ended it
+        self.size = 0  # of the job's folder, as its account sees it
         self.killed = False
 
     def ran(self, command: Sequence[str]) -> str:
@@ -162,6 +163,7 @@ class Run:
         """How the command ended, once nothing of it is left, or what is left can't be killed."""
         if self.order.form == cages.NONE:
             ends.wait_for_close(DIES_WITHIN)
+        self.meter.look()  # (the cgroup of a service goes with it)
         cages.empty(self.mark, self.cage, DIES_WITHIN)
         self.meter.look()
         how = ends.how or f"signal {int(signal.SIGKILL)}"
@@ -181,6 +183,7 @@ class Run:
                 lines.remove(said)
             if keeper.told in ready:
                 ends.read()
+            self.size = ends.size
             self._look(keeper, log)
 
     def _look(self, keeper: cages.Kept, log: logs.Log) -> None:
@@ -208,7 +211,7 @@ class Run:
             return f"{folders.TIME_LIMIT} of {self.limit.words()}"
         if now >= self.measure:
             self.meter.look()
-            if strangers.size_of(self.files.work) > self.order.folder_limit:
+            if max(self.size, strangers.size_of(self.files.work)) > self.order.folder_limit:
                 return f"{folders.FOLDER_LIMIT} of {limits.size_words(self.order.folder_limit)}"
             self.measure = time.monotonic() + MEASURES
         return ""
@@ -222,6 +225,7 @@ class Ends:
         self.text = b""
         self.closed = False
         self.how = ""
+        self.size = 0  # of the job's folder, where it is told
 
     def has_line(self) -> bool:
         """Waits for a line, and says whether there is one: else its keeper was killed."""
@@ -245,9 +249,14 @@ class Ends:
 
     def are_there(self) -> bool:
         """Whether the command has ended, or its keeper, which is how it was killed."""
-        if b"\n" in self.text:
+        while b"\n" in self.text and not self.how:
             line, _, self.text = self.text.partition(b"\n")
-            self.how = line.decode(errors="replace")
+            said = line.decode(errors="replace")
+            word, _, count = said.partition(" ")
+            if word == "size":
+                self.size = int(count) if count.isdigit() else 0
+            else:
+                self.how = said
         return bool(self.how) or self.closed
 
     def wait_for_close(self, seconds: float) -> None:
