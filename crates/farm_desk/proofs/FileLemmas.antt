@@ -19,8 +19,9 @@ use Rattle.farm_store.specs.Schema.{farm_schema, no_schema}
 use Rattle.farm_store.proofs.Listed.{lists_one}
 use Rattle.farm_keep.specs.Headline.{Adopts, GivesNoKeeper}
 use Rattle.farm_keep.specs.KeeperState.{KeeperState}
+use Rattle.farm_keep.specs.UnkeptState.{UnkeptState}
 use Rattle.farm_keep.specs.declared.fault.KeepFault.{KeepFault}
-use Rattle.farm_desk.specs.InFiles.{AreFarms, AreFree, DeniesFarm, DeniesTables, FindsFarm, FindsTables, HoldsTables, IsFoundIn, ListFarm, ListNothing, MakesFarm, MakesTables, OpensTables, ShowsFiles}
+use Rattle.farm_desk.specs.InFiles.{AreFarms, AreFree, DeniesFarm, DeniesTables, FindsFarm, FindsTables, HoldsTables, IsFoundIn, ListFarm, ListNothing, MakesFarm, MakesTables, OpensTables, ShowsFiles, handed_on}
 use Rattle.farm_serve.specs.declared.fault.DeskFault.{DeskFault}
 
 -- ---- two facts of one result
@@ -37,6 +38,17 @@ both_match (Err e) C P Q N M R ok err h f g = g e err h
 pub ok_err_match : {A E : Type 0} (r : Result A E) (P Q : A → Type 0) (M R : E → Type 0) → IfOk r P → IfErr r M → ((a : A) → P a → Q a) → ((e : E) → M e → R e) → MatchResult r Q R
 ok_err_match (Ok a) P Q M R ok err f g = f a ok
 ok_err_match (Err e) P Q M R ok err f g = g e err
+
+-- what holds of what was made holds of it handed on, and what holds of each fault of why nothing was
+pub handed_ok : {S A : Type 0} (made : Result A (UnkeptState S)) (result : Result A DeskFault) (P Q : A → Type 0) → result ≡ handed_on made → IfOk made P → ((a : A) → P a → Q a)
+    → IfOk result Q
+handed_ok (Ok a) result P Q is ok f = subst (λ (r : Result _ DeskFault). IfOk r Q) (sym is) (f a ok)
+handed_ok (Err u) result P Q is ok f = subst (λ (r : Result _ DeskFault). IfOk r Q) (sym is) tt
+
+pub handed_err : {S A : Type 0} (made : Result A (UnkeptState S)) (result : Result A DeskFault) (P : KeepFault → Type 0) (Q : DeskFault → Type 0) → result ≡ handed_on made
+    → IfErr made (λ u. P u.fault) → ((fault : KeepFault) → P fault → Q (DeskFault.Keep fault)) → IfErr result Q
+handed_err (Ok a) result P Q is err f = subst (λ (r : Result _ DeskFault). IfErr r Q) (sym is) tt
+handed_err (Err u) result P Q is err f = subst (λ (r : Result _ DeskFault). IfErr r Q) (sym is) (f u.fault err)
 
 -- ---- any store
 

@@ -1,6 +1,5 @@
 -- Which farm a file and the log beside it hold.
-use Rattle.std.specs.Prelude.{◌≡◌, ◌≤◌, ◌⊎◌, ℕ, true, List, take, Option, Some, None, Result, Ok, Err}
-use Rattle.std.specs.Prelude.{IfErr, ⊤}
+use Rattle.std.specs.Prelude.{◌≡◌, ◌≤◌, ℕ, true, List, take, Result, Ok, Err, ⊤}
 use Rattle.sqlite.specs.Effect.{Database, IsDatabase}
 use Rattle.sqlite.specs.Files.{HoldsDatabase, over_files, file_state, AreFoundIn, IsOpened}
 use Rattle.sqlite.specs.Held.{Held, state}
@@ -24,10 +23,10 @@ use Rattle.farm_types.specs.Sound.{IsSound}
 use Rattle.farm_types.specs.Machine.{run}
 use Rattle.farm_types.specs.declared.calls.Call.{Call}
 use Rattle.farm_keep.specs.Faults.{IsFindFault}
-use Rattle.farm_keep.specs.Headline.{IsAlwaysClean, Runs}
+use Rattle.farm_keep.specs.Headline.{Runs}
 use Rattle.farm_keep.specs.KeeperState.{KeeperState, KeepsOwnFarm, KeepsFarm}
 use Rattle.farm_keep.specs.Lives.{LeavesDone}
-use Rattle.farm_keep.specs.Versions.{LooksForFarm}
+use Rattle.farm_keep.specs.UnkeptState.{UnkeptState}
 use Rattle.farm_keep.specs.declared.fault.KeepFault.{KeepFault}
 use Rattle.farm_keep.specs.declared.keeper.run.RunEnd.{RunEnd}
 use Rattle.farm_serve.specs.Connections.{AreServedInTurn, Connection}
@@ -110,11 +109,10 @@ DeniesFarm image (DeskFault.Keep KeepFault.OldSchema) = (T : TableRows) → Hold
     → IsOfSchema first_schema T
 DeniesFarm image other = ⊤
 
--- so it is on a disk that always returns what was written
-abbrev pub HasReason : {D : Type 0} {g : Ghosts D} → Image
-    → Result (KeeperState (FileStore D g)) DeskFault → Type 0
-HasReason {D} {g} image result = IsAlwaysClean (over_files {D = D} {g = g})
-    → IfErr result (DeniesFarm image)
+-- what was made of a connection, or the fault that came in its place
+abbrev pub handed_on : {S A : Type 0} → Result A (UnkeptState S) → Result A DeskFault
+handed_on (Ok made) = Ok made
+handed_on (Err unkept) = Err (DeskFault.Keep unkept.fault)
 
 -- ---- which version they have
 
@@ -126,28 +124,9 @@ pub record IsFoundIn (image : Image) (db : Database) : Type 0 where
   pub sound : IsDatabase db
   pub only : (schema : Schema) → AreListed (db.trees catalog_tree) schema → schema ≡ db.schema
 
--- the keeper's fault, where there is one
-abbrev pub keep_fault : {A : Type 0} → Result A DeskFault → Option KeepFault
-keep_fault (Ok done) = None
-keep_fault (Err (DeskFault.Keep fault)) = Some fault
-keep_fault (Err fault) = None
-
 -- a database is found in the files, and its version was looked at before anything else of it
 abbrev pub LooksAtFiles : Image → (Database → Type 0) → Type 0
 LooksAtFiles image Looks = (db : Database) × IsFoundIn image db × Looks db
-
--- so it is; or the store failed
-abbrev pub LooksIn : {A : Type 0} → (Option KeepFault → Database → Type 0) → Image
-    → Result A DeskFault → Type 0
-LooksIn Looks image result = (result ≡ Err (DeskFault.Keep KeepFault.Store))
-    ⊎ LooksAtFiles image (Looks (keep_fault result))
-
--- so it is where a farm of this edition is looked for, on a disk that always returns what was
--- written
-abbrev pub LooksForFarmIn : {D : Type 0} {g : Ghosts D} → Image
-    → Result (KeeperState (FileStore D g)) DeskFault → Type 0
-LooksForFarmIn {D} {g} image result = IsAlwaysClean (over_files {D = D} {g = g})
-    → LooksIn LooksForFarm image result
 
 -- ---- the same of any store
 

@@ -15,11 +15,10 @@ use Rattle.farm_keep.specs.declared.fault.KeepFault.{KeepFault}
 use Rattle.farm_cli.specs.declared.order.Database.{Database}
 use Rattle.farm_cli.specs.declared.order.Order.{Order}
 use Rattle.farm_serve.specs.Conversations.{Desk, desk}
-use Rattle.farm_desk.specs.InFiles.{FindsFarm, HasReason, IsOpenFault, LooksForFarmIn, MakesFarm}
+use Rattle.farm_desk.specs.InFiles.{FindsFarm, IsOpenFault, MakesFarm}
 use Rattle.farm_desk.specs.Lines.{migrated_line, ready_line, PrintsLine}
 use Rattle.farm_desk.specs.Tasks.{DoesTask}
-use Rattle.farm_desk.specs.Upgrades.{HasUpgradeReason, IsUpgradeFault, LooksForFirstIn}
-use Rattle.farm_desk.specs.Upgrades.{RaisesFarm}
+use Rattle.farm_desk.specs.Upgrades.{IsUpgradeFault, RaisesFarm}
 use Rattle.farm_serve.specs.declared.fault.DeskFault.{DeskFault}
 use Rattle.farm_desk.specs.declared.orders.End.{End}
 use Rattle.farm_desk.specs.declared.orders.Task.{Task}
@@ -47,6 +46,21 @@ store_failed = DeskFault.Keep KeepFault.Store
 abbrev pub IsUnlessLost : Result End DeskFault → Result End DeskFault → Type 0
 IsUnlessLost ended result = (result ≡ ended) ⊎ ((result ≡ Err store_failed) × IsOk ended)
 
+-- a task was done with a keeper, unless its files were lost meanwhile
+pub record DoesUnlessLost {S : Type 0} (g : Ghosts S) (labs : List ℕ → Option (List ℕ)) (task : Task)
+    (old new : Desk S) (Sure : Type 0) (Room : ℕ → Type 0) (result : Result End DeskFault)
+    : Type 0 where
+  pub ended : Result End DeskFault
+  pub does : DoesTask g labs task old new Sure Room ended
+  pub ends : IsUnlessLost ended result
+
+-- so it was; or its files can't be looked at, which is a fault of the store, and nothing is done
+abbrev pub DoesIfThere : {S : Type 0} → Ghosts S → (List ℕ → Option (List ℕ)) → Task → Desk S
+    → Desk S → Type 0 → (ℕ → Type 0) → Result End DeskFault → Type 0
+DoesIfThere g labs task old new Sure Room result =
+    DoesUnlessLost g labs task old new Sure Room result
+    ⊎ ((new ≡ old) × (result ≡ Err store_failed))
+
 -- ---- what is opened
 
 -- an open keeper of the empty farm, whose store keeps it; or there was no memory, or no store
@@ -58,8 +72,6 @@ OpensMemory (Err fault) = (fault ≡ DeskFault.NoMemory) ⊎ (fault ≡ store_fa
 pub record OpensFarm {D : Type 0} {g : disk.Ghosts D} (image : Image)
     (opened : Result (KeeperState (FileStore D g)) DeskFault) : Type 0 where
   pub found : IfOk opened (FindsFarm image)
-  pub denied : HasReason image opened
-  pub version : LooksForFarmIn image opened
   pub fault : IfErr opened IsOpenFault
 
 -- a keeper of the empty farm in files that were free, or the store failed
@@ -73,8 +85,6 @@ pub record MakesNewFarm {D : Type 0} {g : disk.Ghosts D} (image : Image)
 pub record UpgradesFarm {D : Type 0} {g : disk.Ghosts D} (image : Image)
     (raised : Result (Held (FileStore D g)) DeskFault) : Type 0 where
   pub raises : IfOk raised (RaisesFarm image)
-  pub denied : HasUpgradeReason image raised
-  pub version : LooksForFirstIn image raised
   pub fault : IfErr raised IsUpgradeFault
 
 -- ---- making a farm, and bringing it to this edition
@@ -121,6 +131,14 @@ module _ (labs : List ℕ → Option (List ℕ)) (Sure : Type 0) (Room : ℕ →
       × DoesTask g labs task (desk_at keeper old) (desk_at left new) Sure Room result
   DoesTaskIf {S} g (Err fault) task result = (result ≡ Err fault) × (new ≡ old)
 
+  -- so it is as long as the keeper's files are there
+  abbrev pub DoesTaskIfThere : {S : Type 0} → Ghosts S → Result (KeeperState S) DeskFault → Task
+      → Result End DeskFault → Type 0
+  DoesTaskIfThere {S} g (Ok keeper) task result =
+      (left : KeeperState S)
+      × DoesIfThere g labs task (desk_at keeper old) (desk_at left new) Sure Room result
+  DoesTaskIfThere {S} g (Err fault) task result = (result ≡ Err fault) × (new ≡ old)
+
   -- it is done with an empty farm in memory
   pub record DoesInMemory (task : Task) (result : Result End DeskFault) : Type 0 where
     pub opened : Result (KeeperState MemStore) DeskFault
@@ -134,11 +152,11 @@ module _ (labs : List ℕ → Option (List ℕ)) (Sure : Type 0) (Room : ℕ →
       pub opens : OpensFarm image opened
       pub does : DoesTaskIf over_files opened task result
 
-    -- it is done so, unless the files were lost meanwhile
+    -- it is done so as long as the files are there
     pub record DoesWhileThere (task : Task) (result : Result End DeskFault) : Type 0 where
-      pub ended : Result End DeskFault
-      pub does : DoesInFiles task ended
-      pub ends : IsUnlessLost ended result
+      pub opened : Result (KeeperState (FileStore D g)) DeskFault
+      pub opens : OpensFarm image opened
+      pub does : DoesTaskIfThere over_files opened task result
 
     -- what the order does, by its kind, where it may make new files with this image
     module _ {N : Type 0} (fresh : disk.Ghosts N) (fresh_image : Image) where

@@ -1,6 +1,6 @@
 -- The first edition's farm of files, brought to this edition.
-use Rattle.std.specs.Prelude.{◌≡◌, ◌≤◌, ◌⊎◌, Result, IfErr, ⊤}
-use Rattle.sqlite.specs.Files.{over_files, file_state}
+use Rattle.std.specs.Prelude.{◌≡◌, ◌≤◌, ◌⊎◌, ⊤}
+use Rattle.sqlite.specs.Files.{file_state}
 use Rattle.sqlite.specs.Held.{Held, state}
 use Rattle.sqlite.specs.State.{HasCleanDisk}
 use Rattle.sqlite_disk.specs.declared.Disk.{Ghosts}
@@ -14,10 +14,8 @@ use Rattle.farm_store.specs.Holds.{LeavesEither, Stands}
 use Rattle.farm_types.specs.Farm.{Farm}
 use Rattle.farm_keep.specs.Faults.{IsMigrateFault}
 use Rattle.farm_keep.specs.First.{IsSoundFirst}
-use Rattle.farm_keep.specs.Headline.{IsAlwaysClean}
-use Rattle.farm_keep.specs.Versions.{LooksForFirst}
 use Rattle.farm_keep.specs.declared.fault.KeepFault.{KeepFault}
-use Rattle.farm_desk.specs.InFiles.{HoldsFarm, HoldsTables, LooksIn, OpensTables}
+use Rattle.farm_desk.specs.InFiles.{HoldsFarm, HoldsTables, OpensTables}
 use Rattle.farm_serve.specs.declared.fault.DeskFault.{DeskFault}
 
 -- ---- the files
@@ -57,18 +55,6 @@ DeniesUpgrade image (DeskFault.Keep KeepFault.BadStore) = (F : Farm) → IsSound
 DeniesUpgrade image (DeskFault.Keep KeepFault.NewSchema) = (T : TableRows) → HoldsTables image T
     → IsOfSchema second_schema T
 DeniesUpgrade image other = ⊤
-
--- so it is on a disk that always returns what was written
-abbrev pub HasUpgradeReason : {D : Type 0} {g : Ghosts D} → Image
-    → Result (Held (FileStore D g)) DeskFault → Type 0
-HasUpgradeReason {D} {g} image result = IsAlwaysClean (over_files {D = D} {g = g})
-    → IfErr result (DeniesUpgrade image)
-
--- the version of the files is looked at before anything else of them
-abbrev pub LooksForFirstIn : {D : Type 0} {g : Ghosts D} → Image
-    → Result (Held (FileStore D g)) DeskFault → Type 0
-LooksForFirstIn {D} {g} image result = IsAlwaysClean (over_files {D = D} {g = g})
-    → LooksIn LooksForFirst image result
 
 -- ---- the same of any store
 

@@ -3,17 +3,14 @@ ghost use Rattle.std.specs.Prelude.{◌≡◌, false, IfOk, IfErr, IfSome};
 ghost use Rattle.sqlite_wal.specs.Files.{image_at};
 ghost use Rattle.sqlite_wal.specs.Recovery.{Image};
 ghost use Rattle.farm_desk.specs.InFiles.{ShowsFiles, FindsFarm, MakesTables};
-ghost use Rattle.farm_desk.specs.InFiles.{MakesFarm, HasReason, IsOpenFault};
-ghost use Rattle.farm_desk.specs.InFiles.{LooksForFarmIn};
+ghost use Rattle.farm_desk.specs.InFiles.{MakesFarm, IsOpenFault, handed_on};
 ghost use Rattle.farm_desk.specs.Orders.{MakesNewFarm};
-ghost use Rattle.farm_desk.specs.Upgrades.{HasUpgradeReason, IsUpgradeFault};
-ghost use Rattle.farm_desk.specs.Upgrades.{LooksForFirstIn};
-ghost use Rattle.farm_desk.specs.Upgrades.{RaisesFarm};
+ghost use Rattle.farm_desk.specs.Upgrades.{IsUpgradeFault, RaisesFarm};
 
 use crate::at_hand::{find_on, raise_on};
 use crate::new_file::NewFile;
 use crate::preflight::Preflight;
-use farm_keep::{KeepFault, Keeper};
+use farm_keep::{KeepFault, Keeper, Unkept};
 use farm_serve::DeskFault;
 use farm_store::opened_stands;
 use sqlite::{Alter, Connection, FileFrom, FileStore, Start};
@@ -57,21 +54,12 @@ pub fn open_farm<S: Start>(
     start: S,
 ) -> Result<FileKeeper<S>, DeskFault>
     ensures found { IfOk result (FindsFarm (image_at S.Start)) }
-
-    // As `at_hand::find_on` says of a disk that has so far returned what was written: the files are
-    // reported as bad only where they hold no sound farm, and as of an old schema only where their
-    // tables are of the first edition. No clause can name the disk here, which is let go of.
-    ensures denied { HasReason (image_at S.Start) result }
-
-    // Whatever else they hold, they are reported to be of an old schema only where their `meta` may
-    // have 1, and are reported so where it has; where it has neither 1 nor 2 they are bad.
-    ensures version { LooksForFarmIn (image_at S.Start) result }
     ensures fault { IfErr result IsOpenFault }
 {
     let looked = Preflight::of_farm(rt, path);
     let preflight = looked.ok_or(DeskFault::Keep(KeepFault::Store))?;
     let conn = open(rt, &preflight, start)?;
-    farm_on(alloc, conn).inspect_err(|_| preflight.clean_up(rt))
+    hand_on(find_on(alloc, conn)).inspect_err(|_| preflight.clean_up(rt))
 }
 
 /// A keeper of the empty farm in the file at a path, which is made where there is nothing. A file
@@ -121,23 +109,6 @@ fn make_at<S: Start>(
     new_farm_on(alloc, conn).inspect_err(|_| preflight.clean_up(rt))
 }
 
-/// A keeper of the farm that files hold which were just opened; without one, they are closed.
-fn farm_on<D: Disk + Drop>(
-    alloc: Global,
-    conn: Connection<FileStore<D>>,
-) -> Result<Keeper<FileStore<D>>, DeskFault>
-    requires { conn.in_transaction ≡ false }
-    ensures found { IfOk result (λ k. (image : Image) → ShowsFiles image conn → FindsFarm image k) }
-    ensures denied { (image : Image) → ShowsFiles image conn → HasReason image result }
-    ensures version { (image : Image) → ShowsFiles image conn → LooksForFarmIn image result }
-    ensures fault { IfErr result IsOpenFault }
-{
-    match find_on(alloc, conn) {
-        Ok(keeper) => Ok(keeper),
-        Err(unkept) => Err(DeskFault::Keep(unkept.fault())),
-    }
-}
-
 /// A keeper of the empty farm over files that were just opened; its one call is of any store too.
 fn new_farm_on<D: Disk + Drop>(
     alloc: Global,
@@ -175,38 +146,20 @@ pub fn migrate_farm<S: Start>(
     start: S,
 ) -> Result<Connection<FileStore<FileFrom<S>>>, DeskFault>
     ensures raised { IfOk result (RaisesFarm (image_at S.Start)) }
-
-    // As `at_hand::raise_on` says of a disk that has so far returned what was written: the files are
-    // reported as bad only where they hold no sound farm of the first edition, and as new only where
-    // their tables are of this one. No clause can name the disk here, which is let go of.
-    ensures denied { HasUpgradeReason (image_at S.Start) result }
-
-    // Whatever else they hold, they are reported to be of a new schema only where their `meta` may
-    // have 2, and are reported so where it has; where it has neither 1 nor 2 they are bad.
-    ensures version { LooksForFirstIn (image_at S.Start) result }
     ensures fault { IfErr result IsUpgradeFault }
 {
     let looked = Preflight::of_farm(rt, path);
     let preflight = looked.ok_or(DeskFault::Keep(KeepFault::Store))?;
     let conn = open(rt, &preflight, start)?;
-    raised_on(alloc, conn).inspect_err(|_| preflight.clean_up(rt))
+    hand_on(raise_on(alloc, conn)).inspect_err(|_| preflight.clean_up(rt))
 }
 
-/// The store over files that were just opened, once the farm in it is brought to this edition; else
-/// they are closed.
-fn raised_on<D: Disk + Drop>(
-    alloc: Global,
-    conn: Connection<FileStore<D>>,
-) -> Result<Connection<FileStore<D>>, DeskFault>
-    requires { conn.in_transaction ≡ false }
-    ensures raised { IfOk result (λ new. (image : Image) → ShowsFiles image conn
-        → RaisesFarm image new) }
-    ensures denied { (image : Image) → ShowsFiles image conn → HasUpgradeReason image result }
-    ensures version { (image : Image) → ShowsFiles image conn → LooksForFirstIn image result }
-    ensures fault { IfErr result IsUpgradeFault }
+/// What was made of a connection; or why nothing was, once the connection is let go.
+fn hand_on<S: Alter + Drop, T>(made: Result<T, Unkept<S>>) -> Result<T, DeskFault>
+    ensures { result ≡ handed_on made }
 {
-    match raise_on(alloc, conn) {
-        Ok(raised) => Ok(raised),
-        Err(refused) => Err(DeskFault::Keep(refused.fault())),
+    match made {
+        Ok(it) => Ok(it),
+        Err(unkept) => Err(DeskFault::Keep(unkept.fault())),
     }
 }

@@ -4,8 +4,8 @@
 //! `open_farm` and others are for farms in files; `program` is the program `farm`.
 //!
 //! Read `src/` in the order lab_files; deadline_stream, waiting, unsent, leavers, pending,
-//! socket_clients; new_file, preflight, at_hand, files, open_files; report, orders, command_line;
-//! laws.
+//! socket_clients; new_file, preflight, at_hand, files, open_files, spent; report, orders,
+//! command_line; laws.
 //!
 //! Read `specs/` in the order LabFiles; Pending, Unsent, Waiting, who is served next; Preflight, NewFile,
 //! InFiles, Upgrades, which farm files hold; Faults, Lines, Reports, what the program prints; Tasks,
@@ -26,6 +26,7 @@ mod pending;
 mod preflight;
 mod report;
 mod socket_clients;
+mod spent;
 mod unsent;
 mod waiting;
 

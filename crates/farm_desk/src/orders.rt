@@ -1,14 +1,15 @@
 //! Carrying out an order: its files are opened or made, its task done, and what it did printed.
-ghost use Rattle.std.specs.Prelude.{◌≡◌, None, Ok, List, Option, ℕ};
+ghost use Rattle.std.specs.Prelude.{◌≡◌, IfErr, IfOk, None, List, Option, ℕ};
 ghost use Rattle.sqlite.specs.Files.{over_files};
 ghost use Rattle.sqlite_wal.specs.Files.{image_at};
 ghost use Rattle.farm_serve.specs.Conversations.{desk};
 ghost use Rattle.farm_desk.specs.Lines.{counts_line, port_line, ready_line, PrintsLine, PrintsImport};
 ghost use Rattle.farm_desk.specs.Orders.{streams, DoesInFiles, DoesInMemory, DoesOrder};
-ghost use Rattle.farm_desk.specs.Orders.{DoesTaskIf, DoesWhileThere, Inits, MigratesFile, OpensMemory};
-ghost use Rattle.farm_desk.specs.Orders.{PrintsIfDone};
+ghost use Rattle.farm_desk.specs.Orders.{DoesIfThere, DoesWhileThere, Inits, MigratesFile};
+ghost use Rattle.farm_desk.specs.Orders.{OpensMemory, PrintsIfDone};
 ghost use Rattle.farm_desk.specs.Tasks.{AnswersOne, DoesTask, ImportsFile, PrintsReportOf};
 ghost use Rattle.farm_desk.specs.Tasks.{ServesIfListening};
+ghost use Rattle.farm_desk.specs.Upgrades.{IsUpgradeFault, RaisesFarm};
 ghost use Rattle.farm_desk.specs.Waiting.{IsLocal};
 
 use crate::files::{FileKeeper, make_farm, make_new_farm, migrate_farm, open_farm};
@@ -17,6 +18,7 @@ use crate::new_file::NewFile;
 use crate::open_files::OpenFiles;
 use crate::report::{report_text, zone_between};
 use crate::socket_clients::SocketClients;
+use crate::spent::Spent;
 use arrayvec::ArrayString;
 use farm_cli::{Database, Order, Report};
 use farm_http::{Input, Output};
@@ -25,7 +27,7 @@ use farm_serve::{DeskFault, ImportEnd, converse, import};
 use farm_types::Refusal;
 use farm_wire::{OK, write_whole};
 use itoa::Buffer;
-use sqlite::{Alter, Connection, FileFrom, MemStore, Start, Unknown};
+use sqlite::{Alter, Connection, FileFrom, FileStore, MemStore, Start, Unknown};
 use sqlite_disk::Disk;
 use std::alloc::Global;
 use std::io::{IsTerminal, Write};
@@ -150,11 +152,12 @@ fn do_in_files<S: Start, L: LabFiles, R: Input, W: Output>(
         ⟦<FileFrom<S> as Disk>⟧ (image_at S.Start) task result }
 {
     let keeper = open_farm(rt, rt.alloc(), file, start)?;
-    do_with_files(rt, keeper, task, labs, None, input, output)
+    let (spent, ended) = do_with_files(rt, keeper, task, labs, None, input, output);
+    let_go(spent);
+    ended
 }
 
-/// Does a task with the farm in a file as long as that is there. Where somebody takes away the file
-/// or its log meanwhile, that is a fault of the store, since what would be written then is lost.
+/// Opens the farm in a file, and does a task with it as long as the file is there.
 fn do_while_there<S: Start, L: LabFiles, R: Input, W: Output>(
     rt: &HostRuntime,
     file: &str,
@@ -171,15 +174,35 @@ fn do_while_there<S: Start, L: LabFiles, R: Input, W: Output>(
 {
     print_size_note(rt, file, "opening");
     let keeper = open_farm(rt, rt.alloc(), file, start)?;
-    let Some(files) = OpenFiles::new(rt, file) else {
-        let_go(keeper);
-        return Err(DeskFault::Keep(KeepFault::Store));
-    };
-    let ended = do_with_files(rt, keeper, task, labs, Some(&files), input, output);
-    if ended.is_ok() && files.are_lost() {
-        return Err(DeskFault::Keep(KeepFault::Store));
-    }
+    let (spent, ended) = do_if_there(rt, file, keeper, task, labs, input, output);
+    let_go(spent);
     ended
+}
+
+/// Does a task with the farm in a file as long as that is there. Where somebody takes away the file
+/// or its log meanwhile, that is a fault of the store, since what would be written then is lost.
+fn do_if_there<S: Start, L: LabFiles, R: Input, W: Output>(
+    rt: &HostRuntime,
+    file: &str,
+    keeper: FileKeeper<S>,
+    task: Task,
+    labs: &L,
+    input: &mut R,
+    output: &mut W,
+) -> (Spent<FileKeeper<S>>, Ended)
+    ensures { DoesIfThere over_files (L.contents labs.now) task
+        (desk keeper (R.remaining input.old) (W.contents output.old))
+        (desk result.0.it (R.remaining input.new) (W.contents output.new))
+        R.never_fails (W.has_room output.old) result.1 }
+{
+    let Some(files) = OpenFiles::new(rt, file) else {
+        return (Spent::of(keeper), Err(DeskFault::Keep(KeepFault::Store)));
+    };
+    let (spent, ended) = do_with_files(rt, keeper, task, labs, Some(&files), input, output);
+    if ended.is_ok() && files.are_lost() {
+        return (spent, Err(DeskFault::Keep(KeepFault::Store)));
+    }
+    (spent, ended)
 }
 
 /// What is done with a farm that is there.
@@ -195,7 +218,8 @@ enum Task {
     Serve { port: u16, max: u64 },
 }
 
-/// Does a task with the farm in a file. That its one call is of any store keeps its proof short.
+/// Does a task with the farm in a file, which is spent then. That its one call is of any store keeps
+/// its proof short.
 fn do_with_files<S: Start, L: LabFiles, R: Input, W: Output>(
     rt: &HostRuntime,
     mut keeper: FileKeeper<S>,
@@ -204,18 +228,18 @@ fn do_with_files<S: Start, L: LabFiles, R: Input, W: Output>(
     files: Option<&OpenFiles<'_>>,
     input: &mut R,
     output: &mut W,
-) -> Ended
-    ensures { DoesTaskIf (L.contents labs.now) R.never_fails (W.has_room output.old)
-        (streams (R.remaining input.old) (W.contents output.old))
-        (streams (R.remaining input.new) (W.contents output.new)) over_files (Ok keeper) task result }
+) -> (Spent<FileKeeper<S>>, Ended)
+    ensures { DoesTask over_files (L.contents labs.now) task
+        (desk keeper (R.remaining input.old) (W.contents output.old))
+        (desk result.0.it (R.remaining input.new) (W.contents output.new))
+        R.never_fails (W.has_room output.old) result.1 }
 {
     let ended = do_task(rt, &mut keeper, &task, labs, files, input, output);
-    let_go(keeper);
-    ended
+    (Spent::of(keeper), ended)
 }
 
 /// Lets the farm in a file go. That nothing else drops one keeps the proofs of the others short.
-fn let_go<S: Start>(_keeper: FileKeeper<S>) {}
+fn let_go<S: Start>(_spent: Spent<FileKeeper<S>>) {}
 
 /// Does a task with a keeper's farm. It serves as long as these files are there, where
 /// they are passed.
@@ -287,7 +311,7 @@ fn print_made<S: Start, W: Output>(made: Result<FileKeeper<S>, DeskFault>, outpu
     ensures { PrintsIfDone (W.has_room output.old) (W.contents output.old) (W.contents output.new)
         made ready_line result }
 {
-    let_go(made?);
+    let_go(Spent::of(made?));
     print_line(output, b"ready\n")
 }
 
@@ -310,16 +334,30 @@ fn print_size_note(rt: &HostRuntime, file: &str, what: &str) {
     }
 }
 
-/// Brings the first edition's farm of a file to this one. The log is copied into the file then; it
-/// is as good where that fails.
+/// Brings the first edition's farm of a file to this one, and closes the file.
 fn migrate<S: Start, W: Output>(rt: &HostRuntime, file: &str, start: S, output: &mut W) -> Ended
     ensures { MigratesFile (W.has_room output.old) (W.contents output.old) (W.contents output.new)
         ⟦<FileFrom<S> as Disk>⟧ (image_at S.Start) result }
 {
     print_size_note(rt, file, "migrating");
-    let conn = migrate_farm(rt, rt.alloc(), file, start)?;
-    let _ = conn.close();
+    let spent = raise(rt, file, start)?;
+    drop(spent.close());
     print_line(output, b"migrated\n")
+}
+
+/// The store over a file, whose farm was brought to this edition.
+fn raise<S: Start>(
+    rt: &HostRuntime,
+    file: &str,
+    start: S,
+) -> Result<Spent<Connection<FileStore<FileFrom<S>>>>, DeskFault>
+    ensures raised { IfOk result (λ spent. RaisesFarm (image_at S.Start) spent.it) }
+    ensures fault { IfErr result IsUpgradeFault }
+{
+    match migrate_farm(rt, rt.alloc(), file, start) {
+        Ok(conn) => Ok(Spent::of(conn)),
+        Err(fault) => Err(fault),
+    }
 }
 
 /// Adds what the lab file at a path lists to a keeper's farm, as far as it can be read, and prints
