@@ -1,5 +1,5 @@
 //! Tests of the desk that no transcript can say: conversations over readers and writers that fail,
-//! clients over sockets and in memory, and what faults display.
+//! clients over sockets and in memory, and what faults display; and that premises of laws are met.
 #![tactic(auto)]
 
 #[cfg(test)]
@@ -8,5 +8,7 @@ mod answered;
 mod clients;
 #[cfg(test)]
 mod displayed;
+#[cfg(test)]
+mod premises;
 #[cfg(test)]
 mod served;

@@ -6,8 +6,6 @@
 mod desks;
 mod first_edition;
 mod keepers;
-#[cfg(test)]
-mod tests;
 
 // The premises of laws over keepers, their stops and their lives.
 pub use keepers::{lives_can_be_met, stops_can_be_met};

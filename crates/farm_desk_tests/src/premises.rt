@@ -1,7 +1,7 @@
-//! Each function gives a store: its clause isn't true for want of one.
-use crate::desks::{imports_can_be_met, serving_can_be_met};
-use crate::first_edition::upgrades_can_be_met;
-use crate::keepers::{lives_can_be_met, stops_can_be_met};
+//! What meets the premises of laws is built: no clause of farm_premises is true for want of it.
+use farm_premises::{
+    imports_can_be_met, lives_can_be_met, serving_can_be_met, stops_can_be_met, upgrades_can_be_met,
+};
 use std::test::Fail;
 
 #[test]
