@@ -15,7 +15,7 @@ import sys
 from typing import Dict, Iterator, Optional, Set
 
 HERE = os.path.dirname(os.path.abspath(__file__))
-sys.path.insert(0, os.path.join(os.path.dirname(HERE), "tools"))
+sys.path[:0] = [os.path.join(os.path.dirname(HERE), it) for it in ("tools", "python/src")]
 from fizgruk._tools import parsers  # noqa: E402
 from fizgruk.desk import texts  # noqa: E402
 

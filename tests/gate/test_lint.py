@@ -72,6 +72,8 @@ def mypy_cache(tmp_path_factory: pytest.TempPathFactory) -> pathlib.Path:
 @pytest.mark.parametrize("folder", TYPED)
 def test_mypy_finds_no_wrong_type(folder: str, mypy_cache: pathlib.Path) -> None:
     python = wants_python_with("mypy")
-    imported = {"MYPYPATH": ":".join(os.path.join(TOP, it) for it in IMPORTED)} if folder.startswith("tests/") else {}
-    found = said(python, "-m", "mypy", "--strict", "--cache-dir", mypy_cache, *TYPED[folder], where=folder, **imported)
+    imported = IMPORTED if folder.startswith("tests/") else ["python/src"] if folder == "tools" else []
+    path = ":".join(os.path.join(TOP, it) for it in imported)
+    words = ["--strict", "--cache-dir", mypy_cache, *TYPED[folder]]
+    found = said(python, "-m", "mypy", *words, where=folder, MYPYPATH=path)
     assert found == ""

@@ -55,7 +55,7 @@ set -e
 cd /tmp/source
 install farm /usr/local/bin
 install -Dt /usr/local/lib/farm-tools tools/desk tools/farm-* $(ls tools/job-in-account 2> /dev/null)
-cp -rLt /usr/local/lib/farm-tools tools/farm_* tools/fizgruk tools/page
+cp -rt /usr/local/lib/farm-tools tools/farm_* python/src/fizgruk tools/page
 install -m 644 -t /usr/local/lib/farm-tools examples/farm-port.nft
 install -Dt /etc/farm examples/run-job examples/check-board
 install -m 644 -t /etc/systemd/system examples/*.service examples/*.timer $(ls examples/*.socket 2> /dev/null)

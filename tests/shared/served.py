@@ -14,6 +14,8 @@ from typing import Any, Callable, Dict, List, Optional, Sequence, Tuple
 
 TOP = os.path.realpath(os.path.join(os.path.dirname(__file__), "../.."))
 TOOLS = os.path.join(TOP, "tools")
+LIBRARY = os.path.join(TOP, "python/src")
+MODULES = [TOOLS, LIBRARY]
 # Processes that are killed at the end of the test that started them, and those that last for the whole run.
 STARTED: List["subprocess.Popen[Any]"] = []
 LASTING: List["subprocess.Popen[Any]"] = []

@@ -28,7 +28,8 @@ def become(tool: str, words: List[str], surroundings: Dict[str, str], files: Lis
 
 
 def main(tool: str, module: str) -> None:
-    sys.path.insert(0, os.path.dirname(tool))
+    here = os.path.dirname(tool)
+    sys.path[:0] = [here, os.path.join(here, "../python/src")]
     importlib.import_module(module)
     gc.freeze()
     for line in sys.stdin:

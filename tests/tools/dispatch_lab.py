@@ -16,7 +16,7 @@ import time
 from typing import Any, Callable, Dict, Iterator, List, Optional, Sequence, Tuple
 
 import pytest
-from served import STARTED, TOOLS, Board, Farm, Tool, environment, read, wait_until
+from served import MODULES, STARTED, Board, Farm, Tool, environment, read, wait_until
 
 # Runs the line `run = '..'` of a job's text, and notes that it began and ended.
 COMMAND = """#!/bin/sh
@@ -75,7 +75,7 @@ class Lab:
 
     def patched(self, patch: str, *words: str, server: str = "", every: str = "0.3") -> "subprocess.Popen[bytes]":
         """A dispatcher of which a few lines were changed, so that a moment lasts."""
-        head = f"import os, signal, sys, time\nsys.path.insert(0, {TOOLS!r})\n{PATCH_HEAD}mark = {self.mark!r}\n"
+        head = f"import os, signal, sys, time\nsys.path[:0] = {MODULES!r}\n{PATCH_HEAD}mark = {self.mark!r}\n"
         code = f"{head}{patch}\nsys.exit(dispatch.main(sys.argv[1:]))\n"
         own = ["--server", server or self.farm.server, "--folder", self.place, "--every", every, *words, self.command]
         with open(os.path.join(self.folder, "patched"), "ab") as told:

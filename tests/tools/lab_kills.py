@@ -21,7 +21,7 @@ import time
 from typing import Any, Dict, List, Set
 
 HERE = os.path.dirname(os.path.abspath(__file__))
-sys.path[:0] = [HERE, os.path.join(HERE, "../shared"), os.path.join(HERE, "../../tools")]
+sys.path[:0] = [os.path.join(HERE, it) for it in (".", "../shared", "../../tools", "../../python/src")]
 from dispatch_lab import Lab, Proxy, end_commands, read_words, replace  # noqa: E402
 from served import Tool, end_all, read  # noqa: E402
 

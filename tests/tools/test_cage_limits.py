@@ -11,13 +11,13 @@ import pytest
 from dispatch_lab import Lab, MakeLab, end_commands, jobs_of, replace, runner_of
 from dispatch_lab import make_lab_fixture  # noqa: F401
 from farm_dispatch import cage_limits, cages
-from served import TOOLS, read, wait_until
+from served import MODULES, read, wait_until
 from wants import lacks
 
 # A runner whose job's cgroup is another folder, as `CGROUP` says.
 RUNNER = """
 import os, runpy, sys
-sys.path.insert(0, {tools!r})
+sys.path[:0] = {modules!r}
 sys.argv = sys.argv[1:]
 from farm_dispatch import cages, runner
 was = runner.Ends.after
@@ -99,7 +99,7 @@ def test_the_log_and_the_reason_say_it(
     number = lab.farm.submit(lab.script(meets))
     os.environ["CGROUP"] = str(own)
     try:
-        code = RUNNER.format(tools=TOOLS)
+        code = RUNNER.format(modules=MODULES)
         tool = lab.patched(runner_of(code), "--cage", "none")
         assert lab.finished(number) == result
         wait_until("its line", lambda: jobs_of(lab))

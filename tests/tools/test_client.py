@@ -24,7 +24,7 @@ from desks import (
     BOARDS, DESK, GROUP, JOB, around, at_a_terminal, desk, number_of, passes, prints, waiting_tool, waits, write,
 )
 from fizgruk.desk import main as client
-from served import TOOLS, Farm, Tool, environment, free_port, wait_until
+from served import LIBRARY, Farm, Tool, environment, free_port, wait_until
 
 HEAD = "NAME TYPE HEALTH STATE HOLDER CHECKED TAGS\n"
 COLLECTING = """\
@@ -321,7 +321,7 @@ def test_the_default_desk_isnt_named(
 
 def test_a_signal_that_comes_while_python_ends_an_object_interrupts_a_wait_too() -> None:
     """Python drops what is raised there."""
-    ran = subprocess.run([sys.executable, "-c", DROPPED], cwd=TOOLS, capture_output=True, text=True, check=False)
+    ran = subprocess.run([sys.executable, "-c", DROPPED], cwd=LIBRARY, capture_output=True, text=True, check=False)
     assert "Exception ignored in" in ran.stderr
     assert (ran.returncode, ran.stdout) == (0, "129\n")
 

@@ -953,8 +953,7 @@ def test_unit(tmp_path: pathlib.Path) -> None:
     with open(os.path.join(TOP, "examples", "farm-dispatch.service"), encoding="utf-8") as file:
         text = file.read()
     lines = [it for it in text.split("\n") if it and not it.startswith("#")]
-    wanted = ["StartLimitIntervalSec=0", "KillMode=process", "OOMPolicy=continue",
-              "Restart=always", "RestartPreventExitStatus=2 3", "Delegate=yes"]
+    wanted = ["StartLimitIntervalSec=0", "KillMode=process", "Restart=always", "RestartPreventExitStatus=2 3"]
     assert [it for it in wanted if it not in lines] == [], "lines that the unit lacks"
     wants("systemd-analyze")
     folder = tempfile.mkdtemp(dir=tmp_path)

@@ -16,7 +16,7 @@ import pytest
 from dispatch_lab import Lab, jobs_of, lines_of, one_line_each
 from dispatch_lab import lab_fixture, make_lab_fixture  # noqa: F401
 from fizgruk import submissions
-from served import STARTED, TOOLS, Farm, environment, read, wait_until
+from served import MODULES, STARTED, Farm, environment, read, wait_until
 
 # Of kills while folders are made so many, and of those at an end one in so many; more with FARM_KILLS=all.
 KILLS = (8, 1) if os.environ.get("FARM_KILLS") == "all" else (3, 2)
@@ -27,7 +27,7 @@ KILLS = (8, 1) if os.environ.get("FARM_KILLS") == "all" else (3, 2)
 # history; of what it was to write there, half is written.
 DIES = """\
 import os, signal, sys
-sys.path.insert(0, sys.argv.pop(1))
+sys.path[:0] = sys.argv.pop(1).split(":")
 phase, left = sys.argv.pop(1), int(sys.argv.pop(1))
 def begins(call, words):
     if phase == "finish":
@@ -76,7 +76,7 @@ def dies_at(lab: Lab, phase: str, place: int) -> List[int]:
     """Runs a dispatcher that kills itself at a place, or is killed where it has done all before.
     Returns the jobs that it was given: one, and a group of two."""
     words = [
-        sys.executable, "-c", DIES, TOOLS, phase, str(place), "--server", lab.farm.server,
+        sys.executable, "-c", DIES, ":".join(MODULES), phase, str(place), "--server", lab.farm.server,
         "--folder", lab.place, "--every", "0.1", lab.command,
     ]
     process = subprocess.Popen(

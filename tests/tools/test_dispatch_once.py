@@ -16,7 +16,7 @@ import pytest
 from dispatch_lab import BOARDS, CAGES, Lab, MakeLab, Proxy, end_commands, jobs_of, runner_of
 from dispatch_lab import lab_fixture, make_lab_fixture  # noqa: F401
 from farm_dispatch import cages
-from served import STARTED, TOOLS, Tool, environment, read, wait_until
+from served import MODULES, STARTED, TOOLS, Tool, environment, read, wait_until
 from wants import lacks, wants
 
 ONE = BOARDS[:1]
@@ -99,7 +99,7 @@ groups.shutil.rmtree = rmtree
 # A runner whose keeper is killed as soon as the command runs, before it has told so.
 KEEPER_DIES = """
 import os, runpy, signal, sys, time
-sys.path.insert(0, {tools!r})
+sys.path[:0] = {modules!r}
 sys.argv = sys.argv[1:]
 from farm_dispatch import cages
 was = cages._Keeper._started
@@ -585,7 +585,7 @@ def test_killed_keeper(make_lab: MakeLab, cage: str) -> None:
     """A command whose keeper is killed right after it was started, and before it could tell, isn't begun again."""
     lab = make_lab(ONE)
     number = lab.farm.submit(lab.sleeps(306))
-    code = KEEPER_DIES.format(tools=TOOLS)
+    code = KEEPER_DIES.format(modules=MODULES)
     tool = lab.patched(runner_of(code), "--cage", cage)
     lab.begun(number)
     assert lab.finished(number) == "Infra"

@@ -17,7 +17,7 @@ from typing import Any, Callable, Dict, Iterator, List, Tuple
 import pytest
 from farm_backup import copying, points, standby
 from machines import Machine, aside
-from served import STARTED, TOOLS, TOP, Board, Farm, Tool, free_port, read, wait_until
+from served import MODULES, STARTED, TOP, Board, Farm, Tool, free_port, read, wait_until
 from streamed import Stream, backup, moment_of, rows, words_of
 
 Made = Callable[..., Farm]
@@ -270,7 +270,7 @@ def test_a_flipped_bit_under_a_desk_that_goes_on_doesnt_replace_the_standby(pair
 # Calls farm-backup, and kills it before a step of the disk, by its number: prints how many there were where it ended.
 KILLED = """\
 import os, shutil, signal, sys
-sys.path.insert(0, sys.argv[1])
+sys.path[:0] = sys.argv[1].split(":")
 last, steps = int(sys.argv[2]), [0]
 def counted(call):
     def step(*words, **more):
@@ -291,7 +291,7 @@ sys.exit(status)
 
 def killed_at(step: int, *words: str) -> "subprocess.CompletedProcess[str]":
     return subprocess.run(
-        [sys.executable, "-c", KILLED, TOOLS, str(step), *words], capture_output=True, text=True, check=False, timeout=60
+        [sys.executable, "-c", KILLED, ":".join(MODULES), str(step), *words], capture_output=True, text=True, check=False, timeout=60
     )
 
 

@@ -10,6 +10,7 @@ from typing import Callable, Iterator, List
 
 import pytest
 from farm_backup import copying, tail
+from fizgruk._tools import disk
 from recorded import recorded
 
 MAKE = """\
@@ -18,12 +19,12 @@ sys.path.insert(0, sys.argv[1])
 from fizgruk._tools import disk
 disk.write_synced(sys.argv[2], "new")
 """
-TOOLS = str(pathlib.Path(copying.__file__).parents[1])
+LIBRARY = str(pathlib.Path(disk.__file__).parents[2])
 
 
 def test_a_file_is_on_the_disk_before_it_gets_its_name(tmp_path: pathlib.Path) -> None:
     """And its name, too, when write_synced returns."""
-    entries = recorded(["-c", MAKE, TOOLS, f"{tmp_path}/file"], str(tmp_path))
+    entries = recorded(["-c", MAKE, LIBRARY, f"{tmp_path}/file"], str(tmp_path))
     assert [(it.what, it.path) for it in entries] == [
         ("w", f"{tmp_path}/file.new"), ("s", f"{tmp_path}/file.new"), ("s", str(tmp_path)),
     ]
