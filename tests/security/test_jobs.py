@@ -2,89 +2,29 @@
 its own, which neither reaches the desk's port nor the files and processes of the dispatcher and of other jobs."""
 from __future__ import annotations
 
-import json
 import re
 import time
-from typing import Any, Iterator, List
+from typing import Iterator
 
 import pytest
 
 from machine import Machine
+from machine_lab import PASSWORD, PLACE, MachineLab
 
 pytestmark = [pytest.mark.xdist_group("machine"), pytest.mark.slow(60)]
-BOARDS = ("b1", "b2", "b3")
-PLACE = "/var/lib/farm-dispatch"
-# Runs the text `run` of a job.
-COMMAND = """#!/usr/bin/python3
-import os, tomllib
-with open(os.environ["FARM_JOB_FILE"], "rb") as text:
-    os.execv("/bin/sh", ["sh", "-c", tomllib.load(text).get("run", "true")])
-"""
-PASSWORD = "/etc/farm/dispatch.password"
 # Leaves its job's session, its parents, its open files and its environment.
 AWAY = """(setsid env -i PATH=$PATH sh -c 'exec <&- >&- 2>&-; cd /; while :; do sleep 0.1; done' away & )"""
 
 GONE_AWAY = "do sleep 0[.]1; done away"
 
 
-class Lab:
-    """A machine whose desk has boards and whose dispatcher runs jobs."""
-
-    def __init__(self, machine: Machine):
-        self.machine = machine
-        machine.serve()
-        machine.write("/etc/farm/run-job", COMMAND, 0o755)
-        machine.write(PASSWORD, "open sesame\n", 0o600)
-        machine.run("chown", "farm-dispatch", PASSWORD)
-        self.tell("admin", "/types", {"name": "bbb"})
-        for name in BOARDS:
-            self.tell("admin", "/boards", {"name": name, "type": "bbb", "tags": []})
-            self.tell("admin", f"/boards/{name}/health", {"health": "Good"})
-        machine.run("systemctl", "start", "farm-dispatch")
-
-    def tell(self, user: str, path: str, body: Any = None) -> Any:
-        sent = ["--data-binary", body if isinstance(body, str) else json.dumps(body)] if body is not None else ["-X", "POST"]
-        return json.loads(self.machine.run(*self.machine.curl(user, path, *sent)).stdout)
-
-    def look(self, path: str) -> Any:
-        return json.loads(self.machine.run(*self.machine.curl("ann", path)).stdout)
-
-    def submit(self, run: str, more: str = "") -> int:
-        text = f"job_name = 'test'\ndevice_type = 'bbb'\nrun = '''\n{run}\n'''\n{more}"
-        return int(self.tell("ann", "/jobs", text)["number"])
-
-    def finished(self, number: int, limit: float = 90) -> str:
-        until = time.monotonic() + limit
-        while True:
-            view = self.look(f"/jobs/{number}")
-            if view["state"] == "Finished":
-                return str(view["result"])
-            assert time.monotonic() < until, f"job {number} is {view['state']}: {self.machine.journal('farm-dispatch')}"
-            time.sleep(0.1)
-
-    def log(self, number: int) -> str:
-        return self.machine.run("cat", f"{PLACE}/logs/{number}").stdout
-
-    def said(self, number: int, words: str) -> None:
-        self.machine.wait(f"job {number} says {words}", "grep", words, f"{PLACE}/logs/{number}")
-
-    def ran(self, run: str, more: str = "") -> str:
-        """What a job says that ends well."""
-        number = self.submit(run, more)
-        assert self.finished(number) == "Complete", self.log(number)
-        return self.log(number)
-
-    def processes(self, words: str) -> List[str]:
-        return self.machine.run("pgrep", "-f", words, check=False).stdout.split()
-
-
 @pytest.fixture(scope="module")
-def booted(machine: Machine) -> Lab:
-    return Lab(machine)
+def booted(machine: Machine) -> MachineLab:
+    return MachineLab(machine)
 
 
 @pytest.fixture
-def lab(booted: Lab) -> Iterator[Lab]:
+def lab(booted: MachineLab) -> Iterator[MachineLab]:
     """The lab, whose boards are all free and Good again after a test."""
     yield booted
     for view in booted.look("/boards")["boards"]:
@@ -92,7 +32,7 @@ def lab(booted: Lab) -> Iterator[Lab]:
             booted.tell("admin", f"/boards/{view['name']}/health", {"health": "Good"})
 
 
-def test_each_job_has_a_number_of_its_own_and_the_serial_ports_groups(lab: Lab) -> None:
+def test_each_job_has_a_number_of_its_own_and_the_serial_ports_groups(lab: MachineLab) -> None:
     numbers = [lab.submit("id -u; id -Gn; sleep 2") for _ in range(2)]
     logs = []
     for number in numbers:
@@ -104,7 +44,7 @@ def test_each_job_has_a_number_of_its_own_and_the_serial_ports_groups(lab: Lab) 
     assert all("dialout" in it and "plugdev" in it for it in logs)
 
 
-def test_a_job_retires_no_board_and_reserves_as_nobody_at_the_desks_port(lab: Lab) -> None:
+def test_a_job_retires_no_board_and_reserves_as_nobody_at_the_desks_port(lab: MachineLab) -> None:
     lab.submit("")
     at = "curl -sS -m 10 http://127.0.0.1:880"
     before = len(lab.look("/reservations")["reservations"])
@@ -116,7 +56,7 @@ def test_a_job_retires_no_board_and_reserves_as_nobody_at_the_desks_port(lab: La
     assert len(lab.look("/reservations")["reservations"]) == before
 
 
-def test_a_job_changes_no_other_jobs_log_and_no_history(lab: Lab) -> None:
+def test_a_job_changes_no_other_jobs_log_and_no_history(lab: MachineLab) -> None:
     other = lab.submit("echo mine")
     assert lab.finished(other) == "Complete"
     files = [f"logs/{other}", "history.json", "history.jsonl", "passes.json", f"groups/{other}/finished", f"jobs/{other}/log"]
@@ -129,13 +69,13 @@ def test_a_job_changes_no_other_jobs_log_and_no_history(lab: Lab) -> None:
     assert "forged" not in history and f'"job":{other}' in history.replace(" ", "")
 
 
-def test_a_job_forges_not_even_its_own_served_log(lab: Lab) -> None:
+def test_a_job_forges_not_even_its_own_served_log(lab: MachineLab) -> None:
     number = lab.submit("echo first; echo forged > log; rm -f log; ln -s /etc/passwd log; echo last")
     assert lab.finished(number) == "Complete"
     assert re.sub("sh: .*\n", "", lab.log(number)) == "first\nlast\n"
 
 
-def test_a_job_ends_neither_the_dispatcher_nor_another_job(lab: Lab) -> None:
+def test_a_job_ends_neither_the_dispatcher_nor_another_job(lab: MachineLab) -> None:
     before = lab.machine.run("systemctl", "show", "-p", "MainPID", "--value", "farm-dispatch").stdout
     other = lab.submit("echo began; sleep 4; echo whole")
     lab.said(other, "began")
@@ -145,7 +85,7 @@ def test_a_job_ends_neither_the_dispatcher_nor_another_job(lab: Lab) -> None:
     assert lab.machine.run("systemctl", "show", "-p", "MainPID", "--value", "farm-dispatch").stdout == before
 
 
-def test_a_job_reads_no_password_no_farm_and_no_other_jobs_folder(lab: Lab) -> None:
+def test_a_job_reads_no_password_no_farm_and_no_other_jobs_folder(lab: MachineLab) -> None:
     other = lab.submit("echo secret > kept; sleep 3")
     lab.machine.wait("its file", "cat", f"{PLACE}/jobs/{other}/kept")
     pid = lab.machine.run("systemctl", "show", "-p", "MainPID", "--value", "farm-dispatch").stdout.strip()
@@ -157,7 +97,7 @@ def test_a_job_reads_no_password_no_farm_and_no_other_jobs_folder(lab: Lab) -> N
     assert after == "refused\n", "and when it has ended"
 
 
-def test_what_a_job_leaves_behind_is_dead_before_its_board_is_given_on(lab: Lab) -> None:
+def test_what_a_job_leaves_behind_is_dead_before_its_board_is_given_on(lab: MachineLab) -> None:
     number = lab.submit(f"{AWAY}\nsleep 3; echo left; exit 3")
     lab.machine.wait("it is away", "pgrep", "-f", GONE_AWAY)
     assert lab.finished(number) == "Incomplete"
@@ -165,7 +105,7 @@ def test_what_a_job_leaves_behind_is_dead_before_its_board_is_given_on(lab: Lab)
 
 
 @pytest.mark.parametrize("signal", ["KILL", "STOP"])
-def test_a_job_that_ends_or_stops_what_runs_it_ends(lab: Lab, signal: str) -> None:
+def test_a_job_that_ends_or_stops_what_runs_it_ends(lab: MachineLab, signal: str) -> None:
     """Stopped it answers systemd's watchdog no more."""
     number = lab.submit(f"{AWAY}\nsleep 2; echo began; kill -{signal} $PPID; sleep 300")
     lab.machine.wait("it is away", "pgrep", "-f", GONE_AWAY)
@@ -177,7 +117,7 @@ def test_a_job_that_ends_or_stops_what_runs_it_ends(lab: Lab, signal: str) -> No
     assert lab.finished(number) in ("Infra", "Incomplete")
 
 
-def test_what_runs_a_job_cant_be_read_or_traced_by_it(lab: Lab) -> None:
+def test_what_runs_a_job_cant_be_read_or_traced_by_it(lab: MachineLab) -> None:
     trace = "import ctypes; print(ctypes.CDLL(None).ptrace(16, int(__import__('os').environ['ABOVE']), 0, 0))"
     said = lab.ran(f"""cat /proc/$PPID/environ > /dev/null 2>&1 || echo unread
 ls /proc/$PPID/fd > /dev/null 2>&1 || echo closed
@@ -185,7 +125,7 @@ ABOVE=$PPID python3 -c "{trace}" """)
     assert said == "unread\nclosed\n-1\n"
 
 
-def test_a_jobs_files_are_the_dispatchers_when_it_has_ended(lab: Lab) -> None:
+def test_a_jobs_files_are_the_dispatchers_when_it_has_ended(lab: MachineLab) -> None:
     """Also those that it let nobody see; what its links name stays whose it is."""
     number = lab.submit("mkdir -m 700 own; mkdir own/in; echo x > own/in/x; chmod 0 own/in own; ln -s /etc/passwd own.link")
     assert lab.finished(number) == "Complete"
@@ -195,7 +135,7 @@ def test_a_jobs_files_are_the_dispatchers_when_it_has_ended(lab: Lab) -> None:
     lab.machine.run("sh", "-c", f"cd / && chmod -R u+rwX {PLACE}/jobs/{number} && rm -r {PLACE}/jobs/{number}/own", user="farm-dispatch")
 
 
-def test_a_jobs_account_is_taken_back_where_the_machine_stopped(lab: Lab) -> None:
+def test_a_jobs_account_is_taken_back_where_the_machine_stopped(lab: MachineLab) -> None:
     """The service's own end didn't come, and nothing of the job lives."""
     number = lab.submit("mkdir -m 700 own; echo x > own/x")
     assert lab.finished(number) == "Complete"
@@ -209,7 +149,7 @@ def test_a_jobs_account_is_taken_back_where_the_machine_stopped(lab: Lab) -> Non
     assert "61999" not in lab.machine.run("getfacl", "-n", f"{PLACE}/jobs/{number}").stdout
 
 
-def test_a_folder_that_grows_unseen_ends_its_job(lab: Lab) -> None:
+def test_a_folder_that_grows_unseen_ends_its_job(lab: MachineLab) -> None:
     lab.machine.write("/etc/farm/desk.ini", "[dispatch]\nfolder_limit = 1 MB\n")
     lab.machine.run("systemctl", "restart", "farm-dispatch")
     try:
@@ -221,21 +161,21 @@ def test_a_folder_that_grows_unseen_ends_its_job(lab: Lab) -> None:
         lab.machine.run("systemctl", "restart", "farm-dispatch")
 
 
-def test_a_canceled_job_is_told_to_end(lab: Lab) -> None:
+def test_a_canceled_job_is_told_to_end(lab: MachineLab) -> None:
     number = lab.submit("trap 'echo told; exit 0' TERM; echo began; while :; do sleep 0.1; done")
     lab.said(number, "began")
     lab.tell("ann", f"/jobs/{number}/cancel")
     assert lab.finished(number) == "Canceled" and lab.log(number).endswith("told\n")
 
 
-def test_a_job_goes_on_where_the_dispatcher_is_killed(lab: Lab) -> None:
+def test_a_job_goes_on_where_the_dispatcher_is_killed(lab: MachineLab) -> None:
     number = lab.submit("echo began; sleep 4; echo whole")
     lab.said(number, "began")
     lab.machine.run("systemctl", "kill", "-s", "KILL", "--kill-who=main", "farm-dispatch")
     assert lab.finished(number) == "Complete" and lab.log(number) == "began\nwhole\n"
 
 
-def test_a_job_ends_where_its_runner_is_killed(lab: Lab) -> None:
+def test_a_job_ends_where_its_runner_is_killed(lab: MachineLab) -> None:
     number = lab.submit(f"{AWAY}\necho began; sleep 300")
     lab.said(number, "began")
     lab.machine.wait("it is away", "pgrep", "-f", GONE_AWAY)
@@ -244,13 +184,13 @@ def test_a_job_ends_where_its_runner_is_killed(lab: Lab) -> None:
     assert lab.processes(GONE_AWAY) == []
 
 
-def test_nobody_else_asks_for_a_job(lab: Lab) -> None:
+def test_nobody_else_asks_for_a_job(lab: MachineLab) -> None:
     connect = "import socket; socket.socket(socket.AF_UNIX).connect('/run/farm-job.socket')"
     for account in ("ann", "www-data", "farm", "farm-watch"):
         assert "PermissionError" in lab.machine.run("python3", "-c", connect, user=account, check=False).stderr, account
 
 
-def test_without_accounts_for_jobs_nothing_is_run(lab: Lab) -> None:
+def test_without_accounts_for_jobs_nothing_is_run(lab: MachineLab) -> None:
     lab.machine.run("systemctl", "stop", "farm-dispatch")
     unit = "/etc/systemd/system/farm-job@.service"
     lab.machine.run("mv", unit, f"{unit}.away")
