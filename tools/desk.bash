@@ -84,7 +84,7 @@ _desk() {
         :*) words=$commands ;;
         queue:*:-*) words="--mine --limit --json --help" ;;
         jobs:*:-*) words="--mine --last --text --json --help" ;;
-        log:*:-*) words="--follow --every --help" ;;
+        log:*:-*) words="--follow --raw --every --help" ;;
         history:*:-*) words="--last --json --help" ;;
         usage:*:-*) words="--since --by --json --help" ;;
         reservations:*:-*) words="--all --mine --json --help" ;;

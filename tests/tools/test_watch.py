@@ -449,7 +449,7 @@ def text_of_unit(name: str) -> str:
 
 def test_the_unit_begins_again_but_at_2_and_3() -> None:
     wanted = {"StartLimitIntervalSec=0", "Restart=always", "RestartPreventExitStatus=2 3",
-              "KillMode=mixed", "ProtectSystem=full", "StateDirectory=farm-watch"}
+              "KillMode=mixed", "ProtectSystem=strict", "StateDirectory=farm-watch"}
     assert wanted <= set(text_of_unit("farm-watch").split("\n"))
 
 

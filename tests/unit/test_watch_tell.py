@@ -6,6 +6,7 @@ import dataclasses
 import os
 import pathlib
 import signal
+import socket
 import sqlite3
 import sys
 import threading
@@ -51,6 +52,65 @@ def test_a_mail_is_handed_over_whole(tmp_path: pathlib.Path) -> None:
         assert wanted in lines
     admins = IT._replace(body={**BODY, "owner": ""})
     assert watch_tell.send_mail(mail, admins) == "one@x.example, two@x.example"
+
+
+class MailServer(threading.Thread):
+    """The mail server of a machine: answers each line in order, and keeps what it got."""
+
+    def __init__(self, answers: Tuple[str, ...]):
+        super().__init__(daemon=True)
+        self.answers = answers
+        self.got: List[str] = []
+        self.listener = socket.create_server(("127.0.0.1", 0))
+        self.start()
+
+    def run(self) -> None:
+        line, _ = self.listener.accept()
+        with line, line.makefile("rwb") as file:
+            for answer in self.answers:
+                file.write(f"{answer}\r\n".encode())
+                file.flush()
+                said = file.readline()
+                while answer.startswith("354") and said != b".\r\n":
+                    self.got.append(said.decode().rstrip())
+                    said = file.readline()
+                self.got.append(said.decode().rstrip())
+
+
+TAKEN = ("220 x", "250 x", "250 ok", "250 ok", "354 go on", "250 taken", "221 bye")
+
+
+def test_a_mail_goes_to_the_mail_server_of_this_machine_where_one_listens(
+    tmp_path: pathlib.Path, monkeypatch: pytest.MonkeyPatch
+) -> None:
+    server = MailServer(TAKEN)
+    monkeypatch.setattr(watch_tell, "MAIL_SERVER", server.listener.getsockname())
+    monkeypatch.setattr(watch_tell, "SENDMAIL", str(tmp_path / "sendmail"))
+    mail = mail_of(tmp_path, "exit 1")
+    assert watch_tell.send_mail(mail, IT) == "ann@x.example"
+    server.join(10)
+    for wanted in ("Message-ID: <mark-3@x.example>", "To: ann@x.example", "It can."):
+        assert wanted in server.got
+    assert [it.split(":")[0] for it in server.got if it.upper().startswith(("MAIL", "RCPT"))] == ["mail FROM", "rcpt TO"]
+
+
+def test_a_mail_server_that_refuses_is_told_and_sendmail_isnt_asked(
+    tmp_path: pathlib.Path, monkeypatch: pytest.MonkeyPatch
+) -> None:
+    server = MailServer(("220 x", "250 x", "550 not you", "250 ok", "221 bye"))
+    monkeypatch.setattr(watch_tell, "MAIL_SERVER", server.listener.getsockname())
+    monkeypatch.setattr(watch_tell, "SENDMAIL", str(tmp_path / "sendmail"))
+    with pytest.raises(watch_tell.Undelivered, match="the mail server of this machine: .*not you"):
+        watch_tell.send_mail(mail_of(tmp_path, f"touch {tmp_path}/asked"), IT)
+    assert not (tmp_path / "asked").exists()
+
+
+def test_without_a_mail_server_it_is_sendmail(tmp_path: pathlib.Path, monkeypatch: pytest.MonkeyPatch) -> None:
+    with socket.create_server(("127.0.0.1", 0)) as closed:
+        monkeypatch.setattr(watch_tell, "MAIL_SERVER", closed.getsockname())
+    monkeypatch.setattr(watch_tell, "SENDMAIL", str(tmp_path / "sendmail"))
+    assert watch_tell.send_mail(mail_of(tmp_path, f"cat > {tmp_path}/mail"), IT) == "ann@x.example"
+    assert "It can." in (tmp_path / "mail").read_text()
 
 
 def test_who_wants_no_mail_gets_none(tmp_path: pathlib.Path) -> None:

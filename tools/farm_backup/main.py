@@ -8,7 +8,7 @@ from typing import Optional, Sequence
 
 from farm_backup import copying, failover, follow
 from fizgruk import calls
-from fizgruk._tools import disk, interrupts, parsers, settings
+from fizgruk._tools import disk, interrupts, parsers, settings, terminal
 
 PROGRAM = "farm-backup"
 FAULT = 4
@@ -35,6 +35,7 @@ STATUSES = (
 
 
 def main(words: Optional[Sequence[str]] = None) -> int:
+    terminal.guard()
     options = options_of(words)
     farm = copying.Farm(options.db, options.program)
     folder = os.path.realpath(options.folder)

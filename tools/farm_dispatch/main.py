@@ -13,7 +13,7 @@ from farm_dispatch.clocks import UNSYNCHRONIZED, Clocks
 from farm_dispatch.dispatcher import ADOPT, Dispatcher
 from farm_dispatch.runner import wake
 from fizgruk import calls, limits, words as texts
-from fizgruk._tools import disk, parsers, settings
+from fizgruk._tools import disk, parsers, settings, terminal
 
 HOUR = 3600
 REFUSED, FAULT, NOT_STARTED = 3, 4, 5
@@ -145,6 +145,7 @@ class Stops:
 
 
 def main(words: Optional[Sequence[str]] = None) -> int:
+    terminal.guard()
     options = options_of(words)
     dispatcher = None
     try:

@@ -6,7 +6,7 @@ from typing import Any, Dict, List, NamedTuple, Optional, Sequence, Tuple
 
 from farm_import import lab_file
 from fizgruk import calls, clocks
-from fizgruk._tools import parsers, settings
+from fizgruk._tools import parsers, settings, terminal
 
 PROGRAM = "farm-from-desk"
 ABOUT = """\
@@ -34,6 +34,7 @@ FIRST_HEALTH = "Maintenance"
 
 
 def main(words: Optional[Sequence[str]] = None) -> int:
+    terminal.guard()
     options = options_of(words)
     server = settings.SERVER
     try:

@@ -4,7 +4,7 @@ import re
 from typing import Any, Dict, List, Optional, Sequence, Tuple
 
 from farm_import import lab_file
-from fizgruk._tools import parsers
+from fizgruk._tools import parsers, terminal
 
 PROGRAM = "farm-from-labgrid"
 ABOUT = """\
@@ -24,6 +24,7 @@ NOTHING: Tuple[object, ...] = (None, "", "null", "Null", "NULL", "~", [], {})
 
 
 def main(words: Optional[Sequence[str]] = None) -> int:
+    terminal.guard()
     return lab_file.status_of(PROGRAM, lab_of, options_of(words))
 
 

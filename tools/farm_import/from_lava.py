@@ -5,7 +5,7 @@ import re
 from typing import Dict, List, Optional, Sequence, Tuple
 
 from farm_import import lab_file
-from fizgruk._tools import parsers
+from fizgruk._tools import parsers, terminal
 
 PROGRAM = "farm-from-lava"
 ABOUT = """\
@@ -19,6 +19,7 @@ COMMENT = re.compile(r"{#.*?#}", re.DOTALL)
 
 
 def main(words: Optional[Sequence[str]] = None) -> int:
+    terminal.guard()
     return lab_file.status_of(PROGRAM, lab_of, options_of(words))
 
 

@@ -14,6 +14,10 @@ HEALTHS = ("Good", "Bad", "Unknown", "Maintenance", "Retired")
 STATES = ("Idle", "Reserved", "Running")
 KINDS = ("group", "reservation")
 OUTCOMES = ("Complete", "Incomplete", "Infra", "Canceled")
+# What is read of the dispatcher's files, which others may have written: a look reads so many bytes, of which no line
+# is longer.
+MOST_AT_ONCE, LONGEST_LINE, LONGEST_STATE = 64_000_000, 65_536, 64_000_000
+MOST_OUTCOMES, LONGEST_OUTCOME, OTHER = 20, 48, "other"
 # How many rows a farm takes, of the tables whose rows the desk counts.
 LIMITS = {
     "types": MOST_TYPES, "boards": MOST_BOARDS,
@@ -140,27 +144,39 @@ class History:
     def _read(self) -> None:
         """Counts the whole lines that are new; a file that is another one, or was cut, is read from
         its beginning."""
-        with open(self.file, "rb") as lines:
+        with open(disk.opened_file(self.file), "rb") as lines:
             found = os.fstat(lines.fileno())
             if found.st_ino != self.inode or found.st_size < self.offset:
                 self.inode, self.offset = found.st_ino, 0
             lines.seek(self.offset)
-            for line in lines:
+            until = self.offset + MOST_AT_ONCE
+            while self.offset < until:
+                line = lines.readline(LONGEST_LINE)
+                if len(line) == LONGEST_LINE:
+                    raise OSError(f"{self.file} has a line of {LONGEST_LINE:,} bytes or more")
                 if not line.endswith(b"\n"):
                     break
                 self.offset += len(line)
-                outcome = _outcome_of(line)
-                if outcome:
-                    self.outcomes[outcome] = self.outcomes.get(outcome, 0) + 1
+                self._count(_outcome_of(line))
+
+    def _count(self, outcome: str) -> None:
+        """Counts a job; of outcomes that aren't the desk's a few have their own names."""
+        if not outcome:
+            return
+        if outcome not in OUTCOMES and outcome not in self.outcomes and len(self.outcomes) >= MOST_OUTCOMES:
+            outcome = OTHER
+        self.outcomes[outcome] = self.outcomes.get(outcome, 0) + 1
 
 
 def _outcome_of(line: bytes) -> str:
     """How a job ended of which a line is; nothing of other lines."""
     try:
         row = json.loads(line)
-    except ValueError:
+    except (ValueError, RecursionError):
         return ""
-    return str(row.get("outcome", "")) if isinstance(row, dict) and row.get("kind") == "job" else ""
+    if not isinstance(row, dict) or row.get("kind") != "job":
+        return ""
+    return str(row.get("outcome", ""))[:LONGEST_OUTCOME]
 
 
 def _state_in(file: Optional[str]) -> Dict[str, Any]:
@@ -168,9 +184,8 @@ def _state_in(file: Optional[str]) -> Dict[str, Any]:
     if file is None:
         return {}
     try:
-        with open(file, encoding="utf-8") as text:
-            found = json.load(text)
-    except (OSError, ValueError):
+        found = json.loads(disk.text_in(file, LONGEST_STATE) or "{}")
+    except (OSError, ValueError, RecursionError):
         return {}
     return found if isinstance(found, dict) else {}
 

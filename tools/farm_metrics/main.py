@@ -8,7 +8,7 @@ from typing import Optional, Sequence
 
 from farm_metrics import collecting, prometheus
 from fizgruk import calls
-from fizgruk._tools import disk, interrupts, parsers, passes, settings
+from fizgruk._tools import disk, interrupts, parsers, passes, settings, terminal
 
 PROGRAM = "farm-metrics"
 FAULT = 4
@@ -33,6 +33,7 @@ STATUSES = (
 
 
 def main(words: Optional[Sequence[str]] = None) -> int:
+    terminal.guard()
     options = options_of(words)
     try:
         interrupts.catch_signals()

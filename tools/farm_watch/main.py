@@ -15,7 +15,7 @@ from farm_watch.rules import Rules, read_file
 from farm_watch.store import Delivery, Store
 from farm_watch.watcher import Watcher
 from fizgruk import calls, limits
-from fizgruk._tools import disk, parsers, settings
+from fizgruk._tools import disk, parsers, settings, terminal
 from fizgruk.words import BadFile
 
 BAD, REFUSED, FAULT = 2, 3, 4
@@ -23,7 +23,7 @@ FILE, FOLDER = "/etc/farm/watch.toml", "/var/lib/farm-watch"
 LONGEST_EVERY = LONGEST_CALL = 5.0
 DAY = 86400
 ABOUT = """\
-Looks at the desk every five seconds, and tells what FILE has rules for, by mail (sendmail) and by \
+Looks at the desk every five seconds, and tells what FILE has rules for, by mail and by \
 a webhook: a hold that is old, or was ended for its age; a job that has ended; a reservation that \
 waited and got a board; a board that went Bad; no pass for long; a farm that is nearly full; a file system \
 without much room, and with room again. Each event is told once, by each way that its rule names; what isn't taken is tried again.
@@ -42,6 +42,7 @@ STATUSES = (
 
 
 def main(words: Optional[Sequence[str]] = None) -> int:
+    terminal.guard()
     options = options_of(words)
     try:
         rules = read_file(options.file)

@@ -18,6 +18,7 @@ SECONDS = {"d": 86400, "h": 3600, "m": 60, "s": 1}
 LONGEST_HOLD, LONGEST_LATE = 365 * 86400, 86400
 SHORTEST_HOLD, SHORTEST_LATE = 60, 10
 OWNER = "{owner}"
+SENDMAIL = "/usr/sbin/sendmail"  # where the file names none
 
 
 @dataclasses.dataclass(frozen=True)
@@ -317,7 +318,7 @@ class Reader:
             table["from"],
             table.get("to", ""),
             table.get("admin", ()),
-            table.get("sendmail", "/usr/sbin/sendmail"),
+            table.get("sendmail", SENDMAIL),
             owners,
         )
 

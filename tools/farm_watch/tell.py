@@ -1,4 +1,4 @@
-"""How farm-watch tells: mail by sendmail, and posts to a webhook. Each way has a thread of its own,
+"""How farm-watch tells: mail by the mail server of this machine or sendmail, and posts to a webhook. Each way has a thread of its own,
 so neither holds up the other, nor the looks at the desk."""
 import contextlib
 import email.message
@@ -6,6 +6,7 @@ import email.utils
 import functools
 import http.client
 import json
+import smtplib
 import socket
 import sqlite3
 import ssl
@@ -15,12 +16,13 @@ import threading
 import urllib.parse
 from typing import Callable, Dict, Optional
 
-from farm_watch.rules import Mail, Rules, Webhook
+from farm_watch.rules import SENDMAIL, Mail, Rules, Webhook
 from farm_watch.store import Delivery, Store, wait_after
 from fizgruk import limits
 from fizgruk.version import VERSION
 
 WEBHOOK_WAITS, SENDMAIL_WAITS = 5.0, 60.0
+MAIL_SERVER = ("127.0.0.1", 25)
 LOOKS = 5.0
 ENDS_IN = 15.0
 
@@ -47,7 +49,8 @@ def ways_of(rules: Rules) -> Dict[str, Way]:
 
 
 def send_mail(mail: Mail, it: Delivery) -> str:
-    """Hands a message to sendmail. At each try it is the same to the byte."""
+    """Hands a message to the mail server of this machine, where one listens, or to sendmail, which the file may name.
+    At each try it is the same to the byte."""
     owner = it.body["owner"]
     to = ", ".join(mail.admin) if not owner else mail.address_of(owner)
     if not to:
@@ -61,8 +64,23 @@ def send_mail(mail: Mail, it: Delivery) -> str:
     message["Auto-Submitted"] = "auto-generated"
     message["X-Farm-Event"] = it.body["event"]
     message.set_content(f"{it.body['text']}\n")
-    _hand_over(mail.sendmail, message.as_bytes())
+    if mail.sendmail != SENDMAIL or not _posted(message):
+        _hand_over(mail.sendmail, message.as_bytes())
     return to
+
+
+def _posted(message: email.message.EmailMessage) -> bool:
+    """Whether the mail server of this machine took a message; False where none listens. It needs no other account, as
+    the sendmail of most servers does, which the unit doesn't let it have."""
+    try:
+        with smtplib.SMTP(*MAIL_SERVER, local_hostname=socket.gethostname(), timeout=SENDMAIL_WAITS) as line:
+            line.send_message(message)
+    except ConnectionRefusedError:
+        return False
+    except (OSError, smtplib.SMTPException, ValueError) as fault:
+        said = " ".join(str(fault).split())[:200]
+        raise Undelivered(f"the mail server of this machine: {said or type(fault).__name__}") from fault
+    return True
 
 
 def _hand_over(command: str, text: bytes) -> None:

@@ -1,5 +1,6 @@
 """Files that a machine's stop leaves whole, locks that end with the process that has them, and files
 that others may have made."""
+import errno
 import fcntl
 import os
 import stat
@@ -34,6 +35,19 @@ def write_synced(file: str, text: str) -> None:
         os.fsync(new.fileno())
     os.replace(f"{file}.new", file)
     sync_folder(os.path.dirname(file))
+
+
+def opened_file(file: str) -> int:
+    """A file that others may have made, open to be read. Raises OSError where a link, a pipe or a
+    device stands in its place, and waits for nobody."""
+    opened = os.open(file, os.O_RDONLY | os.O_NOFOLLOW | os.O_NONBLOCK | os.O_CLOEXEC)
+    if stat.S_ISREG(os.fstat(opened).st_mode):
+        return opened
+    is_folder = stat.S_ISDIR(os.fstat(opened).st_mode)
+    os.close(opened)
+    if is_folder:
+        raise IsADirectoryError(errno.EISDIR, os.strerror(errno.EISDIR), file)
+    raise OSError(f"{file} is no file")
 
 
 def take_lock(file: str) -> Optional[int]:

@@ -2,12 +2,14 @@
 folder, which it writes and farm-metrics reads."""
 import dataclasses
 import json
+import math
 import os
 import time
 
 from fizgruk._tools import disk
 
 FILE = "passes.json"
+LONGEST_FILE = 4096
 LONGEST = 3  # periods that a dispatcher waits for others
 EARLIER = 0.9  # of the time that is left, so that who waited comes before who passed
 SHORTEST = 0.1
@@ -65,11 +67,14 @@ class Counter:
 
 def passes_in(file: str) -> Passes:
     """What a file says. Raises ValueError where it isn't one of these."""
-    with open(file, encoding="utf-8") as text:
-        said = json.load(text)
-    if not isinstance(said, dict):
+    text = disk.text_in(file, LONGEST_FILE)
+    if text is None:
+        raise FileNotFoundError(file)
+    try:
+        said = json.loads(text)
+        count, at = said["count"], float(said["at"])
+    except (ValueError, TypeError, KeyError, OverflowError, RecursionError) as fault:
+        raise ValueError(f"{file} has no count of passes") from fault
+    if type(count) is not int or not 0 <= count < 2**63 or not math.isfinite(at):
         raise ValueError(f"{file} has no count of passes")
-    count, at = said.get("count"), said.get("at")
-    if type(count) is not int or count < 0 or not isinstance(at, (int, float)):
-        raise ValueError(f"{file} has no count of passes")
-    return Passes(count, float(at))
+    return Passes(count, at)

@@ -5,7 +5,7 @@ import sys
 from typing import Any, Callable, Dict, Optional, Sequence, TextIO, Tuple, Union
 
 from fizgruk import calls, job_file
-from fizgruk._tools import interrupts, parsers, settings
+from fizgruk._tools import interrupts, parsers, settings, terminal
 from fizgruk._tools.parsers import Parser, one_of
 from fizgruk.desk import admin, claims, clocks, holding, past_jobs, texts, usage, views, waiting
 
@@ -24,6 +24,7 @@ ACTIONS = {"extend": "refresh", "cancel-reservation": "cancel"}
 
 
 def main(words: Optional[Sequence[str]] = None) -> int:
+    terminal.guard()
     try:
         options = options_of(sys.argv[1:] if words is None else words)
         interrupts.catch_signals()
@@ -218,6 +219,8 @@ def add_past(command: Command) -> None:
     add_number(log, "A job's number.")
     about = "Print also what it says from then on, until the job has ended."
     log.add_argument("--follow", action="store_true", help=about)
+    about = "On a terminal, print its escapes too, by which it may do there what it likes."
+    log.add_argument("--raw", action="store_true", help=about)
     add_every(log)
     past = command("history", past_jobs.show_history)
     past.add_argument("board", metavar="BOARD", help="The board's name.")

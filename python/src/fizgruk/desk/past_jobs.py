@@ -6,7 +6,7 @@ import time
 from typing import Any, Dict, Iterable, List, Optional, Set
 
 from fizgruk import calls, history, records, toml_text, wants
-from fizgruk._tools import interrupts, tables
+from fizgruk._tools import interrupts, tables, terminal
 from fizgruk.desk import views
 
 REFUSED = 3
@@ -219,7 +219,7 @@ BOARD_COLUMNS = [
 
 def show_log(desk: calls.Desk, options: argparse.Namespace) -> int:
     """Prints a job's log; with --follow all that is added to it until the job has ended."""
-    log = Log(history.history_of(desk, options), options.number)
+    log = Log(history.history_of(desk, options), options.number, options.raw)
     if not options.follow:
         return 0 if log.print_more() else log.tell_none(desk)
     is_open = is_to_come(desk, options.number)  # what is asked first has to be answered
@@ -228,7 +228,7 @@ def show_log(desk: calls.Desk, options: argparse.Namespace) -> int:
             # (a log to which something may be added is looked at once more)
             there = log.print_more()
             if not is_open:
-                return 0 if there else log.tell_none(desk)
+                return log.finish() if there else log.tell_none(desk)
             if not there:
                 log.tell_none(desk)
             interrupts.check()
@@ -247,9 +247,10 @@ def is_to_come(desk: calls.Desk, number: int) -> bool:
 class Log:
     """A job's log as it is printed."""
 
-    def __init__(self, past: history.Past, number: int):
+    def __init__(self, past: history.Past, number: int, is_raw: bool):
         self.past = past
         self.number = number
+        self.plain = None if is_raw or not sys.stdout.isatty() else terminal.Plain()
         self.printed = 0
         self.told: Set[str] = set()
 
@@ -257,12 +258,24 @@ class Log:
         """Prints what the log has and wasn't printed yet. Returns whether there is a log."""
         try:
             for chunk in self.past.log(self.number, self.printed):
-                sys.stdout.buffer.write(chunk)
-                sys.stdout.buffer.flush()
+                self._print(chunk)
                 self.printed += len(chunk)
             return True
         except history.NoLog:
             return False
+
+    def _print(self, chunk: bytes) -> None:
+        if self.plain is None:
+            sys.stdout.buffer.write(chunk)
+            sys.stdout.buffer.flush()
+        else:
+            print(self.plain.of(chunk), end="", flush=True)
+
+    def finish(self) -> int:
+        """Prints what waited for more, of which there is none. Returns the exit status."""
+        if self.plain is not None:
+            print(self.plain.end(), end="", flush=True)
+        return 0
 
     def tell_none(self, desk: calls.Desk) -> int:
         """Tells why there is no log. Returns the exit status."""

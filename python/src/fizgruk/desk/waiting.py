@@ -6,7 +6,7 @@ import time
 from typing import Any, Callable, Dict, List, Optional, Set, TypeVar
 
 from fizgruk import calls, wants
-from fizgruk._tools import interrupts
+from fizgruk._tools import interrupts, terminal
 from fizgruk.desk import clocks
 
 # A reservation that isn't refreshed lives for sixty seconds.
@@ -33,7 +33,8 @@ class Progress:
         if self.terminal:
             waited = int(time.monotonic() - self.begun)
             line = f"{text} ({waited} s)"
-            print(self._erased() + line, end="", file=sys.stderr, flush=True)
+            terminal.write_own(sys.stderr, self._erased())
+            print(line, end="", file=sys.stderr, flush=True)
             self.rows = -(-len(line) // columns())
         elif text != self.shown:
             print(text, file=sys.stderr, flush=True)
@@ -41,12 +42,14 @@ class Progress:
 
     def tell(self, text: str) -> None:
         """Tells what stays, on a line of its own."""
-        print(f"{self._erased()}desk: {text}", file=sys.stderr, flush=True)
+        terminal.write_own(sys.stderr, self._erased())
+        print(f"desk: {text}", file=sys.stderr, flush=True)
 
     def end(self) -> None:
         """Clears what a terminal shows."""
         try:
-            print(self._erased(), end="", file=sys.stderr, flush=True)
+            terminal.write_own(sys.stderr, self._erased())
+            sys.stderr.flush()
         except OSError:
             pass  # the terminal is gone
 

@@ -1,0 +1,110 @@
+"""The units: how much systemd-analyze(1) finds open in each, and that each does its work so, under a systemd."""
+from __future__ import annotations
+
+import glob
+import os
+import re
+import subprocess
+
+import pytest
+
+from machine import Machine
+from machine_lab import MachineLab
+from served import TOP
+from wants import wants
+
+UNITS = sorted(glob.glob(os.path.join(TOP, "examples", "*.service")))
+MOST = 2.0
+# A job does what its lab lets it: devices, networks, and programs of all kinds.
+MOST_OF_A_JOB = 5.0
+WATCH = """[desk]
+server = "http://127.0.0.1:880"
+user = "admin"
+[webhook]
+url = "http://127.0.0.1:8901/"
+[board]
+bad = true
+"""
+# Answers a post, and keeps its body.
+HOOK = """import http.server
+class Hook(http.server.BaseHTTPRequestHandler):
+    def do_POST(self):
+        open("/tmp/hook", "ab").write(self.rfile.read(int(self.headers["content-length"])))
+        self.send_response(200)
+        self.end_headers()
+http.server.HTTPServer(("127.0.0.1", 8901), Hook).serve_forever()
+"""
+PROM = "/var/lib/prometheus/node-exporter/fizgruk.prom"
+
+
+@pytest.mark.parametrize("unit", UNITS, ids=os.path.basename)
+def test_a_unit_is_open_by_no_more_than(unit: str) -> None:
+    wants("systemd-analyze")
+    words = ["systemd-analyze", "security", "--offline=true", "--no-pager", unit]
+    said = subprocess.run(words, capture_output=True, text=True, check=False).stdout
+    found = re.search(r"Overall exposure level for \S+: ([0-9.]+)", said)
+    assert found, said
+    assert float(found.group(1)) <= (MOST_OF_A_JOB if "@" in unit else MOST), said
+
+
+@pytest.fixture(scope="module")
+def lab(machine: Machine) -> MachineLab:
+    """A lab whose dispatcher has a history."""
+    made = MachineLab(machine)
+    made.ran("true")
+    return made
+
+
+@pytest.mark.xdist_group("machine")
+@pytest.mark.slow(20)
+def test_the_desk_the_dispatcher_and_a_job_work(lab: MachineLab) -> None:
+    assert lab.ran("echo said") == "said\n"
+    lab.machine.run("systemctl", "restart", "farm", "farm-dispatch")
+    lab.machine.wait("the desk", *lab.machine.curl("root", "/status"))
+    assert lab.ran("echo again") == "again\n"
+
+
+@pytest.mark.xdist_group("machine")
+def test_the_metrics_are_written_by_an_account_of_their_own(lab: MachineLab) -> None:
+    lab.machine.run("mkdir", "-p", os.path.dirname(PROM))
+    lab.machine.run("systemctl", "start", "farm-metrics")
+    text = lab.machine.run("cat", PROM, user="nobody").stdout
+    assert "fizgruk_up 1\n" in text and re.search("fizgruk_passes_total [1-9]", text)
+    assert lab.machine.run("stat", "-L", "-c", "%U", PROM).stdout == "farm-metrics\n"
+
+
+@pytest.mark.xdist_group("machine")
+@pytest.mark.parametrize("script", [
+    "mkfifo history.jsonl", "ln -s /etc/shadow history.jsonl", "truncate -s 40G history.jsonl",
+    "ln -s /dev/zero passes.json", "mkfifo passes.json", "truncate -s 40G passes.json",
+    "python3 -c 'print(\"[\" * 900000)' > passes.json", "python3 -c 'print(\"[\" * 60000)' > history.jsonl",
+])
+def test_what_a_stranger_put_in_the_dispatchers_folder_holds_up_no_metrics(lab: MachineLab, script: str) -> None:
+    """With the dispatcher stopped, since it would write over it."""
+    lab.machine.run("mkdir", "-p", os.path.dirname(PROM))
+    lab.machine.run("systemctl", "stop", "farm-dispatch")
+    name = script.split()[-1] if ">" not in script else script.rsplit("> ", 1)[1]
+    move = f"cd /var/lib/farm-dispatch && mv {name} kept && {script}"
+    lab.machine.run("sh", "-c", move)
+    try:
+        lab.machine.run("rm", "-f", "/var/lib/farm-metrics/fizgruk.prom")
+        lab.machine.run("timeout", "50", "systemctl", "start", "farm-metrics", check=False)
+        assert "fizgruk_up 1\n" in lab.machine.run("cat", PROM).stdout
+    finally:
+        lab.machine.run("sh", "-c", f"cd /var/lib/farm-dispatch && rm -f {name} && mv kept {name}")
+        lab.machine.run("systemctl", "reset-failed", "farm-metrics", check=False)
+        lab.machine.run("systemctl", "start", "farm-dispatch")
+
+
+@pytest.mark.xdist_group("machine")
+def test_the_watcher_tells_by_a_webhook(lab: MachineLab) -> None:
+    lab.machine.write("/etc/farm/watch.toml", WATCH)
+    lab.machine.write("/tmp/hook.py", HOOK)
+    lab.machine.run("systemd-run", "--unit=hook", "python3", "/tmp/hook.py")
+    lab.machine.run("systemctl", "start", "farm-watch")
+    lab.machine.wait("it looks", "sh", "-c", "journalctl -q -o cat -u farm-watch | grep '^sees 3 boards'")
+    lab.tell("admin", "/boards/b3/health", {"health": "Bad"})
+    assert "b3" in lab.machine.wait("the post", "cat", "/tmp/hook")
+    assert lab.machine.status("farm-watch") == "active"
+    lab.tell("admin", "/boards/b3/health", {"health": "Good"})
+    lab.machine.run("systemctl", "stop", "farm-watch", "hook")
