@@ -305,7 +305,7 @@ def test_on_a_terminal_it_says_which_desk_is_told_or_refuses_and_not_which_is_as
     assert [(it.count(where), it.startswith(where)) for it in said] == [(1, True), (1, True), (0, False)]
 
 
-@pytest.mark.parametrize("server, told", [("http://127.0.0.1:8080", False), ("https://farm.lab.example", True)])
+@pytest.mark.parametrize("server, told", [("http://127.0.0.1:880", False), ("https://farm.lab.example", True)])
 def test_the_default_desk_isnt_named(
     server: str, told: bool, monkeypatch: pytest.MonkeyPatch, capsys: pytest.CaptureFixture[str]
 ) -> None:

@@ -258,7 +258,7 @@ def test_the_clients_version_is_the_packages(lab: Farm) -> None:
     ("desk --json ad", "add-type add-board", "queue"),
     ("desk reserve --priority ", "low medium high", "hdmi"),
     ("desk add-type x --check h", "hours", "jobs"),
-    ("desk --server ", "http://127.0.0.1:8080", "queue"),
+    ("desk --server ", "http://127.0.0.1:880", "queue"),
     ("desk --user queue res", "reserve reservations", ""),
     ("desk with hdmi -- ech", "echo", ""),
     ("desk with hdmi -- cat PLACE/de", "PLACE/desk", ""),
