@@ -16,10 +16,11 @@ from typing import Callable, List, Tuple
 
 import pytest
 from desks import write
+from farm_backup import copying, standby
 from recorded import recorded, synced
 from served import TOOLS, Board, Farm, Tool, environment, read, wait_until
 from streamed import (
-    FIRST, Kills, Salts, Stream, Worker, backup, demand_prefix, still_farm, words_of
+    FIRST, Kills, Salts, Stream, Worker, backup, demand_prefix, moment_of, still_farm, words_of
 )
 
 Made = Callable[..., Farm]
@@ -196,23 +197,38 @@ def test_a_disk_without_room_leaves_the_copies_as_they_are(make_farm: Made, fold
     assert sorted(os.listdir(folder)) == before
 
 
-def test_a_log_that_is_damaged_shows_by_the_desks_count(make_farm: Made, folder: str) -> None:
-    """A byte that is damaged hides the command that wrote it, 21, and all behind it: only the desk knows
-    of them."""
+def test_a_log_that_is_damaged_is_told(make_farm: Made, folder: str) -> None:
+    """A byte that is damaged hides the command that wrote it and all behind it from whoever opens the farm; but they
+    stand there."""
     farm = make_farm(BOARDS)
-    commands = still_farm(farm)
+    still_farm(farm)
     farm.start()
-    server = ["--server", farm.server]
-    assert backup(farm, folder, *server)[0] == 0
+    assert backup(farm, folder)[0] == 0
     with open(f"{farm.db}-wal", "r+b") as log:
         log.seek(log.read().index(b"turn=21"))
         log.write(b"u")
     latest = os.readlink(f"{folder}/latest")
-    wanted = (
-        f"farm-backup: the copy has {FIRST + 21} commands, and the desk had done {FIRST + commands}: it is thrown "
-        "away, since it is another farm's, or the log is damaged\n"
-    )
-    assert backup(farm, folder, *server) == (4, "", wanted)
+    wanted = f"farm-backup: {farm.db}-wal is damaged: commands stand behind a frame whose sum is wrong\n"
+    assert backup(farm, folder) == (4, "", wanted)
+    assert (os.readlink(f"{folder}/latest"), left_in(folder)) == (latest, [])
+
+
+def test_a_copy_with_fewer_commands_than_the_desk_is_thrown_away(make_farm: Made, folder: str) -> None:
+    """The desk knows of damage to the last frame, which the log doesn't show; and of another farm's file."""
+    farm = make_farm(BOARDS)
+    commands = still_farm(farm)
+    with standby.pages_in(copying.Farm(farm.db, "")) as found:
+        end = found.place.offset
+    farm.start()
+    server = ["--server", farm.server]
+    assert backup(farm, folder, *server)[0] == 0
+    latest = os.readlink(f"{folder}/latest")
+    with open(f"{farm.db}-wal", "r+b") as log:
+        log.seek(end - 1)
+        log.write(b"u")
+    wanted = f"farm-backup: the copy has {FIRST + commands - 1} commands, and the desk had done {FIRST + commands}: "
+    status, said, errors = backup(farm, folder, *server)
+    assert (status, said, errors.startswith(wanted)) == (4, "", True)
     assert (os.readlink(f"{folder}/latest"), left_in(folder)) == (latest, [])
 
 
@@ -230,23 +246,41 @@ def copies_in(to: str) -> List[str]:
     return sorted(it for it in os.listdir(to) if it.startswith(("farm", ".new")))
 
 
+def copies_of(farm: Farm, to: str, *names: str) -> None:
+    """Copies, each with one command more than the one before, that get these names."""
+    for name in names:
+        farm.tell("dispatcher", "/pass")
+        os.rename(backup(farm, to)[1].strip(), f"{to}/{name}")
+
+
 def test_keep_removes_the_oldest_copies_alone(make_farm: Made, folder: str) -> None:
-    """What isn't a copy stays; what was cut off is removed."""
-    to = f"{folder}/to"
-    os.mkdir(to, 0o700)
-    kept = "farm-20200102T000000Z-10"
-    make_copies(to, "farm-20200101T000000Z", "farm-20200102T000000Z", kept, ".new-cut", "farm-notes")
-    said = backup(make_farm(), to, "--keep", "2")[1].strip()
-    assert copies_in(to) == [kept, os.path.basename(said), "farm-notes"]
+    """By what they hold, since names are of a clock that may have been ahead. What isn't a copy stays; what was cut off
+    is removed."""
+    to, farm = f"{folder}/to", make_farm()
+    ahead = ["farm-20990102T000000Z", "farm-20990101T000000Z"]
+    copies_of(farm, to, *ahead, "farm-20200102T000000Z", "farm-20200101T000000Z", "farm-20200102T000000Z-10")
+    make_copies(to, ".new-cut", "farm-notes")
+    farm.tell("dispatcher", "/pass")
+    status, said, errors = backup(farm, to, "--keep", "3")
+    assert (status, errors) == (0, "")
+    new = os.path.basename(said.strip())
+    assert copies_in(to) == sorted([new, "farm-20200101T000000Z", "farm-20200102T000000Z-10", "farm-notes"])
 
 
-def test_keep_leaves_the_new_copy_where_others_are_of_the_future(make_farm: Made, folder: str) -> None:
-    """They were made by a clock that was ahead, so by its name the new one is the oldest."""
-    to = f"{folder}/to"
-    os.mkdir(to, 0o700)
-    make_copies(to, "farm-20990101T000000Z", "farm-20990102T000000Z")
-    said = backup(make_farm(), to, "--keep", "1")[1].strip()
-    assert copies_in(to) == [os.path.basename(said), "farm-20990102T000000Z"]
+def test_keep_leaves_what_isnt_an_earlier_copy_of_the_same_farm(make_farm: Made, folder: str) -> None:
+    """Here one that has more commands than a farm that was restored, and one that can't be read."""
+    to, farm = f"{folder}/to", make_farm()
+    copies_of(farm, to, "farm-20200101T000000Z", "farm-20200102T000000Z", "farm-20200103T000000Z")
+    make_copies(to, "farm-20200104T000000Z")
+    farm.kill()
+    for end in ("", "-wal"):
+        os.unlink(f"{farm.db}{end}")
+        shutil.copy(f"{to}/farm-20200102T000000Z/farm.db{end}", f"{farm.db}{end}")
+    status, said, errors = backup(farm, to, "--keep", "1")
+    assert status == 0
+    stays = ["farm-20200103T000000Z", "farm-20200104T000000Z"]
+    assert errors == f"farm-backup: these stay, which aren't earlier copies of the same farm: {', '.join(stays)}\n"
+    assert copies_in(to) == [*stays, os.path.basename(said.strip())]
 
 
 def test_keep_0_is_refused(make_farm: Made, folder: str) -> None:
@@ -264,3 +298,98 @@ def test_a_follower_leaves_copies_alone_that_it_didnt_make(
     assert follower.ends() == 0
     assert os.path.isfile(f"{folder}/farm.db")
     assert [it for it in copies_in(folder) if it in names] == names
+
+
+# ---- a copy to look at
+
+
+def test_a_served_farm_is_looked_at_in_one_command(make_farm: Made, folder: str) -> None:
+    """By SQLite's shell, which can't open the farm itself then, also where it may write nothing; and by a report."""
+    farm, to = make_farm(BOARDS), f"{folder}/now.db"
+    assert backup(farm, "--now", "--to", to) == (0, "", "")
+    assert os.listdir(folder) == ["now.db"]
+    with contextlib.closing(sqlite3.connect(f"file:{to}?mode=ro&immutable=1", uri=True)) as conn:
+        assert conn.execute("select name, health from boards").fetchall() == [("b1", 0)]
+        assert conn.execute("pragma integrity_check").fetchall() == [("ok",)]
+    words = [farm.program, "report", "--db", to, "boards"]
+    wanted = subprocess.run(words, capture_output=True, text=True, check=True).stdout
+    assert wanted.split()[:2] == ["Good", "Idle"]
+    assert backup(farm, "--now", "--report", "boards") == (0, wanted, "")
+
+
+def test_a_report_over_a_served_farm_has_the_moments_that_are_asked_for(make_farm: Made) -> None:
+    farm = make_farm(BOARDS)
+    number = farm.tell("ann", "/reservations", {"tags": []})["number"]
+    farm.tell("dispatcher", "/pass")
+    moment = farm.reservation(number)["deadline"]
+    for words, offset in (("--east=0", 0), ("--east=90", 5400), ("--west=60", -3600)):
+        status, said, errors = backup(farm, "--now", "--report", "reservations", words)
+        assert (status, errors) == (0, "")
+        assert time.strftime("%Y-%m-%d %H:%M:%S", time.gmtime(moment + offset)) in said
+
+
+@pytest.mark.parametrize("taken", ["now.db", "now.db-wal"])
+def test_a_copy_to_look_at_overwrites_nothing(make_farm: Made, folder: str, taken: str) -> None:
+    write(folder, taken, "kept")
+    wanted = f"farm-backup: {folder}/{taken} is there: a copy overwrites nothing\n"
+    assert backup(make_farm(), "--now", "--to", f"{folder}/now.db") == (4, "", wanted)
+    assert (os.listdir(folder), read(f"{folder}/{taken}")) == ([taken], "kept")
+
+
+@pytest.mark.parametrize("words", [
+    ["--now"], ["--now", "--to", "a", "b"], ["--to", "a", "b"], ["--now", "--to", "a", "--report", "queue"], [],
+    ["--follow"], ["--follow", "--promote", "a"], ["--units", "a"], ["--demote", "--keep", "2", "a"],
+    ["--follow", "--server", "http://127.0.0.1:1", "a"], ["--now", "--report", "all"],
+])
+def test_words_that_dont_go_together_are_refused(make_farm: Made, words: List[str]) -> None:
+    status, said, errors = backup(make_farm(), *words)
+    assert (status, said) == (2, "")
+    assert "farm-backup: error: " in errors
+
+
+# ---- a farm that grows fast
+
+
+@pytest.mark.slow(30)
+def test_a_farm_that_grows_fast_is_copied_and_followed(
+    make_farm: Made, folder: str, start_tool: Callable[..., Tool]
+) -> None:
+    """Some hundred jobs of 60 kB a second: its log begins anew some times a second, so its file never stands still for as
+    long as a copy takes."""
+    farm = make_farm(BOARDS)
+    text = f"job_name = 'boot'\ndevice_type = 'bbb'\n# {'x' * 60000}".encode()
+
+    class Sender(Worker):
+        def step(self) -> None:
+            farm.tell("ann", "/jobs", text)
+            time.sleep(0.01)
+
+    salts = Salts(f"{farm.db}-wal")
+    senders = [Sender() for _ in range(2)]
+    wait_until("a large farm", lambda: os.path.getsize(farm.db) > 30 << 20, 300)
+    follower = start_tool(*words_of(farm, "--follow", f"{folder}/standby", "--every", "0.5"))
+    for _ in range(3):
+        before = farm.look("/status")["count"]
+        turns = len(salts.seen)
+        status, said, errors = backup(farm, f"{folder}/copies", "--verbose")
+        assert (status, errors.count("no copy")) == (0, 0)
+        assert count_in(f"{said.strip()}/farm.db") >= before
+        assert len(salts.seen) > turns, "its log began anew meanwhile"
+    since = time.time()
+    wait_until("a standby", lambda: moment_of(f"{folder}/standby") > since, 120)
+    for it in (*senders, salts):
+        it.end()
+    since = time.time()
+    wait_until("all of it", lambda: moment_of(f"{folder}/standby") > since, 120)
+    follower.send(signal.SIGTERM)
+    assert follower.ends() == 0
+    assert count_in(os.path.realpath(f"{folder}/standby/farm.db")) == farm.look("/status")["count"]
+
+
+def count_in(db: str) -> int:
+    with tempfile.TemporaryDirectory() as place:
+        for end in ("", "-wal"):
+            shutil.copy(db + end, f"{place}/farm.db{end}")
+        with contextlib.closing(sqlite3.connect(f"{place}/farm.db")) as conn:
+            assert conn.execute("pragma integrity_check").fetchall() == [("ok",)]
+            return int(conn.execute("select value from meta where name = 'count'").fetchone()[0])

@@ -100,6 +100,23 @@ def test_a_commit_that_the_standby_missed_shows_in_the_frames_written_over(pair:
         pair.ship()
 
 
+@pytest.mark.parametrize("at", [9, wal.FRAME + 99])
+def test_commits_that_cant_be_read_are_never_left_out(pair: Pair, at: int) -> None:
+    """A byte of a frame is damaged before its commit is shipped, of its salts or of its page: what stands behind it in
+    the log isn't known, and the next log goes on from there."""
+    pair.ship()
+    for turn in (1, 2, 3):
+        pair.changes(turn, turn)
+    with open(pair.farm.log, "r+b") as log:
+        log.seek(pair.standby.replica.pages.place.offset + wal.FRAME + 4096 + at)
+        log.write(b"x")
+    pair.carries()
+    pair.changes(4, 1)
+    with pytest.raises((tail.Anew, tail.Damaged)):
+        pair.ship()
+    assert pair.turns() == [0, 0, 0]
+
+
 def test_a_log_that_began_anew_twice_is_copied_from_its_beginning(pair: Pair) -> None:
     for turn in (1, 2):
         pair.carries()

@@ -11,7 +11,7 @@ import types
 from typing import Any, Callable, Dict, List, Optional, Sequence, Tuple
 
 import pytest
-from farm_backup import copying, main as backup
+from farm_backup import copying, keeping, main as backup
 from farm_dispatch import cages, main as dispatch
 from farm_metrics import main as metrics
 from fizgruk import calls, history, wants
@@ -33,8 +33,12 @@ def refused(capsys: pytest.CaptureFixture[str], call: Callable[[Sequence[str]], 
 
 
 @pytest.mark.parametrize("words, told", [
-    (("--follow", "--keep", "3", "to"), "--keep and --server aren't for --follow"),
-    (("--follow", "--server", "http://desk", "to"), "--keep and --server aren't for --follow"),
+    (("--follow", "--keep", "3", "to"), "--keep is for copies alone"),
+    (("--follow", "--server", "http://desk", "to"), "--server is for copies alone"),
+    (("--units", "to"), "--units is for --promote or --demote"), (("--to", "file", "to"), "--to is for --now"),
+    (("--follow", "--demote", "to"), "--follow and --demote don't go together"), ((), "there is no DIR"),
+    (("--now", "--to", "file", "to"), "--now has no DIR"), (("--now",), "--now wants one of --to and --report"),
+    (("--now", "--report", "queue", "--east", "1440"), "argument --east"),
     (("--keep", "0", "to"), "argument --keep: invalid _number value: '0'"), (("--every", "0", "to"), "argument --every"),
     (("--every", "3601", "to"), "argument --every"), (("--server", "desk", "to"), "desk is no address of a server"),
 ])
@@ -51,6 +55,8 @@ class Copies:
         monkeypatch.setattr(copying, "new_copy", self.make)
         monkeypatch.setattr(copying.Farm, "count", lambda farm: self.count)
         monkeypatch.setattr(calls.Desk, "look", self.look)
+        monkeypatch.setattr(keeping, "earlier", lambda farm, folder, new: (
+            [it for it in copying.copies_in(folder) if it != new], []))
         monkeypatch.setattr(copying, "name_of", lambda moment: f"farm-2026112{self.names}T000000Z")
 
     def make(self, farm: copying.Farm, folder: str, tell: Callable[[str], None]) -> str:
@@ -83,13 +89,6 @@ def test_a_copy_gets_its_name_and_the_oldest_go(copies: Copies, capsys: pytest.C
     assert sorted(os.listdir(copies.folder)) == [*names, "latest"]
     assert os.readlink(copies.folder / "latest") == names[-1]
     assert capsys.readouterr().out.splitlines()[-1] == f"{copies.folder}/{names[-1]}"
-
-
-def test_a_new_copy_stays_where_the_clock_was_set_back(copies: Copies) -> None:
-    for day in (28, 29):
-        (copies.folder / f"farm-202611{day}T000000Z").mkdir()
-    copies.runs("--keep", "1")
-    assert sorted(os.listdir(copies.folder)) == ["farm-20261120T000000Z", "farm-20261129T000000Z", "latest"]
 
 
 def test_a_copy_that_has_less_than_the_desk_is_thrown_away(copies: Copies) -> None:

@@ -118,6 +118,8 @@ def copied(farm: Farm, place: str, tell: Callable[[str], None]) -> Tuple[Farm, t
             raise NoCopy(f"there is no {fault.filename}: a farm is a file and its log") from fault
         except pages.NoDatabase as fault:
             raise NoCopy(f"the copy is no farm, and is thrown away ({fault})") from fault
+        except tail.Damaged as fault:
+            raise NoCopy(str(fault)) from fault
         except tail.Anew as fault:
             why = str(fault)
         tell(f"copied again: {why}")

@@ -62,18 +62,23 @@ class Follower:
         if self.standby is None:
             self._demand_farm()
             self._take_up()
-        try:
-            if self.standby:
-                self._ship()
-                return None
-        except tail.Rewound as fault:
-            raise self._other(str(fault)) from fault
-        except tail.Anew:
-            pass
+        if self.standby and self._has_shipped():
+            return None
         self._copy()
         moment = time.time()
-        self._ship()
-        return moment
+        return moment if self._has_shipped() else None
+
+    def _has_shipped(self) -> bool:
+        """Ships what the farm's log got. False where the log got away: a whole copy is wanted."""
+        try:
+            self._ship()
+            return True
+        except tail.Rewound as fault:
+            raise self._other(str(fault)) from fault
+        except tail.Damaged as fault:
+            raise copying.NoCopy(str(fault)) from fault
+        except tail.Anew:
+            return False
 
     def _demand_farm(self) -> None:
         for name in (self.farm.db, self.farm.log):

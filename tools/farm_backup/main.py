@@ -6,7 +6,7 @@ import sys
 import time
 from typing import Optional, Sequence
 
-from farm_backup import copying, failover, follow
+from farm_backup import copying, failover, follow, keeping, looking
 from fizgruk import calls
 from fizgruk._tools import disk, interrupts, parsers, settings, terminal
 
@@ -34,13 +34,27 @@ STATUSES = (
 )
 
 
+# What each option goes with.
+GOES_WITH = {
+    "to": ["now"],
+    "report": ["now"],
+    "east": ["now"],
+    "west": ["now"],
+    "keep": ["copy"],
+    "server": ["copy"],
+    "units": ["promote", "demote"],
+}
+
+
 def main(words: Optional[Sequence[str]] = None) -> int:
     terminal.guard()
     options = options_of(words)
     farm = copying.Farm(options.db, options.program)
-    folder = os.path.realpath(options.folder)
+    folder = os.path.realpath(options.folder or ".")
     try:
         interrupts.catch_signals()
+        if options.now:
+            return look(farm, options)
         if options.demote:
             return demote(farm, folder, options)
         os.makedirs(folder, mode=0o700, exist_ok=True)
@@ -62,18 +76,31 @@ def parser_of() -> parsers.Parser:
     parser = parsers.parser_of(PROGRAM, ABOUT, STATUSES)
     parser.forms = (
         f"{PROGRAM} [--db FILE] [--keep N] [--server URL] [--program FILE] [--verbose] DIR",
+        f"{PROGRAM} --now --to FILE [--db FILE] [--program FILE] [--verbose]",
+        f"{PROGRAM} --now --report TOPIC [--east N] [--west N] [--db FILE] [--program FILE]",
         f"{PROGRAM} --follow [--db FILE] [--every SECONDS] [--program FILE] DIR",
         f"{PROGRAM} --promote [--db FILE] [--units] [--program FILE] DIR",
         f"{PROGRAM} --demote [--db FILE] [--units] DIR",
     )
     option = parser.add_argument
     option("--db", metavar="FILE", default=DB, help="The farm's file (default %(default)s).")
-    about = "Once the new copy has its name, remove all but the newest N; without it none is."
+    about = """\
+Once the new copy has its name, remove all but the newest N, by what they hold; without it none is."""
     option("--keep", metavar="N", type=_number, help=about)
     about = """\
 Ask the desk there before the copying how many commands it has done, and throw the copy away where
 it has fewer. Where no answer comes this is told, and the copy is kept."""
     option("--server", metavar="URL", type=_server, help=about)
+    about = "Copy once, for one who looks at the farm while its desk serves."
+    option("--now", action="store_true", help=about)
+    about = """\
+Where the copy is, as one file that 'farm report' and SQLite's shell open; none may be there."""
+    option("--to", metavar="FILE", help=about)
+    about = "Print a report over the copy, which is removed then: 'queue', 'boards' or 'reservations'."
+    option("--report", metavar="TOPIC", choices=looking.TOPICS, help=about)
+    about = "The report's moments, so many minutes east of UTC."
+    option("--east", metavar="N", type=_minutes, help=about)
+    option("--west", metavar="N", type=_minutes, help="The same, west of UTC.")
     option("--follow", action="store_true", help="Keep a standby in DIR.")
     about = "Between two shippings to the standby (default 1)."
     option("--every", metavar="SECONDS", type=_seconds, default=1.0, help=about)
@@ -94,26 +121,39 @@ and stop them after '--demote' has set something aside."""
     option("--program", metavar="FILE", default="farm", help=about)
     about = "Tell on standard error why a copy is made again, and with which desk it is compared."
     option("--verbose", action="store_true", help=about)
-    option("folder", metavar="DIR", help="Where the copies or the standby are.")
+    about = "Where the copies or the standby are."
+    option("folder", metavar="DIR", nargs="?", help=about)
     return parser
 
 
 def options_of(words: Optional[Sequence[str]]) -> argparse.Namespace:
     parser = parser_of()
     options = parser.parse_args(words)
-    others = [it for it in ("follow", "promote", "demote") if getattr(options, it)]
-    if len(others) > 1:
-        parser.error(f"--{others[0]} and --{others[1]} don't go together")
-    if others and (options.keep or options.server):
-        parser.error(f"--keep and --server aren't for --{others[0]}")
-    if options.units and not (options.promote or options.demote):
-        parser.error("--units is for --promote and --demote")
+    whats = [it for it in ("now", "follow", "promote", "demote") if getattr(options, it)]
+    if len(whats) > 1:
+        parser.error(f"--{whats[0]} and --{whats[1]} don't go together")
+    what = whats[0] if whats else "copy"
+    for name, takers in GOES_WITH.items():
+        if getattr(options, name) and what not in takers:
+            with_what = " or ".join(f"--{it}" for it in takers if it != "copy") or "copies alone"
+            parser.error(f"--{name} is for {with_what}")
+    if (options.folder is None) != options.now:
+        parser.error("--now has no DIR" if options.now else "there is no DIR")
+    if options.now and (options.to is None) == (options.report is None):
+        parser.error("--now wants one of --to and --report")
     return options
 
 
 def _number(text: str) -> int:
     number = int(text)
     if number < 1:
+        raise ValueError
+    return number
+
+
+def _minutes(text: str) -> int:
+    number = int(text)
+    if not 0 <= number < 1440:
         raise ValueError
     return number
 
@@ -160,11 +200,34 @@ def back_up(farm: copying.Farm, folder: str, options: argparse.Namespace) -> int
     copying.link(name, os.path.join(folder, LATEST))
     disk.sync_folder(folder)
     if options.keep:
-        for old in copying.copies_in(folder)[: -options.keep]:
-            if old != name:
-                shutil.rmtree(os.path.join(folder, old))
+        remove_old(farm, folder, name, options.keep)
     print(os.path.join(folder, name), flush=True)
     return 0
+
+
+def remove_old(farm: copying.Farm, folder: str, new: str, keep: int) -> None:
+    """Removes the oldest copies, by what they hold: names tell moments, and a clock may have been
+    ahead. One that isn't an earlier farm of the new one's history stays."""
+    old, others = keeping.earlier(farm, folder, new)
+    for name in old[: max(0, len(old) - keep + 1)]:
+        shutil.rmtree(os.path.join(folder, name))
+    if others:
+        tell(f"these stay, which aren't earlier copies of the same farm: {', '.join(others)}")
+
+
+def look(farm: copying.Farm, options: argparse.Namespace) -> int:
+    """Makes a copy to look at, or a report over one."""
+    told_again = tell if options.verbose else lambda text: None
+    if options.to:
+        looking.copy_to(farm, options.to, told_again)
+        return 0
+    offset = [
+        word
+        for name in ("east", "west")
+        if getattr(options, name) is not None
+        for word in (f"--{name}", str(getattr(options, name)))
+    ]
+    return looking.report(farm, [*offset, options.report], told_again)
 
 
 def promote(farm: copying.Farm, folder: str, options: argparse.Namespace) -> int:

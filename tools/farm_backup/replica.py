@@ -22,19 +22,23 @@ class Replica:
     def add(self, part: tail.Part) -> None:
         """Adds a part of the farm's log."""
         if isinstance(part, tail.Begun):
-            return self._carry(part.head)
+            return self._begin(part.head)
         write_at(self.log, part.data, self.pages.place.offset)
         if self.log_name:
             os.fsync(self.log)
         self.pages.add(part.head, part.data, part.end)
 
-    def _carry(self, head: wal.Head) -> None:
-        """Carries the log into the file, and begins it anew with the farm's header."""
+    def carry(self) -> None:
+        """Writes what the log holds into the file."""
         found = self.pages
         for number in found.where:
             if number <= found.count:
                 write_at(self.file, found.page(number), (number - 1) * found.size)
         os.ftruncate(self.file, found.count * found.size)
+
+    def _begin(self, head: wal.Head) -> None:
+        """Carries the log into the file, and begins it anew with the farm's header."""
+        self.carry()
         if self.log_name:
             os.fsync(self.file)
             # until here the old log has all that was written, and from here on the file has it

@@ -3,17 +3,23 @@
 The desk writes its log from the beginning to its end, carries it into its file after some thousand
 pages, and begins it anew with other salts: the frames of the new log then take the places of the old
 one's. So whoever looks before the new log has got as far as the look before finds the rest of the old
-one behind it, and misses nothing. A thread looks that often, whatever the reader is at."""
+one behind it, and misses nothing. A process of its own looks that often, whatever the reader is at: a
+thread would wait for Python's lock, which the reader has while it counts."""
+import multiprocessing
 import os
-import threading
+import signal
+import struct
 import time
+from multiprocessing.connection import Connection
 from typing import BinaryIO, List, NamedTuple, Optional, Union
 
 from farm_backup import wal
+from fizgruk._tools import interrupts
 
 LOOK = 0.03  # seconds between two looks, in which no desk writes a thousand pages
 HEADER_TRIES, HEADER_WAIT = 50, 0.01
 LOOKS = 3  # at a log that begins anew while it is read
+FRAME_HEAD, FRAME_SALTS = struct.Struct(">6I"), struct.Struct(">2I")
 MOST = 256 << 20  # bytes that wait for the reader
 
 
@@ -23,6 +29,10 @@ class Anew(Exception):
 
 class Rewound(Anew):
     """The log has lost what it had: it is the same, and other frames stand in it."""
+
+
+class Damaged(Exception):
+    """Commands stand in the log behind a frame that no program reads on from."""
 
 
 class Commits(NamedTuple):
@@ -50,10 +60,10 @@ class Tail:
         self.log = log
         self.first = self.head = head
         self.place, self.last = place, last
+        self.checked = place  # how far the reader has added up the sums
         self.parts: List[Part] = []
         self.fault: Optional[Exception] = None
-        self.lock = threading.Lock()
-        self.over = threading.Event()
+        self.looker: Optional[Connection] = None  # the process that looks
 
     @classmethod
     def from_beginning(cls, log: str) -> "Tail":
@@ -63,31 +73,69 @@ class Tail:
 
     def start(self) -> None:
         """Looks, and looks on beside whatever the caller does until it is closed."""
-        with self.lock:
-            self._look()
-        threading.Thread(target=self._run, daemon=True).start()
+        self._look()
+        forking = multiprocessing.get_context("fork")
+        mine, its = forking.Pipe()
+        forking.Process(target=self._run, args=(its, mine), daemon=True).start()
+        its.close()
+        self.looker = mine
 
     def close(self) -> None:
-        self.over.set()
+        if self.looker:
+            self.looker.close()
 
-    def _run(self) -> None:
-        while not self.over.wait(LOOK):
-            with self.lock:
-                self._look()
-                if self.fault:
-                    return
+    def _run(self, asked: Connection, others: Connection) -> None:
+        """Looks until the reader is gone, and gives it what it asks for."""
+        others.close()
+        for number in interrupts.SIGNALS:
+            signal.signal(number, signal.SIG_IGN if number != signal.SIGTERM else signal.SIG_DFL)
+        try:
+            while True:
+                if asked.poll(LOOK):
+                    asked.recv()
+                    asked.send(self._taken())
+                else:
+                    self._look()
+        except (EOFError, OSError):
+            os._exit(0)
+
+    def _taken(self) -> Union[List[Part], Exception]:
+        self._look()
+        if self.fault:
+            return self.fault
+        parts, self.parts = self.parts, []
+        return parts
 
     def take(self) -> List[Part]:
         """All that the log got since the last call, up to this moment, once the desk's own disk has
         it: so nothing is taken that the desk can lose."""
-        with self.lock:
-            self._look()
-            if self.fault:
-                raise self.fault
-            parts, self.parts = self.parts, []
-        if parts:
+        taken = self._asked() if self.looker else self._taken()
+        if isinstance(taken, Exception):
+            raise taken
+        for part in taken:
+            self._check(part)
+        if taken:
             _sync(self.log)
-        return parts
+        return taken
+
+    def _asked(self) -> Union[List[Part], Exception]:
+        """What the process that looks has taken."""
+        assert self.looker
+        try:
+            self.looker.send("take")
+            found: Union[List[Part], Exception] = self.looker.recv()
+            return found
+        except EOFError:
+            return OSError("the process that reads the log was ended")
+
+    def _check(self, part: Part) -> None:
+        """Adds up the sums of what was taken, which takes longer than the taking."""
+        if isinstance(part, Begun):
+            self.checked = wal.beginning(part.head)
+            return
+        if wal.last_commit(part.head, part.data, self.checked) != part.end:
+            raise Damaged(f"{self.log} is damaged: commands stand behind a frame whose sum is wrong")
+        self.checked = part.end
 
     def _look(self) -> None:
         if self.fault:
@@ -124,6 +172,8 @@ class Tail:
         if not self._stands(log) or _head_in(log) != head:
             raise Anew("the log began anew, and was written over")
         self._take(data)
+        if self._is_of_this(log):
+            raise Anew("the log has commits that can't be read")
         self.parts.append(Begun(head))
         self.head, self.place, self.last = head, wal.beginning(head), b""
 
@@ -137,6 +187,13 @@ class Tail:
         at = self.place.offset - wal.FRAME - self.head.page_size
         return os.pread(log.fileno(), wal.FRAME, at) == self.last
 
+    def _is_of_this(self, log: BinaryIO) -> bool:
+        """Whether any frame behind the place is of this log."""
+        log.seek(self.place.offset)
+        data, size = log.read(), wal.FRAME + self.head.page_size
+        salts = self.head.raw[wal.SALTS]
+        return any(data[it + 8 : it + 16] == salts for it in range(0, len(data), size))
+
     def _read_from(self, log: BinaryIO) -> bytes:
         """What stands behind the place, where that are frames of this log."""
         begins = os.pread(log.fileno(), wal.FRAME, self.place.offset)
@@ -146,14 +203,22 @@ class Tail:
         return log.read()
 
     def _take(self, data: bytes) -> None:
-        """Takes the whole commits of these bytes, which stand behind the place."""
-        end = wal.last_commit(self.head, data, self.place)
-        if end == self.place:
-            return
-        data = data[: end.offset - self.place.offset]
-        self.last = data[-wal.FRAME - self.head.page_size :][: wal.FRAME]
-        self.parts.append(Commits(self.head, data, end))
-        self.place = end
+        """Takes the whole commits of these bytes, which stand behind the place. Of them the last frame
+        is checked, since those before it were written before."""
+        size = wal.FRAME + self.head.page_size
+        salts, end, before, now = self.head.raw[wal.SALTS], 0, self.place.sum, self.place.sum
+        for at in range(0, len(data) - size + 1, size):
+            _, commit, one, other, first, second = FRAME_HEAD.unpack_from(data, at)
+            if (one, other) != FRAME_SALTS.unpack(salts):
+                break
+            before, now = now, (first, second)
+            if commit and wal.sum_of_frame(self.head, data[at : at + size], before) == now:
+                end, place_sum = at + size, now
+        if end:
+            self.last = data[end - size : end - size + wal.FRAME]
+            place = wal.Place(self.place.offset + end, place_sum)
+            self.parts.append(Commits(self.head, data[:end], place))
+            self.place = place
 
 
 def _sync(log: str) -> None:
