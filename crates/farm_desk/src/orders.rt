@@ -18,7 +18,7 @@ use crate::new_file::NewFile;
 use crate::open_files::OpenFiles;
 use crate::report::{report_text, zone_between};
 use crate::socket_clients::SocketClients;
-use crate::spent::Spent;
+use crate::spent::{Spent, close};
 use arrayvec::ArrayString;
 use farm_cli::{Database, Order, Report};
 use farm_http::{Input, Output};
@@ -341,7 +341,7 @@ fn migrate<S: Start, W: Output>(rt: &HostRuntime, file: &str, start: S, output: 
 {
     print_size_note(rt, file, "migrating");
     let spent = raise(rt, file, start)?;
-    drop(spent.close());
+    drop(close(spent));
     print_line(output, b"migrated\n")
 }
 

@@ -29,16 +29,14 @@ impl<T> Spent<T> {
     }
 }
 
-impl<D: Disk + Drop> Spent<Connection<FileStore<D>>> {
-    /// Copies the log into the file, and closes the store. The log is as good where that fails.
-    pub(crate) fn close(self) -> Spent<Closed<D>>
-        // The file alone holds the last commit, now and after a stop.
-        ensures copied { IfOk result.it (λ files. AreClean D.Disk files.log files.db
-            → IsCopied self.it files) }
+/// Copies the log into the file, and closes the store. The log is as good where that fails.
+pub(crate) fn close<D: Disk + Drop>(spent: Spent<Connection<FileStore<D>>>) -> Spent<Closed<D>>
+    // The file alone holds the last commit, now and after a stop.
+    ensures copied { IfOk result.it (λ files. AreClean D.Disk files.log files.db
+        → IsCopied spent.it files) }
 
-        // A stop leaves what it left before.
-        ensures left { IfErr result.it (λ e. IsClosed self.it e.1) }
-    {
-        Spent::of(self.it.close_files())
-    }
+    // A stop leaves what it left before.
+    ensures left { IfErr result.it (λ e. IsClosed spent.it e.1) }
+{
+    Spent::of(spent.it.close_files())
 }
