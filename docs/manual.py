@@ -12,7 +12,7 @@ import importlib
 import os
 import re
 import sys
-from typing import Dict, Iterator, Optional, Set
+from typing import Collection, Dict, Iterator, Optional, Set
 
 HERE = os.path.dirname(os.path.abspath(__file__))
 sys.path[:0] = [os.path.join(os.path.dirname(HERE), it) for it in ("tools", "python/src")]
@@ -22,6 +22,7 @@ from fizgruk.desk import texts  # noqa: E402
 # The man pages, and the modules that have their parsers.
 PAGES = {
     "desk.1": "fizgruk.desk.main",
+    "farm-access.8": "farm_access.main",
     "farm-backup.8": "farm_backup.main",
     "farm-dispatch.8": "farm_dispatch.main",
     "farm-from-desk.1": "farm_import.from_desk",
@@ -136,7 +137,7 @@ def description(tool: parsers.Parser) -> Iterator[str]:
     yield "\n.PP\n".join(marked(it, values_of(tool)) for it in paragraphs)
 
 
-def commands(tool: parsers.Parser, names: Dict[str, str]) -> Iterator[str]:
+def commands(tool: parsers.Parser, names: Collection[str]) -> Iterator[str]:
     for command in parsers.commands_of(tool):
         name = command.prog.split()[-1]
         if name in names:
@@ -189,7 +190,9 @@ def parts_of(tool: parsers.Parser) -> Dict[str, Iterator[str]]:
         "statuses": statuses(tool),
     }
     if parsers.commands_of(tool):
-        parts["commands"] = commands(tool, texts.OF_ALL)
+        names = [it.prog.split()[-1] for it in parsers.commands_of(tool)]
+        parts["commands"] = commands(tool, [it for it in names if it not in texts.OF_AN_ADMIN])
+    if tool.prog == "desk":
         parts["commands of an admin"] = commands(tool, texts.OF_AN_ADMIN)
     return parts
 

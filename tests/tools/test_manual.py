@@ -28,6 +28,7 @@ COMMANDS = [
 # The tools and their commands.
 PAGES: Dict[str, List[str]] = {
     "desk.1": COMMANDS,
+    "farm-access.8": ["session", "keys", "guard", "tidy", "run", "check"],
     "farm-backup.8": [],
     "farm-dispatch.8": [],
     "farm-from-desk.1": [],

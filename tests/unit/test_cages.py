@@ -326,7 +326,7 @@ def test_whoever_ends_meanwhile_is_waited_for_too() -> None:
 
 
 def test_a_namespace_that_cant_be_made_is_a_fault(tmp_path: pathlib.Path, monkeypatch: pytest.MonkeyPatch) -> None:
-    monkeypatch.setattr(cages, "_unshare", lambda: False)
+    monkeypatch.setattr(cages, "unshare", lambda: False)
     with pytest.raises(OSError, match="^no namespace of processes can be made$"):
         cages.keep(cage_of(tmp_path, cages.NAMESPACE), ["true"], {}, 1)
 
@@ -345,9 +345,9 @@ def test_whatever_a_keeper_meets_is_told(tmp_path: pathlib.Path, monkeypatch: py
 
 def test_a_trial_of_a_namespace_leaves_no_process(monkeypatch: pytest.MonkeyPatch) -> None:
     before = cages._below(os.getpid())
-    monkeypatch.setattr(cages, "_unshare", lambda: False)
+    monkeypatch.setattr(cages, "unshare", lambda: False)
     assert not cages._can_unshare()
-    monkeypatch.setattr(cages, "_unshare", lambda: True)
+    monkeypatch.setattr(cages, "unshare", lambda: True)
     assert not cages._can_unshare(), "the child isn't the first process of a namespace"
     assert cages._below(os.getpid()) == before
 

@@ -115,7 +115,7 @@ def _can_unshare() -> bool:
     if child == 0:
         status = 1
         try:
-            if _unshare():
+            if unshare():
                 first = os.fork()
                 if first == 0:
                     os._exit(0 if os.getpid() == 1 else 1)
@@ -257,7 +257,7 @@ def keep(cage: Cage, command: Sequence[str], environment: Dict[str, str], output
     told, tells = os.pipe()
     goes, go = os.pipe()
     caller = os.getpid()
-    if cage.form == NAMESPACE and not _unshare():
+    if cage.form == NAMESPACE and not unshare():
         raise OSError("no namespace of processes can be made")
     pid = os.fork()
     if pid == 0:
@@ -331,7 +331,7 @@ class _Keeper:
         if self.cage.form == NAMESPACE:
             pid = int(os.readlink("/proc/self"))  # as its number is outside
             mark = f"pidns:{name_of(pid)}"
-            _mount_proc()
+            mount_proc()
             return mark
         _LIBC.prctl(_PR_SET_CHILD_SUBREAPER, 1)
         return f"{NONE}:{name_of(os.getpid())}"
@@ -390,7 +390,7 @@ def _waited_for(child: int) -> int:
             return os.WEXITSTATUS(status) if os.WIFEXITED(status) else -os.WTERMSIG(status)
 
 
-def _unshare() -> bool:
+def unshare() -> bool:
     """Whether the caller's children are in a new namespace of processes from now on."""
     user, group = os.geteuid(), os.getegid()
     if _LIBC.unshare(_CLONE_NEWPID | (_CLONE_NEWUSER if user else 0)) != 0:
@@ -402,7 +402,7 @@ def _unshare() -> bool:
     return True
 
 
-def _mount_proc() -> None:
+def mount_proc() -> None:
     """Lets /proc have the namespace's own processes, where that is allowed."""
     if _LIBC.unshare(_CLONE_NEWNS) == 0:
         if _LIBC.mount(b"none", b"/", None, ctypes.c_ulong(_MS_REC | _MS_SLAVE), None) == 0:

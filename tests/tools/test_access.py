@@ -1,0 +1,488 @@
+"""farm-access before real sshd, ser2net and pdudaemon: who gets to which board, what strangers get, and what odd
+moments do. Boards keep each byte that reaches them."""
+from __future__ import annotations
+
+import os
+import re
+import signal
+import subprocess
+import time
+from typing import Any, Callable, Iterator, List, Sequence, Tuple
+
+import access_lab
+import pytest
+from access_lab import Lab, kill, until
+from served import Farm, free_port
+
+pytestmark = [pytest.mark.xdist_group("access"), pytest.mark.slow(120)]
+BAD_WORDS, FAULT, NOT_YOURS, LOST, NO_SSH = 2, 4, 5, 6, 255
+# Seconds from a hold's end within which nothing of it is left: two, on a machine that isn't busy with other tests
+# (access_handovers.py measures that).
+OUT = 6.0
+
+
+@pytest.fixture(scope="module")
+def lab(program: str, tmp_path_factory: pytest.TempPathFactory) -> Iterator[Lab]:
+    def farm(boards: Any) -> Farm:
+        return Farm(program, str(tmp_path_factory.mktemp("farm")), boards)
+
+    made = access_lab.make(farm)
+    yield made
+    made.end()
+
+
+@pytest.fixture
+def held(lab: Lab) -> Iterator[Callable[..., int]]:
+    """Has a board acquired by a person; all that was acquired is given back."""
+    taken: List[Tuple[str, int]] = []
+
+    def hold(person: str = "ann", board: str = "b1") -> int:
+        taken.append((person, lab.reserve(person, board)))
+        return taken[-1][1]
+
+    yield hold
+    for person, number in taken:
+        lab.cancel(person, number)
+    until(lambda: not lab.sessions() and not lab.nasty())
+
+
+def running(lab: Lab, way: str) -> Any:
+    """The session that has something running on this way."""
+    until(lambda: any(it["way"].startswith(way) and it["marks"] for it in lab.sessions()))
+    return next(it for it in lab.sessions() if it["way"].startswith(way) and it["marks"])
+
+
+# ---- who is let in
+
+
+def test_the_holder_gets_the_console_and_the_board_the_bytes(lab: Lab, held: Callable[..., int]) -> None:
+    held()
+    before = len(lab.text("b1"))
+    line = lab.begin("ann", "b1", "console")
+    assert line.stdin and line.stdout
+    line.stdin.write(b"typed")
+    line.stdin.flush()
+    assert line.stdout.read(5) == b"typed"
+    assert lab.text("b1")[before:] == b"typed"
+
+
+def test_another_s_board_is_refused_and_it_is_said_who_has_it(lab: Lab, held: Callable[..., int]) -> None:
+    number = held()
+    before = lab.text("b1")
+    tried = lab.session("bob", "b1", "console", said=b"intruder")
+    assert (tried.status, tried.output) == (NOT_YOURS, b"")
+    assert tried.errors == f"farm-access: b1 isn't yours now: reservation {number} has it"
+    assert lab.text("b1") == before
+
+
+@pytest.mark.parametrize("person, words, status, said", [
+    ("bob", "b1 say x", NOT_YOURS, ""),
+    ("bob", "b1 power on", NOT_YOURS, ""),
+    ("eve", "b1 say x", NOT_YOURS, ""),
+    ("eve", "b1 say x --as-admin", 0, "x\n"),
+    ("bob", "b1 say x --as-admin", NOT_YOURS, ""),
+    ("ann", "b1 say x", 0, "x\n"),
+    ("ann", "b9 say x", NOT_YOURS, ""),
+    ("ann", "b2 say x", NOT_YOURS, ""),
+])
+def test_who_is_let_in(
+    lab: Lab, held: Callable[..., int], person: str, words: str, status: int, said: str
+) -> None:
+    held()
+    tried = lab.session(person, words)
+    assert (tried.status, tried.output.decode()) == (status, said), tried.errors
+
+
+def test_an_admin_at_a_free_board_is_out_once_somebody_has_it(lab: Lab, held: Callable[..., int]) -> None:
+    line = lab.begin("eve", "b1", "sleep", "--as-admin")
+    running(lab, "sleep")
+    held()
+    assert line.wait(10) == LOST
+
+
+def test_a_stranger_s_key_opens_nothing(lab: Lab, held: Callable[..., int]) -> None:
+    held()
+    assert lab.session("stranger", "b1", "say", "x").status == NO_SSH
+
+
+def test_a_key_of_two_people_and_one_taken_away_are_nobody_s(lab: Lab, held: Callable[..., int]) -> None:
+    """Also over a connection that was made before."""
+    held()
+    master = ["-o", "ControlMaster=auto", "-o", f"ControlPath={lab.path('home', 'c')}", "-o", "ControlPersist=30"]
+    assert lab.session("ann", "b1", "say", "x", options=master).output == b"x\n"
+    key = lab.path("keys", "ann")
+    os.rename(key, lab.path("people", "ann.gone"))
+    gone = lab.session("ann", "b1", "say", "x", options=master)
+    os.rename(lab.path("people", "ann.gone"), key)
+    with open(key, encoding="utf-8") as file:
+        lab.write("keys/mallory", file.read())
+    two = lab.session("ann", "b1", "say", "x", options=master)
+    os.unlink(lab.path("keys", "mallory"))
+    back = lab.session("ann", "b1", "say", "x", options=master)
+    assert (gone.status, two.status, back.output) == (NOT_YOURS, NOT_YOURS, b"x\n")
+
+
+# ---- strangers' words and options
+
+
+STRANGE = [
+    "b1;sh", "b1 say $(id)", "b1 say `id`", "b1 say x;id", "b1 say x|id", "b1 say x\nid", "../b1", "b1/../b1 console",
+    "b1 -oProxyCommand=id", "b1 after", "b1 console x", "b1 console --watch x", "b1 tcp 22", "b1 tcp -1",
+    "b1 tcp 99999999999999999999", "b1 power ../on", "", "b1 say \x1b[2J", "b1  say", "b1 say " + "x" * 3000, "sh",
+    "scp -t /tmp", "internal-sftp", "/usr/lib/openssh/sftp-server", "rsync --server . /", "b1 --as-admin x", "b1 status",
+]
+
+
+@pytest.mark.parametrize("words", STRANGE, ids=range(len(STRANGE)))
+def test_strange_words_run_nothing(lab: Lab, held: Callable[..., int], words: str) -> None:
+    """All over one connection."""
+    held()
+    before = lab.text("b1")
+    master = ["-o", "ControlMaster=auto", "-o", f"ControlPath={lab.path('home', 's')}", "-o", "ControlPersist=60"]
+    tried = lab.session("ann", words, options=master)
+    assert tried.status in (BAD_WORDS, NOT_YOURS), tried
+    assert tried.output == b""
+    assert re.fullmatch("farm-access: [ -~]+", tried.errors)
+    assert lab.text("b1") == before
+
+
+def test_words_to_an_own_way_are_words_to_it(lab: Lab, held: Callable[..., int]) -> None:
+    held()
+    assert lab.session("ann", "b1 say x --help").output == b"x --help\n"
+
+
+def test_a_way_that_lacks_a_tag_is_refused(lab: Lab, held: Callable[..., int]) -> None:
+    held(board="b2")
+    tried = lab.session("ann", "b2 lacking")
+    assert (tried.status, tried.errors) == (BAD_WORDS, "farm-access: lacking: this board has no tag flasher=..")
+
+
+@pytest.mark.parametrize("account", ["bob", "root", "daemon"])
+def test_a_forged_name_is_no_account(lab: Lab, held: Callable[..., int], account: str) -> None:
+    held()
+    assert lab.try_words(lab.ssh("ann", "b1", "say", "x", account=account)).status == NO_SSH
+
+
+def test_a_client_s_environment_reaches_nothing(lab: Lab, held: Callable[..., int]) -> None:
+    held()
+    forged = "SetEnv=SSH_USER_AUTH=/etc/passwd LD_PRELOAD=/tmp/x.so PATH=/tmp FARM_PERSON=ann FARM_FOLDER=/tmp"
+    refused = lab.session("bob", "b1", "say", "x", options=["-o", forged])
+    tried = lab.session("ann", "b1", "env", options=["-o", forged])
+    names = {it.partition("=")[0] for it in tried.output.decode().splitlines()}
+    assert refused.status == NOT_YOURS
+    assert names <= {"PATH", "HOME", "TERM", "FARM_BOARD", "FARM_HOLD", "FARM_PERSON"}
+    assert "PATH=/usr/local/bin:/usr/bin:/bin" in tried.output.decode().splitlines()
+
+
+def test_no_x11_and_no_agent(lab: Lab, held: Callable[..., int]) -> None:
+    held()
+    agent = subprocess.Popen(lab.as_board("ssh-agent", "-D", "-a", lab.path("home", "agent")), stdout=subprocess.DEVNULL)
+    until(lambda: os.path.exists(lab.path("home", "agent")))
+    around = {"DISPLAY": ":9", "SSH_AUTH_SOCK": lab.path("home", "agent")}
+    try:
+        line = lab.begin("ann", "b1", "sleep", options=["-A", "-X"], **around)
+        with open(f"/proc/{lab.pid_of(running(lab, 'sleep'))}/environ", encoding="utf-8") as file:
+            names = [it.partition("=")[0] for it in file.read().split("\0")]
+        line.kill()
+    finally:
+        agent.kill()
+        agent.wait()
+    assert "SSH_USER_AUTH" in names
+    assert "SSH_AUTH_SOCK" not in names and "DISPLAY" not in names
+
+
+@pytest.mark.parametrize("options", [
+    ["-W", "127.0.0.1:{desk}"],
+    ["-N", "-o", "ExitOnForwardFailure=yes", "-R", "{free}:127.0.0.1:{desk}"],
+    ["-N", "-o", "ExitOnForwardFailure=yes", "-w", "0:0"],
+], ids=["-W", "-R", "-w"])
+def test_nothing_is_forwarded(lab: Lab, held: Callable[..., int], options: Sequence[str]) -> None:
+    held()
+    ports = {"desk": lab.farm.port, "free": free_port()}
+    tried = lab.session("ann", options=[it.format(**ports) for it in options], seconds=15)
+    assert (tried.status, tried.output) == (NO_SSH, b"")
+
+
+@pytest.mark.parametrize("option", ["-L", "-D"])
+def test_a_port_at_the_client_leads_nowhere(lab: Lab, held: Callable[..., int], option: str) -> None:
+    held()
+    port = free_port()
+    place = f"{port}:127.0.0.1:{lab.farm.port}" if option == "-L" else str(port)
+    lab.begin("ann", options=["-N", option, place])
+    until(lambda: access_lab.answers(port))
+    proxy = ["-x", f"socks5h://127.0.0.1:{port}", f"{lab.farm.server}/status"] if option == "-D" else [f"http://127.0.0.1:{port}/status"]
+    said = subprocess.run(["curl", "-s", "-m", "5", "--noproxy", "", *proxy], capture_output=True, check=False)
+    assert (said.returncode != 0, said.stdout) == (True, b"")
+
+
+@pytest.mark.parametrize("tool", [["scp", "-O"], ["scp"], ["sftp"]], ids=" ".join)
+def test_no_file_is_copied(lab: Lab, held: Callable[..., int], tool: Sequence[str]) -> None:
+    held()
+    mark = lab.path("home", "copied")
+    options = ["-P", str(lab.port), *lab.ssh("ann")[5:-1]]
+    place = f"{lab.account()}@127.0.0.1:"
+    words = [f"{place}/etc/passwd", mark] if tool[0] == "sftp" else ["/etc/hostname", f"{place}{mark}"]
+    tried = lab.try_words([*tool, *options, *words])
+    assert tried.status != 0
+    assert not os.path.exists(mark)
+
+
+def test_no_subsystem_and_no_shell_on_a_terminal(lab: Lab, held: Callable[..., int]) -> None:
+    held()
+    assert lab.session("ann", "sftp", options=["-s"]).status == NO_SSH
+    assert lab.session("ann", options=["-tt"]).status == BAD_WORDS
+
+
+def test_sshd_takes_its_configuration(lab: Lab) -> None:
+    """The one that the project ships, but for its places."""
+    tried = lab.try_words(["/usr/sbin/sshd", "-T", "-f", lab.path("sshd.conf")])
+    said = tried.output.decode().splitlines()
+    assert tried.status == 0, tried.errors
+    for line in (
+        "allowtcpforwarding no", "allowstreamlocalforwarding no", "allowagentforwarding no", "x11forwarding no",
+        "permittunnel no", "disableforwarding yes", "passwordauthentication no", "kbdinteractiveauthentication no",
+        "permituserenvironment no", "authorizedkeysfile none", "exposeauthinfo yes", "usepam no",
+    ):
+        assert line in said
+    assert not [it for it in said if it.startswith(("acceptenv", "subsystem"))]
+
+
+# ---- ways
+
+
+def test_power_is_cycled_under_the_lock(lab: Lab, held: Callable[..., int]) -> None:
+    """pdudaemon answers before it acts, so both are done when the session ends."""
+    held()
+    assert lab.session("ann", "b1", "power", "cycle").status == 0
+    with open(lab.path("power"), encoding="utf-8") as file:
+        assert file.read().splitlines()[-2:] == ["3 off", "3 on"]
+
+
+def test_a_port_of_the_board_s(lab: Lab, held: Callable[..., int]) -> None:
+    held()
+    assert lab.session("ann", "b1", "tcp", str(lab.echo), said=b"hello\n").output == b"echo hello\n"
+
+
+def test_ways_are_told_and_what_lacks_a_tag_is_none(lab: Lab) -> None:
+    said = lab.session("bob", "b2", "ways").output.decode().splitlines()
+    assert said == ["console", "env", "nasty", "power on|off|cycle", "say", "sleep", f"tcp {lab.echo}"]
+
+
+def test_a_console_s_bytes_are_kept_for_the_owner(lab: Lab, held: Callable[..., int]) -> None:
+    held("ann", "b2")
+    odd = b"zwei \xff\x00 \xc3\xa4\r\n"
+    line = lab.begin("ann", "b2", "console")
+    assert line.stdin and line.stdout
+    line.stdin.write(odd)
+    line.stdin.flush()
+    assert line.stdout.read(len(odd)) == odd
+    line.kill()
+    own = lab.session("ann", "b2", "console", "--log")
+    another = lab.session("bob", "b2", "console", "--log")
+    admin = lab.session("eve", "b2", "console", "--log", "--as-admin")
+    assert own.output.endswith(odd)
+    assert (another.status, another.output) == (NOT_YOURS, b"")
+    assert admin.output.endswith(odd)
+
+
+def test_a_second_session_watches_the_console(lab: Lab, held: Callable[..., int]) -> None:
+    number = held("ann", "b2")
+    first = lab.begin("ann", "b2", "console")
+    assert first.stdin and first.stdout
+    first.stdin.write(b"one")
+    first.stdin.flush()
+    assert first.stdout.read(3) == b"one"
+    busy = lab.session("ann", "b2", "console")
+    assert busy.status == NOT_YOURS and "--watch" in busy.errors
+    second = lab.begin("ann", "b2", "console", "--watch")
+    assert second.stdout and second.stdout.read(3) == b"one"
+    first.stdin.write(b"two")
+    first.stdin.flush()
+    assert second.stdout.read(3) == b"two"
+    lab.cancel("ann", number)
+    assert (first.wait(10), second.wait(10)) == (LOST, LOST)
+
+
+def test_each_session_is_a_line_of_the_log(lab: Lab, held: Callable[..., int]) -> None:
+    number = held()
+    lab.session("ann", "b1", "say", "written")
+    lab.session("eve", "b1", "say", "too", "--as-admin")
+    rows = [(it["person"], it["way"], it["holds"], it["how"]) for it in lab.log()[-2:]]
+    hold = {"b1": f"reservation {number}"}
+    assert rows == [("ann", "say written", hold, "status 0"), ("eve", "say too --as-admin", hold, "status 0")]
+
+
+def test_check_says_which_way_answers(lab: Lab) -> None:
+    lab.parts["ser2net"].send_signal(signal.SIGSTOP)
+    words = [*lab.access.split(), "check", "b1"]
+    stopped = lab.try_words(words).output.decode().splitlines()
+    lab.parts["ser2net"].send_signal(signal.SIGCONT)
+    well = lab.try_words([*lab.access.split(), "check"])
+    said = well.output.decode().splitlines()
+    assert "b1 power: answers" in said and "b1 console: answers" in said and f"keys: of {3}" in said
+    assert "b2 lacking: it has no tag flasher=.." in said
+    assert well.status == 1
+    assert "b1 power: answers" in stopped
+
+
+# ---- odd moments
+
+
+def writer(lab: Lab, person: str = "ann") -> "subprocess.Popen[bytes]":
+    """A session whose processes went away from it and write to b2 without end."""
+    before = len(lab.got("b2"))
+    line = lab.begin(person, "b2", "nasty", "mark", "0.01")
+    assert until(lambda: len(lab.got("b2")) > before + 3) < 20, lab.said("sshd")[-800:]
+    return line
+
+
+def ends_in_time(lab: Lab, number: int, board: str = "b2", person: str = "ann") -> None:
+    """Ends a hold: two seconds later nothing of it is left, and no byte comes."""
+    since = time.time()
+    lab.cancel(person, number)
+    took = until(lambda: not lab.sessions() and not lab.nasty())
+    last = lab.got(board)[-1].at - since
+    assert took < OUT and last < OUT, (took, last, lab.sessions())
+
+
+def test_a_hold_s_end_ends_all(lab: Lab, held: Callable[..., int]) -> None:
+    number = held("ann", "b2")
+    line = writer(lab)
+    ends_in_time(lab, number)
+    assert line.wait(5) == LOST
+    assert line.stderr and b"has ended" in line.stderr.read()
+
+
+def test_a_release_ends_it_too(lab: Lab, held: Callable[..., int]) -> None:
+    number = held("ann", "b2")
+    line = writer(lab)
+    lab.tell("ann", f"/reservations/{number}/release")
+    assert line.wait(OUT + 3) == LOST
+    assert until(lambda: not lab.nasty()) < OUT
+
+
+@pytest.mark.parametrize("what", ["stopped access", "stopped client", "killed access", "killed sshd"])
+def test_what_is_stopped_or_killed_ends_too(lab: Lab, held: Callable[..., int], what: str) -> None:
+    number = held("ann", "b2")
+    line = writer(lab)
+    kind, _, who = what.partition(" ")
+    signals = {"stopped": signal.SIGSTOP, "killed": signal.SIGKILL}
+    if who == "access":
+        kill(lab.pid_of(running(lab, "nasty")), signals[kind])
+    elif who == "client":
+        line.send_signal(signal.SIGSTOP)
+    else:
+        for pid in lab.sshd_children():
+            kill(pid)
+    if kind == "killed":
+        assert until(lambda: not lab.nasty()) < OUT
+    ends_in_time(lab, number)
+
+
+def test_a_stopped_session_ends_without_the_guard_once_somebody_comes(lab: Lab, held: Callable[..., int]) -> None:
+    lab.parts["guard"].kill()
+    lab.parts["guard"].wait()
+    try:
+        number = held("ann", "b2")
+        writer(lab)
+        kill(lab.pid_of(running(lab, "nasty")), signal.SIGSTOP)
+        lab.cancel("ann", number)
+        held("bob", "b2")
+        assert lab.session("bob", "b2", "say", "x").output == b"x\n"
+        assert not lab.nasty()
+    finally:
+        lab.guard()
+
+
+def test_while_the_desk_is_down_a_session_goes_on_and_none_begins(lab: Lab, held: Callable[..., int]) -> None:
+    number = held("ann", "b2")
+    writer(lab)
+    lab.farm.kill()
+    time.sleep(3)
+    goes_on = time.time() - lab.got("b2")[-1].at < 1
+    tried = lab.session("ann", "b2", "say", "x")
+    lab.restart_desk()
+    assert goes_on
+    assert (tried.status, tried.output) == (FAULT, b"")
+    ends_in_time(lab, number)
+
+
+def test_while_the_desk_hangs_a_session_goes_on(lab: Lab, held: Callable[..., int]) -> None:
+    number = held("ann", "b2")
+    writer(lab)
+    lab.farm.process.send_signal(signal.SIGSTOP)
+    time.sleep(3)
+    goes_on = time.time() - lab.got("b2")[-1].at < 1
+    lab.farm.process.send_signal(signal.SIGCONT)
+    assert goes_on
+    ends_in_time(lab, number)
+
+
+def test_a_shared_connection_ends_its_sessions_not_itself(lab: Lab, held: Callable[..., int]) -> None:
+    master = ["-o", "ControlMaster=auto", "-o", f"ControlPath={lab.path('home', 'd')}", "-o", "ControlPersist=30"]
+    number = held("ann", "b2")
+    lab.begin("ann", "b2", "sleep", options=master)
+    running(lab, "sleep")
+    assert lab.session("ann", "b2", "say", "x", options=master).output == b"x\n"
+    lab.cancel("ann", number)
+    assert until(lambda: not lab.sessions()) < OUT
+    assert lab.session("ann", "b2", "say", "x", options=master).status == NOT_YOURS
+
+
+def test_a_console_on_a_terminal_ends_with_its_hold(lab: Lab, held: Callable[..., int]) -> None:
+    number = held("ann", "b1")
+    before = len(lab.text("b1"))
+    line = lab.begin("ann", "b1", "console", options=["-tt"])
+    assert line.stdin
+
+    def typed(said: bytes) -> bool:
+        assert line.stdin
+        line.stdin.write(said)
+        line.stdin.flush()
+        until(lambda: lab.text("b1")[before:].endswith(said), 1)
+        return lab.text("b1")[before:].endswith(said)
+
+    until(lambda: typed(b"."))  # (what is typed before it has begun isn't for the board)
+    assert typed(b"\x03typed\r")
+    lab.cancel("ann", number)
+    assert line.wait(10) == LOST
+
+
+def test_after_runs_between_two_holds_and_where_it_fails_nobody_gets_in(make_farm: Callable[..., Farm]) -> None:
+    after = "echo {board} >> PLACE/after; test ! -e PLACE/fails"
+    lab = access_lab.make(make_farm, after=after)
+    ran = lab.path("after")
+    try:
+        first = lab.reserve("ann", "b1")
+        for _ in range(2):
+            assert lab.session("ann", "b1", "say", "x").status == 0
+        assert not os.path.exists(ran)
+        lab.cancel("ann", first)
+        until(lambda: os.path.exists(ran))
+        assert open(ran, encoding="utf-8").read() == "b1\n"
+        second = lab.reserve("ann", "b1")
+        assert lab.session("ann", "b1", "say", "x").status == 0
+        lab.write("fails", "")
+        lab.cancel("ann", second)
+        lab.reserve("bob", "b1")
+        shut = lab.session("bob", "b1", "say", "x", seconds=6)
+        os.unlink(lab.path("fails"))
+        opened = lab.session("bob", "b1", "say", "x")
+        assert (shut.status, shut.output) == (None, b"")
+        assert opened.output == b"x\n"
+        assert b"it is shut" in lab.said("guard")
+    finally:
+        lab.end()
+
+
+@pytest.mark.slow(60)
+@pytest.mark.parametrize("without", ["", "lock"])
+def test_handovers_under_kills_mix_no_bytes_and_without_the_lock_they_do(program: str, without: str) -> None:
+    """A few, by the script that makes hundreds; on a busy machine ends take longer than on an idle one."""
+    script = os.path.join(os.path.dirname(os.path.abspath(__file__)), "access_handovers.py")
+    more = ["--without", without, "--kills", "stop"] if without else []
+    words = [access_lab.PYTHON, script, "--farm", program, "--within", str(OUT), *more, "10"]
+    ran = subprocess.run(words, capture_output=True, text=True, check=False)
+    assert ran.returncode == (1 if without else 0), ran.stdout + ran.stderr
+    if without:
+        assert any(int(it) for it in re.findall('"mixes": ([0-9]+)', ran.stdout)), ran.stdout

@@ -1,0 +1,131 @@
+"""Ends what can't end by itself, and cleans up where nobody comes: stopped sessions, what lives of
+killed ones, boards whose hold has ended. It looks for all sessions too."""
+import signal
+import subprocess
+import sys
+import time
+from typing import Dict, List, NoReturn, Optional, Set
+
+from farm_access import record, sessions
+from farm_access.boardlock import BoardLock, is_left
+from farm_access.lookout import Board, Lookout, NoDesk, is_current
+from farm_access.sessions import GRACE, Session
+from farm_access.site import AFTER, Site
+from farm_access.work import Work, session_of
+
+LOOKS = 0.25
+HOUR = 3600.0
+PAUSE = 5.0  # after a board that couldn't be cleaned up
+NOT_READY = 1
+SHUT = "{}: it is shut, since what is to run between two holds fails: `farm-access tidy {}` says why"
+Boards = Optional[Dict[str, Board]]
+
+
+def serve(site: Site, file: str) -> NoReturn:
+    """Guards until it is killed. `file` is access.toml, which it doesn't read again."""
+    guard = Guard(site, file)
+    trouble = ""
+    while True:
+        before, trouble = trouble, ""
+        try:
+            guard.round()
+        except NoDesk as fault:
+            trouble = str(fault)
+        except (OSError, subprocess.SubprocessError) as fault:
+            trouble = f"{type(fault).__name__}: {fault}"
+        if trouble != before:
+            tell(trouble or "it goes on")
+        time.sleep(LOOKS)
+
+
+def tell(text: str) -> None:
+    print(f"farm-access: guard: {text}", file=sys.stderr, flush=True)
+
+
+class Guard:
+    """What the guard knows from one round to the next."""
+
+    def __init__(self, site: Site, file: str):
+        self.site, self.file = site, file
+        self.lookout = Lookout(site)
+        self.late: Dict[str, float] = {}  # sessions of holds that have ended, and since when
+        self.tidies: Dict[str, "subprocess.Popen[bytes]"] = {}
+        self.rests: Dict[str, float] = {}
+        self.shut: Set[str] = set()
+        self.cleans = 0.0
+
+    def round(self) -> None:
+        if time.monotonic() >= self.cleans:
+            self.cleans = time.monotonic() + HOUR
+            record.remove_old(self.site.consoles)
+        # (listed before the desk is asked: none of them began since)
+        listed = sessions.all_in(self.site.folder)
+        try:
+            boards = self.lookout.look()
+        except NoDesk:
+            self.evict_dead(listed, None)
+            raise
+        self.evict_late(listed, boards)
+        self.evict_dead(listed, boards)
+        self.tidy(boards)
+
+    def evict_late(self, listed: List[Session], boards: Dict[str, Board]) -> None:
+        now = time.monotonic()
+        over = [it for it in listed if not is_of_now(it, boards)]
+        self.late = {it.file: self.late.get(it.file, now) for it in over}
+        for it in over:
+            if now - self.late[it.file] >= GRACE or sessions.is_deaf(it):
+                sessions.evict([it], "", self.site.log)
+
+    def evict_dead(self, listed: List[Session], boards: Boards) -> None:
+        """What lives of a job whose `farm-access run` was killed is the job's, until that ends."""
+        for it in listed:
+            if sessions.lives(it):
+                continue
+            if not it.folder or (boards is not None and not is_of_now(it, boards)):
+                sessions.evict([it], "", self.site.log)
+
+    def tidy(self, boards: Dict[str, Board]) -> None:
+        """Cleans up behind holds that have ended, each board in a process of its own."""
+        now = time.monotonic()
+        for name, process in list(self.tidies.items()):
+            if process.poll() is not None:
+                del self.tidies[name]
+                self.note(name, process.returncode == NOT_READY)
+        for board in boards.values():
+            if board.name in self.tidies or self.rests.get(board.name, 0.0) > now:
+                continue
+            if is_left(self.site.folder, board.name, lambda it, b=board: is_current(it, b)):  # type: ignore[misc]
+                words = [sys.executable, sys.argv[0], "--file", self.file, "tidy", board.name]
+                self.tidies[board.name] = subprocess.Popen(words, stdin=subprocess.DEVNULL)
+
+    def note(self, board: str, is_shut: bool) -> None:
+        """Notes whether a board is shut, which is told once."""
+        if is_shut:
+            self.rests[board] = time.monotonic() + PAUSE
+        if is_shut and board not in self.shut:
+            self.shut.add(board)
+            tell(SHUT.format(board, board))
+        elif not is_shut and board in self.shut:
+            self.shut.discard(board)
+            tell(f"{board}: it is ready again")
+
+
+def is_of_now(session: Session, boards: Dict[str, Board]) -> bool:
+    """Whether a session's hold goes on. What cleans up has none."""
+    return all(hold == AFTER or is_current(hold, boards.get(it)) for it, hold in session.holds.items())
+
+
+def tidy(site: Site, board: str) -> int:
+    """Cleans up behind a board's last hold, where it has ended and nobody has its lock."""
+    lookout = Lookout(site)
+    lock = BoardLock(site.folder, board, site.log)
+    seen = lookout.boards().get(board)
+    if lock.hold() and is_current(lock.hold(), seen):
+        return 0
+    signal.signal(signal.SIGTERM, signal.SIG_DFL)
+    work = Work(site, lookout, session_of({board: AFTER}, "", AFTER))
+    is_ready = work.locks[0].tidy(work)
+    if not work.session.marks:
+        work.own.drop()
+    return 0 if is_ready else NOT_READY

@@ -1,0 +1,131 @@
+"""What the desk says of the boards: one look for all sessions that want one at about the same time.
+
+Who looks last keeps what came in FOLDER/boards.json, with the moment before it asked, by the clock
+that nobody sets. A session that is to begin asks by itself, since an answer of before doesn't do.
+"""
+import contextlib
+import dataclasses
+import fcntl
+import json
+import os
+import time
+from typing import Any, Dict, Iterator, NamedTuple, Optional
+
+from farm_access.site import Site
+from farm_dispatch import strangers
+from fizgruk import calls, settings
+from fizgruk._tools import disk
+
+FRESH = 0.25  # seconds for which one look does for all
+STALE = 1.2  # after which nobody waits for who looks
+TIMEOUT = 1.0
+MOST = 16_000_000
+SEEN, TURN = "boards.json", "boards.turn"
+FREE = "none"
+
+
+class NoDesk(Exception):
+    """The desk gives no answer, or none that says it."""
+
+
+class Board(NamedTuple):
+    """A board in the desk's view. `hold` is who has it, acquired or running, or nothing."""
+
+    name: str
+    hold: str
+    holder: str
+    tags: Dict[str, str]
+
+
+class Lookout:
+    """A desk's boards, as they are or were a moment ago."""
+
+    def __init__(self, site: Site):
+        own = settings.read_settings({**site.desk, "user": site.desk.get("user", "access")})
+        quick: Any = dataclasses.replace(own, timeout=TIMEOUT)
+        self.desk = calls.Desk(quick, patience=0)
+        self.seen = os.path.join(site.folder, SEEN)
+        self.turn = os.path.join(site.folder, TURN)
+
+    def boards(self) -> Dict[str, Board]:
+        """The boards, asked for now."""
+        rows = self._asked("/boards").get("boards")
+        try:
+            return {it["name"]: _board_of(it) for it in rows or []}
+        except (TypeError, KeyError, AttributeError) as fault:
+            raise NoDesk("the answer isn't a desk's") from fault
+
+    def look(self) -> Dict[str, Board]:
+        """The boards, asked for now and kept for all."""
+        began = time.monotonic()
+        found = self.boards()
+        kept = {"at": began, "boards": {name: it._asdict() for name, it in found.items()}}
+        with contextlib.suppress(OSError):
+            disk.write_whole(self.seen, json.dumps(kept), 0o660)
+        return found
+
+    def shared(self) -> Dict[str, Board]:
+        """The boards as they are, or as somebody saw them a moment ago."""
+        kept = self._kept(FRESH)
+        if kept is not None:
+            return kept
+        with self._turn() as is_mine:
+            if is_mine:
+                return self.look()
+        kept = self._kept(STALE)
+        return self.boards() if kept is None else kept
+
+    def owner_of(self, hold: str) -> str:
+        """Whose a hold is; nothing where it has ended."""
+        kind, _, number = hold.partition(" ")
+        try:
+            if kind == "job":
+                row = self._asked(f"/jobs/{int(number)}")
+                return str(row["owner"]) if row["state"] == "Running" else ""
+            rows = self._asked("/reservations")["reservations"] if kind == "reservation" else []
+            owners = [str(it["owner"]) for it in rows if str(it["number"]) == number]
+        except (TypeError, KeyError, ValueError) as fault:
+            raise NoDesk("the answer isn't a desk's") from fault
+        return owners[0] if owners else ""
+
+    def _asked(self, path: str) -> Dict[str, Any]:
+        try:
+            return self.desk.look(path)
+        except (calls.NoAnswer, calls.Refused) as fault:
+            raise NoDesk(f"no answer from the desk at {self.desk.server}: {fault}") from fault
+
+    def _kept(self, seconds: float) -> Optional[Dict[str, Board]]:
+        """What was seen at most so many seconds ago."""
+        with contextlib.suppress(ValueError, TypeError, KeyError):
+            kept = json.loads(strangers.text_in(self.seen, MOST) or "{}")
+            if 0 <= time.monotonic() - kept["at"] <= seconds:
+                return {name: Board(**it) for name, it in kept["boards"].items()}
+        return None
+
+    @contextlib.contextmanager
+    def _turn(self) -> Iterator[bool]:
+        """Has the turn to look meanwhile, where nobody else has: says whether."""
+        opened = os.open(self.turn, os.O_RDWR | os.O_CREAT | os.O_CLOEXEC | os.O_NOFOLLOW, 0o660)
+        try:
+            try:
+                fcntl.flock(opened, fcntl.LOCK_EX | fcntl.LOCK_NB)
+            except BlockingIOError:
+                yield False
+            else:
+                yield True
+        finally:
+            os.close(opened)
+
+
+def is_current(hold: str, board: Optional[Board]) -> bool:
+    """Whether a hold has a board still; an admin has a free one until somebody gets it."""
+    if board is None:
+        return False
+    return board.hold == hold or (hold.startswith("admin ") and board.holder == FREE)
+
+
+def _board_of(row: Dict[str, Any]) -> Board:
+    pairs = [it.partition("=") for it in row["tags"]]
+    tags = {key: value for key, equals, value in pairs if equals}
+    hold = row["holder"] if row["state"] == "Running" else ""
+    return Board(row["name"], "" if hold == FREE else hold, row["holder"], tags)
