@@ -45,10 +45,11 @@ _desk() {
     word=${line##*[[:space:]]}
     local reservations="wait acquire release refresh extend cancel-reservation"
     local commands="boards types queue jobs reservations submit resubmit cancel reserve with"
-    commands="$commands $reservations log history usage health tags add-type add-board import"
+    commands="$commands $reservations log history usage console power ssh ways"
+    commands="$commands health tags add-type add-board import"
     for each in ${line%"$word"}; do
         case $before in
-            --server | --user | --password-file | --ca-file | --timeout | --config | --history)
+            --server | --user | --password-file | --ca-file | --timeout | --config | --history | --access)
                 reach+=("$before" "$each")
                 before=
                 continue
@@ -71,14 +72,14 @@ _desk() {
         *:--server:*) words="http://127.0.0.1:880 https://" ;;
         *:--check:*) words="none hours jobs" ;;
         *:--by:*) words="owner board type" ;;
-        *:--user:* | *:--timeout:* | *:--every:* | *:--last:* | *:--limit:* | *:--since:*) words= ;;
+        *:--user:* | *:--timeout:* | *:--access:* | *:--every:* | *:--last:* | *:--limit:* | *:--since:*) words= ;;
         *:--config:* | *:--password-file:* | *:--ca-file:* | *:--history:* | import:*:[!-]* | \
             import:*: | submit:*:[!-]* | submit:*:)
             mapfile -t COMPREPLY < <(compgen -f -- "$word")
             return
             ;;
         :*:-*)
-            words="--config --server --user --password-file --ca-file --timeout --history --json"
+            words="--config --server --user --password-file --ca-file --timeout --history --access --json"
             words="$words --version --help"
             ;;
         :*) words=$commands ;;
@@ -91,6 +92,9 @@ _desk() {
         submit:*:-* | resubmit:*:-*) words="--wait --every --json --help" ;;
         reserve:*:-*) words="--wait --acquire --priority --every --json --help" ;;
         wait:*:-*) words="--every --json --help" ;;
+        console:*:-*) words="--reserve --watch --log --as-admin --help" ;;
+        power:*:-*) words="--as-admin --help" ;;
+        ssh:*:-* | ways:*:-*) words="--help" ;;
         with:*:-*) words="--priority --every --help --" ;;
         add-type:*:-*) words="--check --every --json --help" ;;
         health:*:-*) words="--yes --json --help" ;;
@@ -98,7 +102,10 @@ _desk() {
         *:-*) words="--json --help" ;;
         boards:* | reserve:* | with:*) words=$(_desk_tags) ;;
         health:*) words="$(_desk_boards) Good Bad Unknown Maintenance Retired" ;;
-        tags:tags:* | history:history:*) words=$(_desk_boards) ;;
+        tags:tags:* | history:history:* | power:power:* | ssh:ssh:* | ways:ways:*) words=$(_desk_boards) ;;
+        console:*) words="$(_desk_boards) $(_desk_tags)" ;;
+        power:*) words="on off cycle status" ;;
+        ssh:* | ways:*) words= ;;
         history:* | usage:*) words= ;;
         queue:queue:*) words=$(_desk_types) ;;
         cancel:*) words=$(_desk_jobs number) ;;

@@ -89,7 +89,7 @@ def test_each_tool_has_a_section_of_its_own(around: Around) -> None:
 @pytest.mark.parametrize("text, why", [
     ("[desk]\nsrever = x\n", "srever in [desk] is no setting: is server meant?"),
     ("[dsek]\nserver = x\n", "[dsek] is no section: is [desk] meant?"),
-    ("[desk]\nx = 5\n", "x in [desk] is no setting: there are server, user, password_file, ca_file, timeout, history"),
+    ("[desk]\nx = 5\n", "x in [desk] is no setting: there are server, user, password_file, ca_file, timeout, history, access"),
 ])
 def test_a_misspelt_setting_of_a_file(around: Around, text: str, why: str) -> None:
     file = around.writes(around.own, text)

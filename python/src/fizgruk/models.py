@@ -6,6 +6,7 @@ import dataclasses
 from typing import Any, Callable, Dict, Literal, Optional, Tuple, TypeVar, cast
 
 from fizgruk.errors import Unreachable
+from fizgruk.ways import Ways
 
 Check = Literal["none", "hours", "jobs"]
 Health = Literal["Good", "Bad", "Unknown", "Maintenance", "Retired"]
@@ -113,7 +114,7 @@ class PassCounts:
 
 
 @dataclasses.dataclass(frozen=True)
-class Board:
+class Board(Ways):
     """A board that is yours, and the reservation that holds it."""
 
     name: str

@@ -18,7 +18,7 @@ SERVER = "http://127.0.0.1:880"
 SECTION, ENVIRONMENT = "desk", "DESK_"
 WORDS = ("server", "user", "password_file", "ca_file", "timeout")
 # What the section may have besides, which is the command's alone.
-OF_COMMAND = ("history",)
+OF_COMMAND = ("history", "access")
 NO_LOGIN = "a server's address has no user and no password in it: user and password_file"
 LOOPBACK = ("127.0.0.1", "localhost", "::1")
 SECONDS = "30"
@@ -52,6 +52,13 @@ def read_settings(given: Mapping[str, Optional[str]]) -> Settings:
         raise BadSettings(f"a password isn't sent to {server}, which has no TLS")
     ca_file = os.path.expanduser(found["ca_file"]) if found["ca_file"] else None
     return Settings(server, user, password, ca_file, _seconds(found["timeout"] or SECONDS))
+
+
+def access_of(given: Mapping[str, Optional[str]]) -> Optional[str]:
+    """Where ssh(1) goes for boards, if that is said."""
+    around = _environment()
+    files = _files_read(given.get("config") or around.get("config"))
+    return given.get("access") or around.get("access") or files.get("access")
 
 
 def address_of(server: str) -> urllib.parse.SplitResult:

@@ -19,7 +19,7 @@ SERVER = "http://127.0.0.1:880"
 NO_LOGIN = "a server's address has no user and no password in it: --user and --password-file"
 LOOPBACK = ("127.0.0.1", "localhost", "::1")
 WORDS = ("server", "user", "password_file", "ca_file", "timeout")
-OF_DESK = ("history",)
+OF_DESK = ("history", "access")
 OF_DISPATCH = (
     "limit", "most", "retry", "clock", "keep_logs", "cage", "log_limit", "folder_limit",
     "memory_limit", "process_limit", "serves",

@@ -149,6 +149,7 @@ def run(desk: calls.Desk, words: Sequence[str], board: Dict[str, Any], number: i
     environment = {
         **os.environ,
         "BOARD": board["name"],
+        "FARM_BOARD": board["name"],
         "BOARD_TYPE": board["type"],
         "BOARD_TAGS": " ".join(board["tags"]),
         "RESERVATION": str(number),

@@ -7,7 +7,7 @@ from typing import Any, Callable, Dict, Optional, Sequence, TextIO, Tuple, Union
 from fizgruk import calls, job_file
 from fizgruk._tools import interrupts, parsers, settings, terminal
 from fizgruk._tools.parsers import Parser, one_of
-from fizgruk.desk import admin, claims, clocks, holding, past_jobs, texts, usage, views, waiting
+from fizgruk.desk import access, admin, claims, clocks, holding, past_jobs, texts, usage, views, waiting
 
 Command = Callable[..., Parser]  # adds a command by its name and what does it
 
@@ -158,6 +158,8 @@ def parser_of() -> Parser:
 Where farm-dispatch(8) keeps its history on this machine, as /var/lib/farm-dispatch, or a file of
 its lines that was put aside; without it, the server is asked."""
     group.add_argument("--history", metavar="FOLDER", help=about)
+    about = "Where ssh(1) goes for boards (default 'ssh://board@HOST:2222', the server's host)."
+    group.add_argument("--access", metavar="DESTINATION", help=about)
     about = "Print what the desk answered, as JSON, an object a line; also behind the command."
     parser.add_argument("--json", action="store_true", help=about)
     parser.set_defaults(asks_as=None)
@@ -169,7 +171,7 @@ its lines that was put aside; without it, the server is asked."""
         added: Parser = commands.add_parser(name, help=parsers.first_sentence(about), **more)
         added.set_defaults(does=does)
         about = "Print what the desk answered, as JSON."
-        if does in (past_jobs.show_log, holding.run_with_board):
+        if does in (past_jobs.show_log, holding.run_with_board, *access.COMMANDS):
             about = argparse.SUPPRESS  # it is taken, and there is nothing to be printed so
         added.add_argument(
             "--json", action="store_true", default=argparse.SUPPRESS, help=about
@@ -180,6 +182,7 @@ its lines that was put aside; without it, the server is asked."""
     add_jobs(command)
     add_past(command)
     add_reservations(command)
+    access.add_commands(command)
     admin.add_commands(command)
     return parser
 

@@ -42,6 +42,11 @@ STATUSES = (
     ),
     ("126", "Of 'with': the command can't be run."),
     ("127", "Of 'with': there is no such command."),
+    (
+        "255",
+        "Of 'console', 'power', 'ssh' and 'ways': ssh(1) doesn't get there; their other statuses are "
+        "those of farm-access(8), 5 where the board isn't yours and 6 where it is lost.",
+    ),
     ("128+N", "Ended by signal N: 130 by SIGINT, 143 by SIGTERM, 129 by SIGHUP, 131 by SIGQUIT."),
 )
 
@@ -99,7 +104,8 @@ holds or ends them.""",
     "cancel-reservation": "End a reservation, and give its board back.",
     "with": """\
 Run a command with a board, and give the board back. It reserves, waits, acquires, and runs \
-COMMAND with 'BOARD', 'BOARD_TYPE', 'BOARD_TAGS' and 'RESERVATION' in its environment. When that \
+COMMAND with 'BOARD' (and 'FARM_BOARD', as jobs have it), 'BOARD_TYPE', 'BOARD_TAGS' and \
+'RESERVATION' in its environment. When that \
 has ended, or a signal came, the board is given back. SIGINT, SIGTERM, SIGHUP and SIGQUIT are \
 handed on to the command. (Killed by SIGKILL it can't give the board back: 'desk \
 cancel-reservation'.) Every two seconds it looks whether the reservation still holds the board. \
@@ -107,6 +113,15 @@ Where an admin or farm-watch(8) has ended it, it says so, sends SIGTERM to the c
 descends from it, SIGKILL to what still runs ten seconds later, and ends with 125. While the desk \
 is away no hold changes, and the command goes on. The exit status is that of the command, 128 and \
 the number of the signal that killed it, or 125 to 127 as below.""",
+    "console": """\
+Go to the console of a board that you hold. At a terminal 'Enter ~.' leaves it, as any session of \
+ssh(1). With --reserve it reserves a board, waits, acquires it, and gives it back at the end, as \
+'with' does. Where the board is lost it ends within two seconds.""",
+    "power": """\
+Switch the power of a board that you hold, and return once that is done.""",
+    "ssh": """\
+Go by ssh(1) to the sshd of a board that you hold, as root or another user.""",
+    "ways": "Show which ways the lab has to a board.",
 }
 
 OF_AN_ADMIN = {

@@ -1,0 +1,182 @@
+"""The ways to a board as people take them: `desk console`, `power`, `ssh`, `ways`, and the Python package's Board."""
+from __future__ import annotations
+
+import json
+import os
+import subprocess
+from typing import Any, Iterator, List
+
+import access_lab
+import pytest
+from access_lab import PYTHON, Lab, until
+from served import STARTED, TOOLS, TOP, Farm
+
+pytestmark = [pytest.mark.xdist_group("access"), pytest.mark.slow(60)]
+NOT_YOURS, LOST = 5, 6
+# Runs lines of Python that hold a board by the package, and prints what they leave in `said`.
+PROGRAM = """\
+import json, sys
+sys.path.insert(0, {source!r})
+import fizgruk
+from fizgruk import ways
+said = []
+client = fizgruk.Client({server!r}, "ann")
+{lines}
+print(json.dumps(said))
+"""
+
+
+@pytest.fixture(scope="module")
+def lab(program: str, tmp_path_factory: pytest.TempPathFactory) -> Iterator[Lab]:
+    def farm(boards: Any) -> Farm:
+        return Farm(program, str(tmp_path_factory.mktemp("farm")), boards)
+
+    made = access_lab.make(farm)
+    # (ssh is told by its own configuration which key is ann's, as a person's is)
+    options = [it for it in made.ssh("ann")[5:-1] if it not in ("-o",)]
+    key, *rest = options[options.index("-i") + 1 :]
+    made.write("ssh.conf", "".join(f"{it.replace('=', ' ', 1)}\n" for it in [f"IdentityFile={key}", *rest]))
+    os.mkdir(made.path("bin"))
+    made.write("bin/ssh", f'#!/bin/sh\nexec /usr/bin/ssh -F {made.path("ssh.conf")} "$@"\n')
+    os.chmod(made.path("bin", "ssh"), 0o755)
+    yield made
+    made.end()
+
+
+@pytest.fixture(autouse=True)
+def all_given_back(lab: Lab) -> Iterator[None]:
+    yield
+    for it in lab.farm.look("/reservations")["reservations"]:
+        if it["state"] in ("waiting", "allocated", "acquired"):
+            lab.cancel(it["owner"], it["number"])
+    until(lambda: not lab.sessions())
+
+
+def desk_words(lab: Lab, *words: str) -> List[str]:
+    access = f"ssh://{lab.account()}@127.0.0.1:{lab.port}"
+    around = [f"PATH={lab.path('bin')}:/usr/bin:/bin", f"DESK_ACCESS={access}", "XDG_CONFIG_HOME=/nowhere"]
+    desk = [PYTHON, os.path.join(TOOLS, "desk"), "--server", lab.farm.server, "--user", "ann"]
+    return ["env", *around, *desk, *words]
+
+
+def desk(lab: Lab, *words: str, said: bytes = b"") -> access_lab.Tried:
+    return lab.try_words(desk_words(lab, *words), said=said)
+
+
+def begun(lab: Lab, *words: str) -> "subprocess.Popen[bytes]":
+    """A desk that goes on."""
+    line = subprocess.Popen(lab.as_board(*desk_words(lab, *words)), stdin=subprocess.PIPE, stdout=subprocess.PIPE)
+    STARTED.append(line)
+    return line
+
+
+def package(lab: Lab, lines: str) -> Any:
+    """What lines of Python leave in `said`."""
+    text = PROGRAM.format(source=os.path.join(TOP, "python/src"), server=lab.farm.server, lines=lines)
+    tried = lab.try_words([*desk_words(lab)[:4], PYTHON, "-c", text], 60)
+    assert tried.status == 0, tried.errors
+    return json.loads(tried.output)
+
+
+def test_ways_and_power_and_console(lab: Lab) -> None:
+    lab.reserve("ann", "b1")
+    assert desk(lab, "ways", "b1").output.decode().splitlines()[0] == "console"
+    assert desk(lab, "power", "b1", "cycle").status == 0
+    with open(lab.path("power"), encoding="utf-8") as file:
+        assert file.read().splitlines() == ["3 off", "3 on"]
+    line = begun(lab, "console", "b1")
+    assert line.stdin and line.stdout
+    line.stdin.write(b"hello")
+    line.stdin.flush()
+    assert line.stdout.read(5) == b"hello"
+    line.kill()
+    assert desk(lab, "console", "b1", "--log").output == b"hello"
+
+
+@pytest.mark.parametrize("words", [("console", "b1"), ("power", "b1", "on"), ("ssh", "b1", "true")])
+def test_a_board_that_isn_t_yours(lab: Lab, words: Any) -> None:
+    lab.reserve("bob", "b1")
+    tried = desk(lab, *words)
+    assert tried.status == (255 if words[0] == "ssh" else NOT_YOURS)
+    assert "b1 isn't yours now" in tried.errors
+
+
+def test_console_reserve_gets_a_board_and_gives_it_back(lab: Lab) -> None:
+    line = begun(lab, "console", "--reserve", "outlet=4")
+    assert line.stdin and line.stdout
+    line.stdin.write(b"mine")
+    line.stdin.flush()
+    until(lambda: lab.tell("dispatcher", "/pass") and lab.farm.board("b2")["holder"] != "none")
+    assert line.stdout.read(4) == b"mine"
+    assert lab.text("b2").endswith(b"mine")
+    line.terminate()
+    line.wait(20)
+    until(lambda: lab.farm.board("b2")["holder"] == "none")
+    assert lab.farm.board("b2")["holder"] == "none"
+
+
+def test_desk_with_says_the_board_as_jobs_have_it(lab: Lab) -> None:
+    line = begun(lab, "with", "name=b2", "--", "sh", "-c", "echo $FARM_BOARD $BOARD")
+    assert line.stdout
+    until(lambda: lab.tell("dispatcher", "/pass") and line.poll() is not None)
+    assert line.stdout.read() == b"b2 b2\n"
+
+
+HELD = """\
+import threading, time, urllib.request
+def passes():
+    while True:
+        asked = urllib.request.Request({server!r} + "/pass", data=b"", headers={{"x-user": "dispatcher"}})
+        urllib.request.urlopen(asked).read()
+        time.sleep(0.2)
+threading.Thread(target=passes, daemon=True).start()
+with client.board("name=b1") as board:
+{lines}
+"""
+
+
+def held(lab: Lab, lines: str) -> Any:
+    indented = "".join(f"    {it}\n" for it in lines.splitlines())
+    return package(lab, HELD.format(server=lab.farm.server, lines=indented))
+
+
+def test_a_console_of_the_package_sends_and_expects(lab: Lab) -> None:
+    said = held(lab, """\
+import re
+with board.console() as console:
+    console.send_line("first second")
+    said.append(console.expect("none", re.compile("sec.nd"), timeout=20))
+    said.append(console.before)
+    try:
+        console.expect("never", timeout=0.5)
+    except fizgruk.TimedOut as late:
+        said.append("timed out")
+board.power.cycle()
+said.append(board.name)""")
+    assert said == [1, "first ", "timed out", "b1"]
+
+
+def test_a_console_whose_board_is_lost_says_so(lab: Lab) -> None:
+    said = held(lab, """\
+with board.console() as console:
+    console.send_line("x")
+    console.expect("x", timeout=20)
+    place = f"{client.server}/reservations/{board.reservation}/cancel"
+    asked = urllib.request.Request(place, data=b"", headers={"x-user": "admin", "x-key": "k"})
+    try:
+        urllib.request.urlopen(asked).read()
+        console.expect("never", timeout=20)
+    except BaseException as fault:
+        said.append("HoldLost" if isinstance(fault, fizgruk.HoldLost) else type(fault).__name__)
+        print(__import__("json").dumps(said)); import os, sys; sys.stdout.flush(); os._exit(0)""")
+    assert said in (["HoldLost"], ["Interrupt"])
+
+
+def test_ways_of_a_board_that_isn_t_held_are_refused(lab: Lab) -> None:
+    said = package(lab, """\
+to = ways.destination()
+try:
+    ways.Power("b1", to).on()
+except ways.NoWay as fault:
+    said.append(str(fault))""")
+    assert said == ["farm-access: b1 isn't yours now: `desk reserve name=b1`"]
