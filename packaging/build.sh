@@ -4,7 +4,7 @@
 # Says which programs that build packages aren't there, and ends with status 1 then.
 set -eu
 missing=
-for tool in dpkg-buildpackage dh dh_python3 po2debconf pybuild strip; do
+for tool in dpkg-buildpackage dh dh_python3 po2debconf pybuild register-python-argcomplete strip; do
     command -v "$tool" > /dev/null || missing="$missing, no $tool"
 done
 /usr/bin/python3 -c 'import setuptools' 2> /dev/null || missing="$missing, no python3-setuptools"
@@ -21,6 +21,7 @@ umask 022
 tree=$folder/fizgruk
 mkdir "$tree"
 cp -r packaging/debian tools python docs examples "$tree"
+install -D -m 644 -t "$tree/packaging" packaging/desk.zsh
 find "$tree" -name __pycache__ -prune -exec rm -r {} +
 install -m 755 "$program" "$tree/farm"
 (cd "$tree" && dpkg-buildpackage --build=binary --no-sign --no-check-builddeps) > "$folder/log" 2>&1 ||

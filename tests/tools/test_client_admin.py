@@ -1,27 +1,22 @@
 """An admin's commands, imports of lab files, completion."""
 from __future__ import annotations
 
+import http.server
+import json
 import os
 import re
 import select
 import subprocess
+import threading
 import time
 from typing import Callable, List, Sequence
 
 import pytest
-from desks import BOARDS, DESK, Ran, at_a_terminal, desk, prints, write
-from served import TOP, Farm, environment
-from wants import wants
+from completed import completed
+from desks import BOARDS, Ran, at_a_terminal, desk, prints, write
+from served import TOP, Farm
 
 EXAMPLE = os.path.join(TOP, "examples", "lab.toml")
-COMPLETE = """\
-source "$1"
-COMP_LINE=$2 COMP_POINT=${#2} COMP_WORDS=($2)
-case $2 in *' ') COMP_WORDS+=('') ;; esac
-COMP_CWORD=$((${#COMP_WORDS[@]} - 1))
-_desk
-printf '%s\\n' "${COMPREPLY[@]}"
-"""
 
 
 @pytest.fixture
@@ -261,7 +256,6 @@ def test_the_clients_version_is_the_packages(lab: Farm) -> None:
     ("desk --server ", "http://127.0.0.1:880", "queue"),
     ("desk --user queue res", "reserve reservations", ""),
     ("desk with hdmi -- ech", "echo", ""),
-    ("desk with hdmi -- cat PLACE/de", "PLACE/desk", ""),
     ("desk import PLACE/de", "PLACE/desk", ""),
 ])
 def test_bash_completes(folder: str, line: str, wanted: str, others: str) -> None:
@@ -286,13 +280,40 @@ def test_bash_completes_what_the_desk_has(make_farm: Callable[..., Farm], folder
 
 def completes(folder: str, line: str, wanted: str, others: str) -> None:
     """Demands that a line is completed by all these words, and by none of the others."""
-    wants("bash")
-    if not os.path.lexists(os.path.join(folder, "desk")):
-        os.symlink(DESK, os.path.join(folder, "desk"))
-        # (a busy machine may need more than the three seconds for which a shell is held up)
-        write(folder, "timeout", '#!/bin/sh\nshift\nexec "$@"\n', 0o755)
-    around = environment(DESK_USER="ann", DESK_SERVER="http://127.0.0.1:1")
-    around["PATH"] = f"{folder}:{around['PATH']}"
-    words = ["bash", "-c", COMPLETE, "bash", f"{DESK}.bash", line]
-    found = set(subprocess.run(words, env=around, capture_output=True, text=True, check=True).stdout.split())
+    found = completed(folder, line)
     assert set(wanted.split()) - found == set() and set(others.split()) & found == set(), line
+
+
+@pytest.mark.parametrize("shell", ["zsh", "fish"])
+def test_other_shells_complete_too(make_farm: Callable[..., Farm], folder: str, shell: str) -> None:
+    farm = make_farm(BOARDS)
+    assert completed(folder, "desk ext", shell) == {"extend"}
+    assert {"b1", "b2", "c1"} <= completed(folder, "desk history ", shell, DESK_SERVER=farm.server)
+    assert completed(folder, "desk boards name=b", shell, DESK_SERVER=farm.server) & {"name=b1", "b1"}
+
+
+class Stranger(http.server.BaseHTTPRequestHandler):
+    """A desk whose boards have tags that a shell would run, or take for names of files."""
+
+    tags = ["$(touch ran)", "`touch ran`", "a;touch ran", "*", "d?sk", "'", "two words", "\x1b[2J", "plain"]
+
+    def do_GET(self) -> None:
+        body = json.dumps({"boards": [{"name": "$(touch ran)", "type": "x", "tags": self.tags, "holder": "none"}]}).encode()
+        self.send_response(200)
+        self.send_header("content-length", str(len(body)))
+        self.end_headers()
+        self.wfile.write(body)
+
+    def log_message(self, *_: object) -> None:
+        pass
+
+
+@pytest.mark.parametrize("shell", ["bash", "zsh", "fish"])
+def test_what_a_stranger_sends_is_nothing_to_a_shell(folder: str, shell: str) -> None:
+    """Of what a desk shows only what is a name or a tag is offered, and a shell makes nothing else of it."""
+    with http.server.ThreadingHTTPServer(("127.0.0.1", 0), Stranger) as server:
+        threading.Thread(target=server.serve_forever, daemon=True).start()
+        address = f"http://127.0.0.1:{server.server_port}"
+        assert completed(folder, "desk reserve ", shell, DESK_SERVER=address) == {"plain"}
+        server.shutdown()
+    assert os.listdir(folder) == ["desk"]

@@ -13,7 +13,7 @@ import pytest
 from dispatch_lab import BOARDS, Lab, MakeLab, jobs_of
 from dispatch_lab import lab_fixture, make_lab_fixture  # noqa: F401
 from farm_dispatch import faults, room, strangers
-from fizgruk import calls
+from fizgruk.errors import Code, Refused
 from served import STARTED, TOOLS, environment, read, wait_until
 from wants import lacks
 
@@ -187,7 +187,7 @@ G.seen = seen
 
 
 @pytest.mark.parametrize(
-    "fault", ("OSError(5, 'Input/output error')", "dispatcher.calls.Refused(400, 5, 'bad text')"), ids=("system", "desk")
+    "fault", ("OSError(5, 'Input/output error')", "dispatcher.Refused(400, 5, 'bad text')"), ids=("system", "desk")
 )
 def test_fault_that_stays(make_lab: MakeLab, fault: str) -> None:
     """What the system or the desk refuses one group alone is tried again, and ends it once it has stayed."""
@@ -209,12 +209,12 @@ def test_fault_of_all(tmp_path: pathlib.Path, monkeypatch: pytest.MonkeyPatch) -
     monkeypatch.setattr(faults, "STAYS", 0.0)
     for name in ("groups", "jobs"):
         (tmp_path / name).mkdir()
-    damaged, refused = OSError(errno.EIO, "damaged"), calls.Refused(409, calls.NO_JOB, "no job")
+    damaged, refused = OSError(errno.EIO, "damaged"), Refused(409, Code.NO_SUCH_JOB, "no job")
     assert faults.Faults(str(tmp_path)).is_over(1, damaged, 1)
     assert faults.Faults(str(tmp_path)).is_over(1, refused, 3)
-    of_all: List[Union[OSError, calls.Refused]] = [
-        OSError(errno.ENOSPC, "full"), OSError(errno.EDQUOT, "full"), calls.Refused(409, calls.FULL, "full"),
-        calls.Refused(429, 0, "too many"),
+    of_all: List[Union[OSError, Refused]] = [
+        OSError(errno.ENOSPC, "full"), OSError(errno.EDQUOT, "full"), Refused(409, Code.FULL, "full"),
+        Refused(429, 0, "too many"),
     ]
     for fault in of_all:
         assert not faults.Faults(str(tmp_path)).is_over(1, fault, 3), fault

@@ -210,19 +210,21 @@ type = "bbb"
 tags = ["rack=1"]
 [boards]
 b2 = { type = "bbb" }
-"r.1" = { type = "bbb" }
+"r.1" = {
+  type = "bbb", # as TOML 1.1 has it
+}
 [boards.other]
 type = "rpi"
 """
 REMARKS = {
     "[types.rpi]": """OWN:5 has check = "hours", every = 24""",
     "[boards.b1]": """OWN:8 has type = "bbb", tags = ["rack=1"]""",
-    '[boards."r.1"]': """OWN has type = "bbb", tags = []""",
+    '[boards."r.1"]': """OWN:13 has type = "bbb", tags = []""",
 }
 NOTES_OF_OWN_LAB = """\
 OWN:8: board b1: it has type = "bbb", tags = ["rack=1"], and the desk type = "bbb", \
 tags = ["hdmi", "rack=1"]: an import changes nothing
-OWN: board r.1: it has type = "bbb", tags = [], and the desk type = "rpi", tags = []: \
+OWN:13: board r.1: it has type = "bbb", tags = [], and the desk type = "rpi", tags = []: \
 an import changes nothing
 OWN:5: type rpi: it has check = "hours", every = 24, and the desk check = "jobs", every = 20: \
 an import changes nothing
@@ -431,7 +433,6 @@ def test_a_lab_file_without_health_gives_none(farm: Farm, folder: str) -> None:
     assert refused(run("farm-from-desk", "--server", farm.server, "--set-health", lab)) == (4, 1)
 
 
-@pytest.mark.skipif(sys.version_info < (3, 11), reason="this Python has no reader of TOML")
 def test_the_labs_own_file_beside_a_desk(farm: Farm, folder: str) -> None:
     """The written file and the errors name its lines."""
     own = write(folder, "own.toml", OWN_LAB)

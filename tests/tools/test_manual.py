@@ -15,8 +15,8 @@ import sys
 from typing import Dict, List, Sequence, Tuple
 
 import pytest
+from completed import completed
 from served import TOOLS, TOP, calls_in_one, environment
-from wants import wants
 
 pytestmark = pytest.mark.xdist_group("manual")  # one process asks for each help once
 DOCS = os.path.join(TOP, "docs")
@@ -43,15 +43,6 @@ WIDE, WIDEST = 300, 100
 OF_EACH_COMMAND = {"-h, --help", "--json"}
 OPTION = r"(?:-h, )?--[a-z-]+(?: [A-Z]+| \{[a-z|]+\})?"
 HELP_ITEM = re.compile(rf"  ({OPTION}|[A-Z]+|\d\S*)(?: +(\S.*))?|    ([a-z][a-z-]*)(?:  +(\S.*))?")
-COMPLETE = """\
-source "$1"
-COMP_LINE=$2 COMP_POINT=${#2} COMP_WORDS=($2)
-COMP_CWORD=$((${#COMP_WORDS[@]} - 1))
-_desk
-printf '%s\\n' "${COMPREPLY[@]}"
-"""
-
-
 EACH_PAGE = pytest.mark.parametrize("page", PAGES)
 
 
@@ -275,9 +266,7 @@ def test_no_page_has_a_fault_that_man_warns_of(warner: List[str], page: str) -> 
 
 
 @pytest.mark.parametrize("words", [[], *([it] for it in COMMANDS)], ids=" ".join)
-def test_bash_completes_the_options_of_help_and_no_others(words: Sequence[str]) -> None:
-    wants("bash")
-    line = " ".join(["desk", *words, "--"])
-    said = run("bash", "-c", COMPLETE, "bash", os.path.join(TOOLS, "desk.bash"), line).stdout
+def test_bash_completes_the_options_of_help_and_no_others(words: Sequence[str], folder: str) -> None:
+    said = completed(folder, " ".join(["desk", *words, "--"]))
     options = [re.match(r"(?:-h, )?(--[a-z-]+)", it) for it in items_of_help(help_of("desk.1", *words))]
-    assert {it for it in said.split() if it != "--"} == {it[1] for it in options if it}
+    assert said - {"--"} == {it[1] for it in options if it}

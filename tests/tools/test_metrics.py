@@ -29,61 +29,61 @@ HEALTH = '{"kind":"health","board":"b1","from":"Good","to":"Bad","outcome":"Comp
 SMALL = """\
 # HELP fizgruk_up Whether the desk answers.
 # TYPE fizgruk_up gauge
-fizgruk_up 1
+fizgruk_up 1.0
 # HELP fizgruk_boards Boards.
 # TYPE fizgruk_boards gauge
-fizgruk_boards{type="bbb",health="Good",state="Idle"} 0
-fizgruk_boards{type="bbb",health="Good",state="Reserved"} 1
-fizgruk_boards{type="bbb",health="Good",state="Running"} 1
-fizgruk_boards{type="bbb",health="Bad",state="Idle"} 1
-fizgruk_boards{type="bbb",health="Bad",state="Reserved"} 0
-fizgruk_boards{type="bbb",health="Bad",state="Running"} 0
-fizgruk_boards{type="bbb",health="Unknown",state="Idle"} 0
-fizgruk_boards{type="bbb",health="Unknown",state="Reserved"} 0
-fizgruk_boards{type="bbb",health="Unknown",state="Running"} 0
-fizgruk_boards{type="bbb",health="Maintenance",state="Idle"} 0
-fizgruk_boards{type="bbb",health="Maintenance",state="Reserved"} 0
-fizgruk_boards{type="bbb",health="Maintenance",state="Running"} 0
-fizgruk_boards{type="bbb",health="Retired",state="Idle"} 0
-fizgruk_boards{type="bbb",health="Retired",state="Reserved"} 0
-fizgruk_boards{type="bbb",health="Retired",state="Running"} 0
-fizgruk_boards{type="ccc",health="Good",state="Idle"} 1
-fizgruk_boards{type="ccc",health="Good",state="Reserved"} 0
-fizgruk_boards{type="ccc",health="Good",state="Running"} 0
-fizgruk_boards{type="ccc",health="Bad",state="Idle"} 0
-fizgruk_boards{type="ccc",health="Bad",state="Reserved"} 0
-fizgruk_boards{type="ccc",health="Bad",state="Running"} 0
-fizgruk_boards{type="ccc",health="Unknown",state="Idle"} 0
-fizgruk_boards{type="ccc",health="Unknown",state="Reserved"} 0
-fizgruk_boards{type="ccc",health="Unknown",state="Running"} 0
-fizgruk_boards{type="ccc",health="Maintenance",state="Idle"} 0
-fizgruk_boards{type="ccc",health="Maintenance",state="Reserved"} 0
-fizgruk_boards{type="ccc",health="Maintenance",state="Running"} 0
-fizgruk_boards{type="ccc",health="Retired",state="Idle"} 0
-fizgruk_boards{type="ccc",health="Retired",state="Reserved"} 0
-fizgruk_boards{type="ccc",health="Retired",state="Running"} 0
+fizgruk_boards{health="Good",state="Idle",type="bbb"} 0.0
+fizgruk_boards{health="Good",state="Reserved",type="bbb"} 1.0
+fizgruk_boards{health="Good",state="Running",type="bbb"} 1.0
+fizgruk_boards{health="Bad",state="Idle",type="bbb"} 1.0
+fizgruk_boards{health="Bad",state="Reserved",type="bbb"} 0.0
+fizgruk_boards{health="Bad",state="Running",type="bbb"} 0.0
+fizgruk_boards{health="Unknown",state="Idle",type="bbb"} 0.0
+fizgruk_boards{health="Unknown",state="Reserved",type="bbb"} 0.0
+fizgruk_boards{health="Unknown",state="Running",type="bbb"} 0.0
+fizgruk_boards{health="Maintenance",state="Idle",type="bbb"} 0.0
+fizgruk_boards{health="Maintenance",state="Reserved",type="bbb"} 0.0
+fizgruk_boards{health="Maintenance",state="Running",type="bbb"} 0.0
+fizgruk_boards{health="Retired",state="Idle",type="bbb"} 0.0
+fizgruk_boards{health="Retired",state="Reserved",type="bbb"} 0.0
+fizgruk_boards{health="Retired",state="Running",type="bbb"} 0.0
+fizgruk_boards{health="Good",state="Idle",type="ccc"} 1.0
+fizgruk_boards{health="Good",state="Reserved",type="ccc"} 0.0
+fizgruk_boards{health="Good",state="Running",type="ccc"} 0.0
+fizgruk_boards{health="Bad",state="Idle",type="ccc"} 0.0
+fizgruk_boards{health="Bad",state="Reserved",type="ccc"} 0.0
+fizgruk_boards{health="Bad",state="Running",type="ccc"} 0.0
+fizgruk_boards{health="Unknown",state="Idle",type="ccc"} 0.0
+fizgruk_boards{health="Unknown",state="Reserved",type="ccc"} 0.0
+fizgruk_boards{health="Unknown",state="Running",type="ccc"} 0.0
+fizgruk_boards{health="Maintenance",state="Idle",type="ccc"} 0.0
+fizgruk_boards{health="Maintenance",state="Reserved",type="ccc"} 0.0
+fizgruk_boards{health="Maintenance",state="Running",type="ccc"} 0.0
+fizgruk_boards{health="Retired",state="Idle",type="ccc"} 0.0
+fizgruk_boards{health="Retired",state="Reserved",type="ccc"} 0.0
+fizgruk_boards{health="Retired",state="Running",type="ccc"} 0.0
 # HELP fizgruk_claims_waiting Claims that wait for boards.
 # TYPE fizgruk_claims_waiting gauge
-fizgruk_claims_waiting{kind="group"} 2
-fizgruk_claims_waiting{kind="reservation"} 1
+fizgruk_claims_waiting{kind="group"} 2.0
+fizgruk_claims_waiting{kind="reservation"} 1.0
 # HELP fizgruk_oldest_claim_age_seconds Seconds since the oldest claim that waits was first seen here.
 # TYPE fizgruk_oldest_claim_age_seconds gauge
 fizgruk_oldest_claim_age_seconds AGE
 # HELP fizgruk_collecting_group Number of the group that collects boards, 0 while none does.
 # TYPE fizgruk_collecting_group gauge
-fizgruk_collecting_group 0
+fizgruk_collecting_group 0.0
 # HELP fizgruk_commands_total Commands that were accepted.
 # TYPE fizgruk_commands_total counter
-fizgruk_commands_total 18
+fizgruk_commands_total 18.0
 # HELP fizgruk_last_command_age_seconds Seconds since the last command; below 0 the farm's clock is ahead.
 # TYPE fizgruk_last_command_age_seconds gauge
 fizgruk_last_command_age_seconds AGE
 # HELP fizgruk_rows Rows that the farm has.
 # TYPE fizgruk_rows gauge
-fizgruk_rows{table="types"} 2
-fizgruk_rows{table="boards"} 4
-fizgruk_rows{table="jobs"} 3
-fizgruk_rows{table="reservations"} 2
+fizgruk_rows{table="types"} 2.0
+fizgruk_rows{table="boards"} 4.0
+fizgruk_rows{table="jobs"} 3.0
+fizgruk_rows{table="reservations"} 2.0
 # HELP fizgruk_rows_limit Rows that the farm can have.
 # TYPE fizgruk_rows_limit gauge
 fizgruk_rows_limit{table="types"} MOST
@@ -98,7 +98,7 @@ NO_PASSES = """\
 PASSES = """\
 # HELP fizgruk_passes_total Passes that the dispatcher asked for.
 # TYPE fizgruk_passes_total counter
-fizgruk_passes_total 17280
+fizgruk_passes_total 17280.0
 # HELP fizgruk_last_pass_age_seconds Seconds since the last of them.
 # TYPE fizgruk_last_pass_age_seconds gauge
 fizgruk_last_pass_age_seconds AGE
@@ -106,10 +106,10 @@ fizgruk_last_pass_age_seconds AGE
 ENDED = """\
 # HELP fizgruk_jobs_ended_total Jobs that ended.
 # TYPE fizgruk_jobs_ended_total counter
-fizgruk_jobs_ended_total{outcome="Complete"} 2
-fizgruk_jobs_ended_total{outcome="Incomplete"} 1
-fizgruk_jobs_ended_total{outcome="Infra"} 0
-fizgruk_jobs_ended_total{outcome="Canceled"} 0
+fizgruk_jobs_ended_total{outcome="Complete"} 2.0
+fizgruk_jobs_ended_total{outcome="Incomplete"} 1.0
+fizgruk_jobs_ended_total{outcome="Infra"} 0.0
+fizgruk_jobs_ended_total{outcome="Canceled"} 0.0
 """
 
 
@@ -122,7 +122,7 @@ def limits_in_machine() -> Dict[str, str]:
 
 
 for table, limit in limits_in_machine().items():
-    SMALL = SMALL.replace(f'{{table="{table}"}} MOST\n', f'{{table="{table}"}} {limit}\n')
+    SMALL = SMALL.replace(f'{{table="{table}"}} MOST\n', f'{{table="{table}"}} {limit}.0\n')
 
 
 def metrics(server: str, *words: str) -> Tuple[int, str, str]:
@@ -148,7 +148,7 @@ def value(text: str, name: str) -> float:
 
 
 def counts(text: str) -> Dict[str, int]:
-    return {it[0]: int(it[1]) for it in re.findall(r'fizgruk_jobs_ended_total{outcome="(.*)"} (\d+)', text)}
+    return {it[0]: int(it[1]) for it in re.findall(r'fizgruk_jobs_ended_total{outcome="(.*)"} (\d+)[.]0', text)}
 
 
 def write_history(folder: str) -> str:
@@ -307,7 +307,7 @@ def test_no_answer_from_the_desk_is_a_metric_too(make_farm: Made, folder: str) -
     farm.kill()
     status, said, errors = metrics(farm.server, "--textfile", prom, "--history", f"{folder}/none")
     assert (status, said) == (4, "")
-    wanted = "# HELP fizgruk_up Whether the desk answers.\n# TYPE fizgruk_up gauge\nfizgruk_up 0\n" + PASSES
+    wanted = "# HELP fizgruk_up Whether the desk answers.\n# TYPE fizgruk_up gauge\nfizgruk_up 0.0\n" + PASSES
     assert without_ages(read(prom)) == wanted.splitlines()
     assert errors.count(f"farm-metrics: no answer from the desk at {farm.server}: ") == 1
 
@@ -400,7 +400,7 @@ def test_labels_have_any_text_and_three_views_are_asked_for(stub: str, folder: s
     """Nothing is asked that grows with the farm's age."""
     text = metrics(stub, "--history", f"{folder}/none")[1]
     assert sorted(Stub.asked) == ["/boards", "/queue", "/status"]
-    assert 'fizgruk_boards{type="q\\"\\\\\\n",health="Good",state="Idle"} 1' in text.splitlines()
+    assert 'fizgruk_boards{health="Good",state="Idle",type="q\\"\\\\\\n"} 1.0' in text.splitlines()
     assert value(text, "fizgruk_collecting_group") == 7.0
     assert value(text, 'fizgruk_rows{table="jobs"}') == 99999.0
     assert value(text, "fizgruk_last_command_age_seconds") > time.time() - 3600, "a clock of long ago"

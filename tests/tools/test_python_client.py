@@ -20,7 +20,6 @@ import pytest
 
 import fizgruk
 from fizgruk import holding, settings, waiting
-from fizgruk._tools import settings as command_settings
 from fizgruk.version import VERSION
 from nginx_site import Site
 from python_front import BOARDS, JOB, PATH, SOURCES, SRC, Front, Passer, client_of, rows, states
@@ -139,11 +138,6 @@ def test_order_of_settings(monkeypatch: pytest.MonkeyPatch) -> None:
     monkeypatch.setenv("DESK_HISTORY", "/h")
     assert read_with() == ("http://g:2", "bob")
     assert read_with(server="http://f:3", user="cat") == ("http://f:3", "cat")
-
-
-def test_known_settings() -> None:
-    """They are those of the command, and those that it has besides are known."""
-    assert (*settings.WORDS, *settings.OF_COMMAND) == command_settings.SECTIONS["desk"]
 
 
 @pytest.mark.usefixtures("home")
@@ -371,13 +365,13 @@ def test_behind_nginx(site: Site, farm: Farm, monkeypatch: pytest.MonkeyPatch) -
     password = os.path.join(site.folder, "ann")
     ann = client_of(site.server, password_file=password, ca_file=site.certificate)
     opened: List[object] = []
-    opens = ann._wire._opened
+    opens = ann._desk._opened
 
     def counted() -> http.client.HTTPConnection:
         opened.append(opens())
         return cast(http.client.HTTPConnection, opened[-1])
 
-    monkeypatch.setattr(ann._wire, "_opened", counted)
+    monkeypatch.setattr(ann._desk, "_opened", counted)
     with Passer(farm):
         for _ in range(10):
             with ann.board("hdmi", every=0.1):
@@ -395,7 +389,7 @@ def test_wrong_password(site: Site) -> None:
 
 def test_certificate_that_nobody_knows(site: Site, monkeypatch: pytest.MonkeyPatch) -> None:
     """It is told at once, and isn't tried again."""
-    monkeypatch.setattr("fizgruk.wire.time.sleep", lambda _: pytest.fail("it is tried again"))
+    monkeypatch.setattr("fizgruk.calls.time.sleep", lambda _: pytest.fail("it is tried again"))
     with pytest.raises(fizgruk.Unreachable, match="certificate verify failed"):
         client_of(site.server).status()
 
@@ -419,7 +413,7 @@ def test_board_that_is_held(farm: Farm) -> None:
     ann = client_of(farm.server)
     said: List[str] = []
     with Passer(farm), ann.board("hdmi", every=0.1) as board:
-        what = f"b1 is held by reservation {board.reservation} of ann"
+        what = f"1 board fits, held by reservation {board.reservation} of ann"
         with pytest.raises(fizgruk.TimedOut, match=f"^no board with hdmi within 0.5 s: .*: {what}$"):
             ann.board("hdmi", timeout=0.5, every=0.1, tell=said.append).__enter__()
         assert states(farm) == ["acquired", "canceled"]
@@ -467,7 +461,7 @@ def test_board_is_held_once(farm: Farm) -> None:
 
 def test_waiting_board_is_refreshed(farm: Farm, monkeypatch: pytest.MonkeyPatch) -> None:
     """A reservation that waits is refreshed, and so lives on: its deadline moves on by the desk's clock."""
-    monkeypatch.setattr(waiting, "REFRESH", 0.0)
+    monkeypatch.setattr(waiting, "REFRESH", 0.1)
     farm.tell("admin", "/boards/b1/health", {"health": "Maintenance"})
     found: List[str] = []
     ann = client_of(farm.server)

@@ -138,7 +138,7 @@ def test_several_tags(farm: Farm, start: Start) -> None:
     assert rows(farm)[-1]["tags"] == ["hdmi", "name=b1", "serial"]
 
 
-LATE = "no board with hdmi within 1 s: reservation 1 is waiting, place 1 of 1 in the queue: b1 is Bad"
+LATE = "no board with hdmi within 1 s: reservation 1 is waiting, place 1 of 1 in the queue: 1 board fits, Bad; none can come"
 
 
 @pytest.mark.parametrize("word, priority", [("low", 0), ("high", 100), ("7", 7)])
@@ -178,7 +178,7 @@ def test_signal_while_it_waits(number: signal.Signals, farm: Farm, start: Start)
     """So does one that waits for its board."""
     farm.tell("admin", "/boards/b1/health", {"health": "Bad"})
     session = start(SLEEPS, "--farm", "hdmi")
-    wait_until("it waits", lambda: "b1 is Bad" in session.output(), 300)
+    wait_until("it waits", lambda: "1 board fits, Bad; none can come" in session.output(), 300)
     session.process.send_signal(number)
     session.ends(2)
     assert states(farm) == ["canceled"]

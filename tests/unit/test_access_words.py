@@ -93,7 +93,12 @@ def test_a_cycle_of_commands_is_off_and_on_or_its_own() -> None:
     assert [list(it.command) for it in power.steps_of("cycle", {**commands, "cycle": ["reset"]})] == [["reset"]]
 
 
-@pytest.mark.parametrize("verb, told", [("../on", PDU), ("status", PDU), ("on", {**PDU, "port": "{outlet}"}), ("off", {"on": ["x"]})])
+OTHERS: list[tuple[str, dict[str, object]]] = [
+    ("../on", PDU), ("status", PDU), ("on", {**PDU, "port": "{outlet}"}), ("off", {"on": ["x"]}),
+]
+
+
+@pytest.mark.parametrize("verb, told", OTHERS)
 def test_no_power(verb: str, told: dict[str, object]) -> None:
     with pytest.raises(BadWay):
         power.steps_of(verb, told)

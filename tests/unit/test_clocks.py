@@ -9,6 +9,7 @@ import pytest
 from farm_dispatch import clocks as dispatch_clocks
 from fizgruk import calls, clocks
 from fizgruk.desk.clocks import Watch
+from fizgruk.errors import Unreachable
 
 QUIET = "no pass for {} seconds: is farm-dispatch running?"
 
@@ -123,7 +124,7 @@ def test_it_looks_every_five_seconds(desk: Desk) -> None:
 
 def test_a_desk_that_gives_no_answer_tells_nothing_here(desk: Desk, monkeypatch: pytest.MonkeyPatch) -> None:
     def fails(_: str) -> Dict[str, Any]:
-        raise calls.NoAnswer("gone")
+        raise Unreachable("gone")
 
     monkeypatch.setattr(desk, "look", fails)
     told: List[str] = []

@@ -9,7 +9,7 @@ import pytest
 from hand_clock import NOW, Clock
 from farm_metrics import collecting
 from farm_metrics.collecting import Collector, History, boards_of
-from fizgruk import calls
+from fizgruk.errors import Unreachable
 
 
 @pytest.fixture
@@ -67,7 +67,7 @@ def test_outcomes_stand_in_their_order_and_others_behind_them(tmp_path: pathlib.
     file = tmp_path / "history.jsonl"
     file.write_text("".join(map(line, ("z", "Infra", "a"))))
     (family,) = History(str(file), {}).families()
-    found = [(labels["outcome"], count) for labels, count in family.samples]
+    found = [(it.labels["outcome"], it.value) for it in family.samples]
     assert found == [("Complete", 0), ("Incomplete", 0), ("Infra", 1), ("Canceled", 0), ("a", 1), ("z", 1)]
 
 
@@ -88,7 +88,7 @@ class Desk:
 
     def look(self, path: str) -> Any:
         if self.count is None:
-            raise calls.NoAnswer("refused")
+            raise Unreachable("refused")
         status = {it: 1 for it in ("types", "boards", "jobs", "reservations", "collector")}
         return {
             "/status": {**status, "count": self.count, "clock": NOW - 7}, "/boards": {"boards": []},
@@ -102,7 +102,7 @@ def collector(tmp_path: pathlib.Path, desk: Desk) -> Collector:
 
 
 def values(found: Collector) -> Dict[str, List[float]]:
-    return {it.name[len("fizgruk_") :]: [value for _, value in it.samples] for it in found.families()}
+    return {it.name[len("fizgruk_") :]: [sample.value for sample in it.samples] for it in found.families()}
 
 
 def age(found: Collector) -> float:
@@ -138,7 +138,7 @@ def test_while_the_desk_gives_no_answer_what_is_known_is_kept(tmp_path: pathlib.
     age(collector(tmp_path, Desk(5, 3)))
     clock.at += 30
     gone = collector(tmp_path, Desk(None))
-    assert values(gone) == {"up": [0], "passes_total": []}
+    assert values(gone) == {"up": [0], "passes": []}
     assert gone.trouble == "refused"
     assert age(collector(tmp_path, Desk(5, 3))) == 30
 
@@ -156,7 +156,7 @@ def test_since_the_last_command(tmp_path: pathlib.Path, clock: Clock) -> None:
 def test_boards_are_counted_by_type_health_and_state() -> None:
     row = {"type": "b", "health": "Good", "state": "Idle"}
     family = boards_of([row, row, {**row, "state": "Running"}, {**row, "type": "a", "health": "New"}])
-    found = {tuple(labels.values()): count for labels, count in family.samples if count}
+    found = {tuple(it.labels.values()): it.value for it in family.samples if it.value}
     assert found == {("b", "Good", "Idle"): 2, ("b", "Good", "Running"): 1, ("a", "New", "Idle"): 1}
-    assert [labels["type"] for labels, _ in family.samples][:15] == ["a"] * 15, "in order"
+    assert [it.labels["type"] for it in family.samples][:15] == ["a"] * 15, "in order"
     assert len(family.samples) == 2 * 5 * 3 + 1

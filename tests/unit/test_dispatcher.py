@@ -9,14 +9,15 @@ import types
 from typing import Any, Dict, List, Optional, Tuple
 
 import pytest
-from farm_dispatch import cages, dispatcher, folders, groups, members
+from farm_dispatch import cages, dispatcher, folders, groups
 from farm_dispatch.dispatcher import Dispatcher
 from fizgruk import calls, records
 from fizgruk._tools import disk
+from fizgruk.errors import Code, Refused, Unreachable
 
-FULL = calls.Refused(409, calls.FULL, "full")
-WRONG = calls.Refused(409, calls.WRONG_JOB_STATE, "wrong state")
-NO = calls.Refused(401, 0, "no")
+FULL = Refused(409, Code.FULL, "full")
+WRONG = Refused(409, Code.WRONG_JOB_STATE, "wrong state")
+NO = Refused(401, 0, "no")
 
 
 class NoSync:
@@ -49,7 +50,7 @@ class Desk:
         self.user = "dispatcher"
         self.jobs: Dict[int, Dict[str, Any]] = {}
         self.told: List[Tuple[str, Any, Optional[str]]] = []
-        self.refusals: Dict[str, calls.Refused] = {}
+        self.refusals: Dict[str, Refused] = {}
         self.is_full = False
 
     def job(self, number: int, state: str, **more: Any) -> Dict[str, Any]:
@@ -71,7 +72,7 @@ class Desk:
             } for number, it in self.jobs.items()]}
         number = int(path.rpartition("/")[2])
         if number not in self.jobs:
-            raise calls.Refused(404, calls.NO_JOB, "no such job")
+            raise Refused(404, Code.NO_SUCH_JOB, "no such job")
         return dict(self.jobs[number])
 
     def tell(self, path: str, body: Any = None, key: Optional[str] = None) -> Dict[str, Any]:
@@ -194,7 +195,7 @@ def test_what_an_earlier_farms_job_left_is_killed_before_its_number_is_begun(
 def test_a_desk_that_doesnt_let_it_in_ends_the_round(lab: Lab) -> None:
     lab.desk.job(1, "Scheduled")
     lab.desk.refusals["/jobs/1/start"] = NO
-    with pytest.raises(calls.Refused, match="401"):
+    with pytest.raises(Refused, match="401"):
         lab.dispatcher.round(False)
 
 
@@ -212,7 +213,7 @@ def test_a_full_desk_is_told_without_a_key(lab: Lab) -> None:
 
 
 @pytest.mark.parametrize("refusal, is_there", [(WRONG, False), (FULL, True)])
-def test_a_start_without_a_key_that_is_refused_is_no_start(lab: Lab, refusal: calls.Refused, is_there: bool) -> None:
+def test_a_start_without_a_key_that_is_refused_is_no_start(lab: Lab, refusal: Refused, is_there: bool) -> None:
     lab.desk.is_full = True
     lab.desk.job(1, "Scheduled")
     lab.desk.refusals["/jobs/1/start"] = refusal
@@ -227,10 +228,10 @@ def test_after_a_start_without_an_answer_what_runs_was_started_here(lab: Lab, mo
 
     def cut(path: str, body: Any = None, key: Optional[str] = None) -> Dict[str, Any]:
         plain(path, body, key)
-        raise calls.NoAnswer("cut")
+        raise Unreachable("cut")
 
     monkeypatch.setattr(lab.desk, "tell", cut)
-    with pytest.raises(calls.NoAnswer):
+    with pytest.raises(Unreachable):
         lab.dispatcher.round(False)
     monkeypatch.setattr(lab.desk, "tell", plain)
     assert lab.desk.jobs[1]["state"] == "Running" and lab.launched == []
@@ -312,9 +313,9 @@ def test_a_canceled_one_whose_runner_has_the_lock_is_waited_for(lab: Lab) -> Non
     assert lab.desk.jobs[1]["state"] == "Finished"
 
 
-@pytest.mark.parametrize("refusal, is_finished", [(None, True), (calls.Refused(403, 3, "not yours"), False)])
+@pytest.mark.parametrize("refusal, is_finished", [(None, True), (Refused(403, 3, "not yours"), False)])
 def test_boards_of_what_cant_be_killed_become_bad_before_they_are_given_on(
-    lab: Lab, monkeypatch: pytest.MonkeyPatch, capsys: pytest.CaptureFixture[str], refusal: Optional[calls.Refused],
+    lab: Lab, monkeypatch: pytest.MonkeyPatch, capsys: pytest.CaptureFixture[str], refusal: Optional[Refused],
     is_finished: bool
 ) -> None:
     lab.begins(1)
@@ -421,7 +422,7 @@ def test_a_fault_that_stays_ends_the_group(lab: Lab, monkeypatch: pytest.MonkeyP
 def test_a_finish_that_the_desk_refuses_is_given_again(lab: Lab, monkeypatch: pytest.MonkeyPatch) -> None:
     lab.begins(1)
     lab.ends(1, "status 0")
-    lab.desk.refusals["/jobs/1/finish"] = calls.Refused(409, 9, "not now")
+    lab.desk.refusals["/jobs/1/finish"] = Refused(409, 9, "not now")
     lab.dispatcher.round(False)
     assert not lab.files(1).has(folders.FINISHED)
 
@@ -510,7 +511,7 @@ def test_a_job_that_is_run_again_gets_a_pass_before_its_boards_are_given_back(
     monkeypatch.setattr(lab.dispatcher, "retries", again)
     lab.dispatcher.starts.fault = fault
     said(capsys)
-    group, views = lab.dispatcher.groups.of(1), members.all_of(lab.desk, 1)  # type: ignore[arg-type]
+    group, views = lab.dispatcher.groups.of(1), calls.members_of(lab.desk, 1)
     lab.dispatcher._run_again(group, views[0])
     assert [it[0] for it in lab.desk.told] == passes
     assert said(capsys) == ["job 1: it is run again as job 2 of ann"]

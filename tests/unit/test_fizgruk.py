@@ -15,8 +15,8 @@ from typing import Any, Callable, Dict, List, Optional, Tuple, Type, cast
 import pytest
 
 import fizgruk
-from fizgruk import holding, models, settings, waiting, wire
-from fizgruk.wire import Answer, Wire
+from fizgruk import calls, holding, models, settings, waiting
+from fizgruk.calls import Answer, Desk
 
 OWN = settings.Settings("http://127.0.0.1:1/farm/", "ann", None, None, 30.0)
 BOARD: Dict[str, Any] = {
@@ -46,7 +46,7 @@ class Clock:
 def clock(monkeypatch: pytest.MonkeyPatch) -> Clock:
     """The clock of the package's modules."""
     made = Clock()
-    for module in (wire, waiting, holding):
+    for module in (calls, waiting, holding):
         monkeypatch.setattr(module, "time", made)
     return made
 
@@ -101,8 +101,9 @@ def test_named_file_alone(home: pathlib.Path, monkeypatch: pytest.MonkeyPatch) -
 
 
 @pytest.mark.parametrize("text, told", [
-    ("[desk]\nusr = ann\n", "usr is no setting: is user meant[?]$"),
-    ("[desk]\nzzzz = ann\n", "zzzz is no setting: there are server, user, "),
+    ("[desk]\nusr = ann\n", r"usr in \[desk\] is no setting: is user meant[?]$"),
+    ("[desk]\nzzzz = ann\n", r"zzzz in \[desk\] is no setting: there are server, user, "),
+    ("[dsek]\nuser = ann\n", r"\[dsek\] is no section: is \[desk\] meant[?]$"),
     ("server = x\n", "^settings: "),
     ("[desk]\nuser = a b\n", "^'a b' is no name of a user$"),
     ("[desk]\nuser = ann\ntimeout = 0\n", "^0 is no number of seconds from 0 to 3600$"),
@@ -151,9 +152,9 @@ def test_bad_netrc(home: pathlib.Path) -> None:
 # ---- what is made of answers
 
 
-def wire_of(monkeypatch: pytest.MonkeyPatch, *answers: Any) -> Tuple[Wire, List[str]]:
-    """A wire on which these answers come one after another, the last again and again, and what is asked on it."""
-    made, left = Wire(OWN), list(answers)
+def desk_of(monkeypatch: pytest.MonkeyPatch, patience: float, *answers: Any) -> Tuple[Desk, List[str]]:
+    """A desk from which these answers come one after another, the last again and again, and what it is asked."""
+    made, left = Desk(OWN, patience), list(answers)
     asked: List[str] = []
 
     def exchange(method: str, path: str, body: Optional[bytes], fields: Dict[str, str]) -> Answer:
@@ -169,9 +170,9 @@ def wire_of(monkeypatch: pytest.MonkeyPatch, *answers: Any) -> Tuple[Wire, List[
 
 def test_pauses_between_tries(clock: Clock, monkeypatch: pytest.MonkeyPatch) -> None:
     """The pauses double from 0.2 s to 5 s, and end with the patience, which no pause goes beyond."""
-    made, asked = wire_of(monkeypatch, ConnectionRefusedError("refused"))
+    made, asked = desk_of(monkeypatch, 20.0, ConnectionRefusedError("refused"))
     with pytest.raises(fizgruk.Unreachable, match="^http://127.0.0.1:1/farm/: refused$"):
-        made.tell("/jobs", None, "k1", 20.0)
+        made.tell("/jobs", None, "k1")
     assert clock.slept == pytest.approx([0.2, 0.4, 0.8, 1.6, 3.2, 5.0, 5.0])
     assert asked == ["k1"] * 8
 
@@ -182,8 +183,8 @@ def test_pauses_between_tries(clock: Clock, monkeypatch: pytest.MonkeyPatch) -> 
 ])
 def test_sent_again(trouble: Any, clock: Clock, monkeypatch: pytest.MonkeyPatch) -> None:
     """Where nobody knows whether a command was done it is sent again, under its key."""
-    made, asked = wire_of(monkeypatch, trouble, trouble, DONE)
-    assert made.tell("/jobs", b"", "k1", 15.0) == {"number": 7}
+    made, asked = desk_of(monkeypatch, 15.0, trouble, trouble, DONE)
+    assert made.tell("/jobs", b"", "k1") == {"number": 7}
     assert asked == ["k1"] * 3
     assert clock.slept == pytest.approx([0.2, 0.4])
 
@@ -191,34 +192,49 @@ def test_sent_again(trouble: Any, clock: Clock, monkeypatch: pytest.MonkeyPatch)
 @pytest.mark.parametrize("fault", [ssl.SSLCertVerificationError("not trusted"), ssl.SSLError("no TLS")])
 def test_not_sent_again(fault: Exception, clock: Clock, monkeypatch: pytest.MonkeyPatch) -> None:
     """A certificate that isn't trusted would be the same again."""
-    made, asked = wire_of(monkeypatch, fault)
+    made, asked = desk_of(monkeypatch, 15.0, fault)
     with pytest.raises(fizgruk.Unreachable):
-        made.look("/status", 15.0)
+        made.look("/status")
     assert (len(asked), clock.slept) == (1, [])
 
 
 @pytest.mark.parametrize("body", [b"", b"<html>", b"[]", b"7"])
 def test_200_that_is_no_desks(body: bytes, monkeypatch: pytest.MonkeyPatch) -> None:
-    made, _ = wire_of(monkeypatch, Answer(200, "OK", body))
+    made, _ = desk_of(monkeypatch, 0.0, Answer(200, "OK", body))
     with pytest.raises(fizgruk.Unreachable, match="the answer isn't a desk's$"):
-        made.look("/status", 0.0)
+        made.look("/status")
 
 
 @pytest.mark.parametrize("answer, told", [
     (Answer(409, "Conflict", b'{"code":22,"text":"no such boards"}'), (22, "no such boards", 409, "22 no such boards")),
     (Answer(403, "Forbidden", b'{"code":3,"text":"forbidden"}'), (3, "forbidden", 403, "3 forbidden: asked as ann")),
     (Answer(404, "Not Found", b"<html>"), (404, "Not Found", 404, "404 Not Found")),
-    (Answer(429, "Too Many", b'{"code":"x"}'), (429, "Too Many", 429, "429 Too Many")),
+    (Answer(400, "Bad", b'{"code":"x"}'), (400, "Bad", 400, "400 Bad")),
     (Answer(401, "No", b""), (401, "No", 401, "401 No: asked as ann, without a password")),
 ])
 def test_refusal(answer: Answer, told: Tuple[int, str, int, str], monkeypatch: pytest.MonkeyPatch) -> None:
     """A refusal has the desk's code and text, or the proxy's status, and says who asked where that matters."""
-    made, asked = wire_of(monkeypatch, answer)
+    made, asked = desk_of(monkeypatch, 15.0, answer)
     with pytest.raises(fizgruk.Refused) as refusal:
-        made.tell("/jobs", None, "k1", 15.0)
+        made.tell("/jobs", None, "k1")
     it = refusal.value
     assert (it.code, it.text, it.status, str(it)) == told
     assert len(asked) == 1
+
+
+@pytest.mark.parametrize("key", ["k1", None])
+def test_what_a_proxy_lets_wait(key: Optional[str], clock: Clock, monkeypatch: pytest.MonkeyPatch) -> None:
+    """What a proxy refuses since too much is asked (429) was never done, so it is sent again without a key too, and
+    refused in the end."""
+    limited = Answer(429, "Too Many Requests", b"<html>")
+    made, asked = desk_of(monkeypatch, 15.0, limited, limited, DONE)
+    assert made.tell("/jobs", b"", key) == {"number": 7}
+    assert len(asked) == 3
+    assert clock.slept == pytest.approx([0.2, 0.4])
+    made, asked = desk_of(monkeypatch, 1.0, limited)
+    with pytest.raises(fizgruk.Refused, match="^429 Too Many Requests$"):
+        made.tell("/jobs", b"", key)
+    assert len(asked) == 3
 
 
 @pytest.mark.parametrize("more, told", [
@@ -286,10 +302,10 @@ class RawHandler(socketserver.StreamRequestHandler):
                 return
 
 
-def raw(say: Say, timeout: float = 60.0) -> Tuple[Raw, Wire]:
+def raw(say: Say, timeout: float = 60.0, patience: float = 0.0) -> Tuple[Raw, Desk]:
     server = Raw(say)
     address = f"http://127.0.0.1:{server.server_address[1]}"
-    return server, Wire(settings.Settings(address, "ann", None, None, timeout))
+    return server, Desk(settings.Settings(address, "ann", None, None, timeout), patience)
 
 
 @pytest.mark.parametrize("cut", [
@@ -297,17 +313,17 @@ def raw(say: Say, timeout: float = 60.0) -> Tuple[Raw, Wire]:
 ])
 def test_answer_that_is_cut(cut: bytes, clock: Clock) -> None:
     """An answer that is cut in its head or in its body is none, and the request is sent again."""
-    server, made = raw(lambda number: cut if number == 0 else FULL)
-    assert made.tell("/jobs", b"", "k1", 15.0) == {"number": 7}
+    server, made = raw(lambda number: cut if number == 0 else FULL, patience=15.0)
+    assert made.tell("/jobs", b"", "k1") == {"number": 7}
     assert (len(server.connections), len(clock.slept)) == (2, 1)
 
 
 def test_silence_on_a_kept_connection() -> None:
     """A request that nobody answers in time isn't sent again over a new connection before its pause."""
     server, made = raw(lambda number: FULL if number == 0 else b"", 0.3)
-    assert made.look("/status", 0.0) == {"number": 7}
+    assert made.look("/status") == {"number": 7}
     with pytest.raises(fizgruk.Unreachable, match="timed out"):
-        made.look("/status", 0.0)
+        made.look("/status")
     assert (next(server.asked), len(server.connections)) == (2, 1)
     server.is_over.set()
 
@@ -316,8 +332,8 @@ def test_old_connection(monkeypatch: pytest.MonkeyPatch) -> None:
     """A connection that nobody used for long isn't used again."""
     server, made = raw(lambda _: FULL)
     for idle, connections in ((30.0, 1), (30.0, 1), (0.0, 2)):
-        monkeypatch.setattr(wire, "LONGEST_IDLE", idle)
-        made.look("/status", 0.0)
+        monkeypatch.setattr(calls, "LONGEST_IDLE", idle)
+        made.look("/status")
         assert len(server.connections) == connections
 
 
@@ -332,8 +348,8 @@ def test_threads_at_once() -> None:
 
     server, made = raw(say)
     with concurrent.futures.ThreadPoolExecutor(6) as pool:
-        assert list(pool.map(lambda _: made.look("/status", 0.0), range(6))) == [{"number": 7}] * 6
-    assert (len(server.connections), len(made._idle)) == (6, wire.MOST_IDLE)
+        assert list(pool.map(lambda _: made.look("/status"), range(6))) == [{"number": 7}] * 6
+    assert (len(server.connections), len(made._idle)) == (6, calls.MOST_IDLE)
     made.close()
     assert not made._idle
 
@@ -354,8 +370,8 @@ def test_answer_that_is_no_desks(ask: Callable[[fizgruk.Client], object]) -> Non
 # ---- waits
 
 
-class Desk:
-    """What a wait asks of a client: boards that change by the clock, and what was refreshed and when."""
+class Waited:
+    """What a wait asks of a desk: boards that change by the clock, and what was refreshed and when."""
 
     def __init__(self, clock: Clock, boards: Callable[[float], List[Dict[str, Any]]]):
         self.clock, self._boards = clock, boards
@@ -363,54 +379,50 @@ class Desk:
         self.place, self.state = True, "waiting"
         self.fault: Optional[Exception] = None
 
-    def of_patience(self, _: float) -> Desk:
+    def of_patience(self, _: float) -> Waited:
         return self
 
-    def boards(self) -> List[models.BoardView]:
-        if self.fault:
+    def look(self, path: str) -> Dict[str, Any]:
+        if path == "/boards" and self.fault:
             raise self.fault
-        return [models.view_of(models.BoardView, {**BOARD, **it}) for it in self._boards(self.clock.now - 1000)]
-
-    def queue(self) -> List[models.Claim]:
-        rows = [models.Claim(3, "group", "bob", 90, 2), models.Claim(7, "reservation", "ann", 50, 1)]
-        return rows if self.place else rows[:1]
-
-    def reservations(self) -> List[models.ReservationView]:
+        queue = [{"number": 3, "kind": "group", "owner": "bob"}, {"number": 7, "kind": "reservation", "owner": "ann"}]
         states = [(7, self.state, "ann"), (8, "acquired", "bob")]
-        kinds = [(number, cast(Any, state), owner) for number, state, owner in states if state]
-        return [models.ReservationView(number, state, "", (), owner, 50, 0) for number, state, owner in kinds]
+        rows = [{"number": number, "state": state, "owner": owner, "tags": []} for number, state, owner in states if state]
+        views: Dict[str, Dict[str, Any]] = {
+            "/boards": {"boards": [{**BOARD, **it} for it in self._boards(self.clock.now - 1000)]},
+            "/queue": {"queue": queue if self.place else queue[:1]}, "/reservations": {"reservations": rows},
+            "/types": {"types": []}, "/jobs/9": {"owner": "eve"},
+        }
+        return views[path]
 
-    def job(self, number: int) -> Any:
-        return models.JobView(number, number, "ordinary", "Running", "", "b1", "bbb", (), "", "eve", 50, "")
-
-    def refresh(self, number: int) -> None:
-        assert number == 7
+    def nudge(self, path: str) -> None:
+        assert path == "/reservations/7/refresh"
         self.refreshed.append(self.clock.now - 1000)
 
 
-def waits_for(desk: Desk, timeout: Optional[float] = None, tell: waiting.Tell = print) -> models.BoardView:
-    wait = waiting.Wait(cast(fizgruk.Client, desk), "no board", timeout, 2.0, tell)
+def waits_for(desk: Waited, timeout: Optional[float] = None, tell: waiting.Tell = print) -> Dict[str, Any]:
+    wait = waiting.Wait(cast(Desk, desk), "no board", timeout, 2.0, tell)
     return waiting.wait_for_board(wait, 7, ("hdmi",))
 
 
 def test_refreshes(clock: Clock) -> None:
     """A reservation that waits is refreshed each 20 s, which is well within its minute."""
-    desk = Desk(clock, lambda now: [{"holder": "reservation 7" if now >= 130 else "job 9"}])
-    assert waits_for(desk).name == "b1"
+    desk = Waited(clock, lambda now: [{"holder": "reservation 7" if now >= 130 else "job 9"}])
+    assert waits_for(desk)["name"] == "b1"
     assert desk.refreshed == [20, 40, 60, 80, 100, 120]
 
 
 def test_timeout(clock: Clock) -> None:
     """A wait ends at its timeout, neither before nor a pause later, and says why."""
     with pytest.raises(fizgruk.TimedOut, match="^no board within 5 s: reservation 7 is waiting, place 2 of 2 "):
-        waits_for(Desk(clock, lambda _: [{"holder": "job 9"}]), 5)
+        waits_for(Waited(clock, lambda _: [{"holder": "job 9"}]), 5)
     assert clock.slept == [2.0, 2.0, 1.0]
 
 
 def test_silence_while_it_waits(clock: Clock) -> None:
     """A desk that is away is waited for, and that is told."""
     said: List[str] = []
-    desk = Desk(clock, lambda _: [])
+    desk = Waited(clock, lambda _: [])
     desk.fault = fizgruk.Unreachable("gone")
     with pytest.raises(fizgruk.TimedOut):
         waits_for(desk, 5, said.append)
@@ -420,7 +432,7 @@ def test_silence_while_it_waits(clock: Clock) -> None:
 @pytest.mark.parametrize("state, told", [("expired", "is expired$"), ("canceled", "is canceled$"), ("", "is unknown$")])
 def test_reservation_that_ended(state: str, told: str, clock: Clock) -> None:
     """One that isn't in the queue, and holds no board, has ended."""
-    desk = Desk(clock, lambda _: [])
+    desk = Waited(clock, lambda _: [])
     desk.place, desk.state = False, state
     with pytest.raises(fizgruk.ReservationEnded, match=told):
         waits_for(desk)
@@ -428,9 +440,9 @@ def test_reservation_that_ended(state: str, told: str, clock: Clock) -> None:
 
 def test_allocated_between_looks(clock: Clock) -> None:
     """One that left the queue while the boards were looked at is looked at again."""
-    desk = Desk(clock, lambda now: [{"holder": "reservation 7" if now >= 2 else "none"}])
+    desk = Waited(clock, lambda now: [{"holder": "reservation 7" if now >= 2 else "none"}])
     desk.place, desk.state = False, "allocated"
-    assert waits_for(desk).name == "b1"
+    assert waits_for(desk)["name"] == "b1"
 
 
 @pytest.mark.parametrize("code, kind", [
@@ -438,79 +450,49 @@ def test_allocated_between_looks(clock: Clock) -> None:
 ])
 def test_refused_refresh(code: int, kind: Type[Exception], clock: Clock, monkeypatch: pytest.MonkeyPatch) -> None:
     """A refresh that is refused since the reservation has ended says so; another refusal is raised as it is."""
-    desk = Desk(clock, lambda _: [{"holder": "job 9"}])
+    desk = Waited(clock, lambda _: [{"holder": "job 9"}])
 
-    def refuse(_: int) -> None:
-        raise fizgruk.Refused(code, "no", 409)
+    def refuse(_: str) -> None:
+        raise fizgruk.Refused(409, code, "no")
 
-    monkeypatch.setattr(desk, "refresh", refuse)
+    monkeypatch.setattr(desk, "nudge", refuse)
     with pytest.raises(kind):
         waits_for(desk)
-
-
-BAD, JOB, HELD = {"health": "Bad"}, {"holder": "job 9"}, {"holder": "reservation 8"}
-
-
-@pytest.mark.parametrize("boards, told", [
-    ([], "no board fits"),
-    ([{}], ""),
-    ([JOB, {}], ""),
-    ([JOB], "b0 is held by job 9 of eve"),
-    ([HELD, JOB], "b0 is held by reservation 8 of bob, b1 is held by job 9 of eve"),
-    ([BAD, {"health": "Maintenance"}, {"health": "Retired"}], "b0 is Bad, b1 is in Maintenance, b2 is Retired"),
-    ([BAD, JOB], "b1 is held by job 9 of eve, b0 is Bad"),
-    ([BAD] * 4, "b0 is Bad, b1 is Bad, b2 is Bad, b3 is Bad"),
-    ([BAD] * 6, "b0 is Bad, b1 is Bad, b2 is Bad, b3 is Bad, 2 more"),
-    ([{"holder": "reservation 99"}], "b0 is held by reservation 99 of nobody"),
-])
-def test_reason(boards: List[Dict[str, Any]], told: str, clock: Clock) -> None:
-    """Why no board is free: who holds each that fits, and which are out; nothing where one may be free."""
-    rows = [{**it, "name": f"b{place}"} for place, it in enumerate(boards)]
-    desk = Desk(clock, lambda _: rows)
-    wait = waiting.Wait(cast(fizgruk.Client, desk), "no board", None, 2.0, print)
-    assert waiting.reason(wait, desk.boards()) == told
 
 
 # ---- boards that are given back
 
 
 class Giver:
-    """A client that reserves 7, and whose cancel does as it is told, one fault after another."""
+    """A desk that reserves 7, and whose cancel does as it is told, one fault after another; with a code, its acquire is
+    refused."""
 
-    def __init__(self, *faults: Optional[BaseException]):
-        self.faults = list(faults)
+    def __init__(self, *faults: Optional[BaseException], code: int = 0):
+        self.faults, self.code = list(faults), code
         self.keys: List[str] = []
+        self.troubles: List[str] = []
+        self.tell_trouble = self.troubles.append
 
     def of_patience(self, _: float) -> Giver:
         return self
 
-    def reserve(self, *_: str, **__: Any) -> int:
-        return 7
-
-    def cancel_reservation(self, number: int, key: str) -> None:
-        assert number == 7
-        self.keys.append(key)
-        fault = self.faults.pop(0) if self.faults else None
-        if fault:
-            raise fault
+    def tell(self, path: str, body: object = None, key: str = "") -> Dict[str, Any]:
+        if path.endswith("/acquire") and self.code:
+            raise fizgruk.Refused(409, self.code, "no")
+        if path.endswith("/cancel"):
+            assert path == "/reservations/7/cancel"
+            self.keys.append(key)
+            fault = self.faults.pop(0) if self.faults else None
+            if fault:
+                raise fault
+        return {"number": 7}
 
 
 def hold_of(giver: Giver) -> holding.Hold:
-    hold = holding.Hold(cast(fizgruk.Client, giver), (), None, None, 2.0, print)
-    hold._number, hold._process = 7, os.getpid()
+    hold = holding.Hold(cast(Desk, giver), (), None, None, 2.0, print)
+    hold._reservation.number, hold._process = 7, os.getpid()
     holding.OPEN.add(hold)
     return hold
-
-
-class Taker(Giver):
-    """A client whose acquire is refused with a code."""
-
-    def __init__(self, code: int):
-        super().__init__()
-        self.code, self.patience = code, 0.0
-
-    def acquire(self, _: int) -> None:
-        raise fizgruk.Refused(self.code, "no", 409)
 
 
 @pytest.mark.parametrize("code, kind", [
@@ -518,13 +500,11 @@ class Taker(Giver):
 ])
 def test_board_that_comes_too_late(code: int, kind: Type[Exception], monkeypatch: pytest.MonkeyPatch) -> None:
     """A reservation that ends before its board is acquired is told as ended; another refusal as it is."""
-    board = models.view_of(models.BoardView, BOARD)
-    monkeypatch.setattr(holding, "wait_for_board", lambda *_: board)
-    monkeypatch.setattr(holding, "Wait", lambda *_: None)
-    taker = Taker(code)
+    monkeypatch.setattr(holding, "wait_for_board", lambda *_: BOARD)
+    giver = Giver(code=code)
     with pytest.raises(kind):
-        holding.Hold(cast(fizgruk.Client, taker), ("hdmi",), None, None, 2.0, print).__enter__()
-    assert len(taker.keys) == 1
+        holding.Hold(cast(Desk, giver), ("hdmi",), None, None, 2.0, print).__enter__()
+    assert len(giver.keys) == 1
 
 
 def test_given_back_again(clock: Clock) -> None:
@@ -535,13 +515,14 @@ def test_given_back_again(clock: Clock) -> None:
     with pytest.raises(KeyboardInterrupt):
         hold.end()
     assert (len(giver.keys), len(set(giver.keys)), clock.slept) == (5, 1, [1.0, 1.0, 1.0])
+    assert giver.troubles == ["gone", "gone"], "it is told, and anew after the interrupt"
     assert hold not in holding.OPEN
 
 
 @pytest.mark.parametrize("code", [31, 32])
 def test_ended_already(code: int, clock: Clock) -> None:
     """A reservation that has ended holds nothing."""
-    giver = Giver(fizgruk.Refused(code, "ended", 409))
+    giver = Giver(fizgruk.Refused(409, code, "ended"))
     hold_of(giver).end()
     assert len(giver.keys) == 1
 
@@ -555,14 +536,14 @@ def test_not_given_back(clock: Clock) -> None:
 
 def test_not_given_back_after_a_fault(caplog: pytest.LogCaptureFixture, clock: Clock) -> None:
     """Where something else was raised before, that goes on, and what is left is logged."""
-    hold_of(Giver(fizgruk.Refused(60, "store fault", 503))).end(ValueError())
+    hold_of(Giver(fizgruk.Refused(503, 60, "store fault"))).end(ValueError())
     assert caplog.messages == ["60 store fault: reservation 7 is left: desk cancel-reservation 7"]
 
 
 def test_end_of_the_program(caplog: pytest.LogCaptureFixture, clock: Clock) -> None:
     """At the end of the program what is held still is given back, and what can't be is logged."""
     given = Giver()
-    for it in (given, Giver(fizgruk.Refused(60, "store fault", 503))):
+    for it in (given, Giver(fizgruk.Refused(503, 60, "store fault"))):
         hold_of(it)
     with caplog.at_level(logging.ERROR):
         holding.end_all()

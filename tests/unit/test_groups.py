@@ -12,8 +12,9 @@ from typing import Any, Dict, List, Optional, Union
 
 import pytest
 from farm_dispatch import cages, folders, groups, past, strangers
-from fizgruk import calls, records, submissions
+from fizgruk import records, submissions
 from fizgruk._tools import disk
+from fizgruk.errors import Code, Refused
 from served import wait_until
 
 NOW = 1_800_000_000
@@ -33,14 +34,14 @@ class Desk:
     """A desk with these jobs; one that is a refusal is refused."""
 
     def __init__(self) -> None:
-        self.jobs: Dict[int, Union[Dict[str, Any], calls.Refused]] = {7: VIEW}
+        self.jobs: Dict[int, Union[Dict[str, Any], Refused]] = {7: VIEW}
         self.next = 8
 
     def look(self, path: str) -> Dict[str, Any]:
         if path == "/status":
             return {"next": self.next, "clock": NOW}
-        it = self.jobs.get(int(path.rpartition("/")[2]), calls.Refused(404, calls.NO_JOB, "no such job"))
-        if isinstance(it, calls.Refused):
+        it = self.jobs.get(int(path.rpartition("/")[2]), Refused(404, Code.NO_SUCH_JOB, "no such job"))
+        if isinstance(it, Refused):
             raise it
         return it
 
@@ -391,8 +392,8 @@ def test_where_the_desk_doesnt_know_the_job_any_more_its_end_here_counts(lab: La
 
 def test_a_desk_that_refuses_is_asked_again_before_anything_is_written(lab: Lab) -> None:
     lab.prepares()
-    lab.desk.jobs[7] = calls.Refused(401, 0, "no")
-    with pytest.raises(calls.Refused, match="401"):
+    lab.desk.jobs[7] = Refused(401, 0, "no")
+    with pytest.raises(Refused, match="401"):
         lab.records()
     assert lab.lines() == []
 
@@ -401,8 +402,8 @@ def test_a_folder_of_an_earlier_version_is_described_by_the_desk(lab: Lab) -> No
     lab.prepares()
     os.unlink(lab.group.files.file(folders.ABOUT))
     assert lab.records()["name"] == "boot"
-    lab.desk.jobs[7] = calls.Refused(401, 0, "no")
-    with pytest.raises(calls.Refused, match="401"):
+    lab.desk.jobs[7] = Refused(401, 0, "no")
+    with pytest.raises(Refused, match="401"):
         lab.records()
     del lab.desk.jobs[7]
     lab.past.record(7, lab.group.files.state, "status 0", "Complete")

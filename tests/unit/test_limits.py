@@ -73,8 +73,6 @@ def test_a_table_that_cant_be_read_leaves_the_default_and_a_remark(text: str) ->
     assert found.remarks[0].endswith(": the time limit is 1 hour, the default")
 
 
-def test_a_python_that_reads_no_toml_says_so(monkeypatch: pytest.MonkeyPatch) -> None:
-    monkeypatch.setattr(limits, "tomllib", None)
-    assert limit_of("") == Limit(HOUR, True)
-    found = limit_of("[timeouts]\njob = '2 hours'\n")
-    assert (found.seconds, len(found.remarks)) == (HOUR, 1)
+def test_a_table_is_read_as_the_desk_reads_it() -> None:
+    """By TOML 1.1, in which an inline table goes over several lines and may end with a comma."""
+    assert limit_of("timeouts = {\n  job = {\n    minutes = 90, # long\n  },\n}\n") == Limit(1.5 * HOUR)

@@ -5,8 +5,8 @@ from typing import Any, Dict, List, Optional, Tuple
 
 import pytest
 from farm_dispatch import members, retries
-from fizgruk import calls
-from fizgruk._tools import settings
+from fizgruk import calls, settings
+from fizgruk.errors import Code, Refused
 
 OWN = settings.Settings("http://127.0.0.1:1", "dispatcher", None, None, 5.0)
 
@@ -18,7 +18,7 @@ class Desk(calls.Desk):
         super().__init__(own, patience)
         self.jobs: Dict[int, Dict[str, Any]] = {}
         self.boards: List[Dict[str, Any]] = []
-        self.refusal: Optional[calls.Refused] = None
+        self.refusal: Optional[Refused] = None
 
     def job(self, number: int, **more: Any) -> None:
         row = {"number": number, "group": number, "role": None, "state": "Scheduled", "board": f"b{number}"}
@@ -32,7 +32,7 @@ class Desk(calls.Desk):
             raise self.refusal
         number = int(path.rpartition("/")[2])
         if number not in self.jobs:
-            raise calls.Refused(404, calls.NO_JOB, "no such job")
+            raise Refused(404, Code.NO_SUCH_JOB, "no such job")
         return self.jobs[number]
 
 
@@ -52,25 +52,25 @@ def test_the_jobs_that_hold_boards_are_told_from_reservations() -> None:
 
 
 def test_a_group_has_all_its_members_and_no_more(desk: Desk) -> None:
-    assert [it["number"] for it in members.all_of(desk, 5)] == [5, 6]
-    assert [it["number"] for it in members.all_of(desk, 7)] == [7]
+    assert [it["number"] for it in calls.members_of(desk, 5)] == [5, 6]
+    assert [it["number"] for it in calls.members_of(desk, 7)] == [7]
 
 
 def test_the_last_group_of_a_desk_ends_with_its_last_job(desk: Desk) -> None:
     del desk.jobs[7]
-    assert [it["number"] for it in members.all_of(desk, 5)] == [5, 6]
+    assert [it["number"] for it in calls.members_of(desk, 5)] == [5, 6]
 
 
 def test_no_more_is_asked_than_a_group_may_have(desk: Desk) -> None:
     for number in range(5, 20):
         desk.job(number, role="a", group=5)
-    assert [it["number"] for it in members.all_of(desk, 5)] == [5, 6, 7, 8]
+    assert [it["number"] for it in calls.members_of(desk, 5)] == [5, 6, 7, 8]
 
 
 def test_a_desk_that_doesnt_let_it_in_isnt_taken_for_the_end_of_a_group(desk: Desk) -> None:
-    desk.refusal = calls.Refused(401, 0, "no")
-    with pytest.raises(calls.Refused, match="401"):
-        members.all_of(desk, 5)
+    desk.refusal = Refused(401, 0, "no")
+    with pytest.raises(Refused, match="401"):
+        calls.members_of(desk, 5)
 
 
 def test_a_refusal_behind_the_first_member_is_raised(desk: Desk, monkeypatch: pytest.MonkeyPatch) -> None:
@@ -78,12 +78,12 @@ def test_a_refusal_behind_the_first_member_is_raised(desk: Desk, monkeypatch: py
 
     def look(path: str) -> Dict[str, Any]:
         if path.endswith("/6"):
-            raise calls.Refused(409, calls.FULL, "full")
+            raise Refused(409, Code.FULL, "full")
         return plain(path)
 
     monkeypatch.setattr(desk, "look", look)
-    with pytest.raises(calls.Refused, match="full"):
-        members.all_of(desk, 5)
+    with pytest.raises(Refused, match="full"):
+        calls.members_of(desk, 5)
 
 
 @pytest.mark.parametrize("more", [{"state": "Running"}, {"board": None}])
@@ -128,7 +128,7 @@ class Submits:
         def tell(desk: calls.Desk, path: str, body: calls.Body = None, key: Optional[str] = None) -> Dict[str, Any]:
             assert path == "/jobs" and isinstance(body, bytes)
             if b"refused" in body:
-                raise calls.Refused(409, calls.FULL, "the farm is full")
+                raise Refused(409, Code.FULL, "the farm is full")
             self.told.append((desk.user, body.decode(), key))
             return {"number": 8}
 

@@ -9,8 +9,8 @@ from typing import Any, List, Optional
 
 import pytest
 from farm_dispatch import faults, folders, logs, room, strangers
-from fizgruk import calls
 from fizgruk._tools import disk as disk_module, passes
+from fizgruk.errors import Code, Refused
 
 FULL = OSError(errno.ENOSPC, "No space left on device")
 
@@ -191,7 +191,7 @@ def test_a_groups_own_fault_ends_it_once_it_has_stayed(found: Faults, tmp_path: 
 
 @pytest.mark.parametrize("how", ["clear", "keep"])
 def test_a_fault_that_went_begins_anew(found: Faults, how: str) -> None:
-    fault = calls.Refused(409, 21, "wrong state")
+    fault = Refused(409, 21, "wrong state")
     found.is_over(1, fault, 3)
     found.now += faults.STAYS
     found.clear(1) if how == "clear" else found.keep([2])
@@ -202,7 +202,7 @@ def test_a_fault_that_went_begins_anew(found: Faults, how: str) -> None:
 
 
 def test_a_fault_that_all_groups_meet_ends_none(found: Faults) -> None:
-    fault = calls.Refused(409, 21, "wrong state")
+    fault = Refused(409, 21, "wrong state")
     for _ in range(2):
         assert not any(found.is_over(it, fault, 2) for it in (1, 2))
         found.now += faults.STAYS
@@ -210,7 +210,7 @@ def test_a_fault_that_all_groups_meet_ends_none(found: Faults) -> None:
 
 
 @pytest.mark.parametrize("fault", [
-    FULL, OSError(errno.EDQUOT, "quota"), calls.Refused(502, 0, "a proxy's"), calls.Refused(409, calls.FULL, "full"),
+    FULL, OSError(errno.EDQUOT, "quota"), Refused(502, 0, "a proxy's"), Refused(409, Code.FULL, "full"),
 ])
 def test_what_is_everybodys_is_no_groups_own(found: Faults, fault: Any) -> None:
     found.is_over(1, fault, 3)

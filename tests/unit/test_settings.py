@@ -6,8 +6,10 @@ import os
 from typing import Any
 
 import pytest
-from fizgruk._tools import settings
-from fizgruk._tools.settings import BadSettings, Settings
+from fizgruk import settings
+from fizgruk._tools import asking
+from fizgruk.errors import BadSettings
+from fizgruk.settings import Settings
 
 
 class BadWords(Exception):
@@ -42,7 +44,7 @@ class Around:
             raise BadWords(text)
 
         given: Any = {"config": None, "bad_words": bad_words, **options}
-        return settings.read_settings(section, argparse.Namespace(**given), user)
+        return asking.settings_of(section, argparse.Namespace(**given), user)
 
 
 @pytest.fixture

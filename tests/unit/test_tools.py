@@ -14,11 +14,13 @@ import pytest
 from farm_backup import copying, keeping, main as backup
 from farm_dispatch import cages, main as dispatch
 from farm_metrics import main as metrics
-from fizgruk import calls, history, wants
-from fizgruk._tools import interrupts, settings
-from fizgruk.desk import holding, main as client, past_jobs, waiting
+from fizgruk import calls, waiting, wants
+from fizgruk._tools import interrupts
+from fizgruk.desk import holding, main as client, past_jobs, views, waiting as desk_waiting
+from fizgruk.errors import BadSettings, Code, Refused, Unreachable
+from fizgruk.holding import Reservation
 
-NO = calls.Refused(401, 0, "no")
+NO = Refused(401, 0, "no")
 
 
 def refused(capsys: pytest.CaptureFixture[str], call: Callable[[Sequence[str]], object], *words: str) -> str:
@@ -69,7 +71,7 @@ class Copies:
     def look(self, path: str) -> Dict[str, Any]:
         assert path == "/status"
         if self.answered < 0:
-            raise calls.NoAnswer("refused")
+            raise Unreachable("refused", "http://desk")
         return {"count": self.answered}
 
     def runs(self, *words: str) -> int:
@@ -190,7 +192,7 @@ def test_outputs_that_arent_there_are_let_go(tmp_path: pathlib.Path) -> None:
 class Desk:
     """A desk that answers each command alike, or refuses; of its views it shows those of the test."""
 
-    def __init__(self, *refusals: calls.Refused, **views: Any) -> None:
+    def __init__(self, *refusals: Refused, **views: Any) -> None:
         self.refusals, self.views = list(refusals), views
         self.told: List[str] = []
         self.user = "ann"
@@ -218,9 +220,11 @@ def called(command: Callable[..., int], desk: Desk, **options: Any) -> int:
 def test_a_programs_answers_are_objects(capsys: pytest.CaptureFixture[str], monkeypatch: pytest.MonkeyPatch) -> None:
     assert called(client.cancel_job, Desk()) == 0
     assert called(client.change_reservation, Desk(), action="release") == 0
-    monkeypatch.setattr(waiting, "wait_for_board", lambda *_: {"name": "b1"})
-    reservation: Any = types.SimpleNamespace(desk=None, tags=[], acquire=lambda _: None)
-    options = argparse.Namespace(json=True, acquire=True)
+    monkeypatch.setattr(client, "wait_for_board", lambda *_: {"name": "b1"})
+    desk: Any = Desk()
+    desk.of_patience = lambda _: desk
+    reservation: Any = types.SimpleNamespace(desk=desk, tags=[], acquire=lambda _: None)
+    options = argparse.Namespace(json=True, acquire=True, clock=None, every=2)
     assert client.await_board(reservation, 7, options) == 0
     assert [json.loads(it) for it in capsys.readouterr().out.splitlines()] == [
         {"number": 7}, {"number": 7}, {"board": "b1", "number": 7}]
@@ -230,7 +234,7 @@ def test_a_programs_answers_are_objects(capsys: pytest.CaptureFixture[str], monk
     (client.cancel_job, {}), (client.change_reservation, {"action": "acquire"}), (client.wait_for, {}),
 ])
 def test_a_refusal_that_isnt_the_states_is_told_as_it_is(command: Callable[..., int], options: Dict[str, Any]) -> None:
-    with pytest.raises(calls.Refused, match="^401 no$"):
+    with pytest.raises(Refused, match="^401 no$"):
         called(command, Desk(NO, jobs=NO), **options)
 
 
@@ -238,15 +242,15 @@ def test_a_refusal_that_isnt_the_states_is_told_as_it_is(command: Callable[..., 
     ("Finished", "Infra", "job 7 is Finished (Infra)"), ("Canceling", "", "job 7 is Canceling"),
 ])
 def test_a_cancel_that_comes_too_late_says_what_became_of_the_job(state: str, result: str, told: str) -> None:
-    desk = Desk(calls.Refused(409, calls.WRONG_JOB_STATE, "wrong state"), jobs={"state": state, "result": result})
-    with pytest.raises(calls.Refused, match=f"wrong state: {told.replace('(', '.').replace(')', '.')}$"):
+    desk = Desk(Refused(409, Code.WRONG_JOB_STATE, "wrong state"), jobs={"state": state, "result": result})
+    with pytest.raises(Refused, match=f"wrong state: {told.replace('(', '.').replace(')', '.')}$"):
         called(client.cancel_job, desk)
 
 
 def test_a_change_that_comes_too_late_says_what_became_of_the_reservation() -> None:
     rows = {"reservations": [{"number": 7, "state": "expired"}]}
-    desk = Desk(calls.Refused(409, calls.WRONG_RESERVATION_STATE, "wrong state"), reservations=rows)
-    with pytest.raises(calls.Refused, match="wrong state: reservation 7 is expired$"):
+    desk = Desk(Refused(409, Code.WRONG_RESERVATION_STATE, "wrong state"), reservations=rows)
+    with pytest.raises(Refused, match="wrong state: reservation 7 is expired$"):
         called(client.change_reservation, desk, action="release")
 
 
@@ -254,15 +258,15 @@ def test_a_desk_that_doesnt_let_it_in_shows_no_jobs(monkeypatch: pytest.MonkeyPa
     def fails(*_: object) -> None:
         raise NO
 
-    monkeypatch.setattr(history, "history_of", fails)
+    monkeypatch.setattr(views, "history_of", fails)
     desk = Desk(queue={"queue": []}, boards={"boards": []})
-    with pytest.raises(calls.Refused, match="401"):
+    with pytest.raises(Refused, match="401"):
         called(past_jobs.list_jobs, desk, mine=False, last=None)
 
 
 def test_how_wide_a_line_is_where_there_is_no_terminal(monkeypatch: pytest.MonkeyPatch) -> None:
     monkeypatch.setattr(sys, "stderr", types.SimpleNamespace(fileno=lambda: -1))
-    assert waiting.columns() == waiting.WIDTH
+    assert desk_waiting.columns() == desk_waiting.WIDTH
 
 
 @pytest.mark.parametrize("state, queue, told", [
@@ -274,8 +278,8 @@ def test_a_wait_says_where_a_job_stands(monkeypatch: pytest.MonkeyPatch, state: 
     desk.of_patience = lambda seconds: desk
     monkeypatch.setattr(waiting.Wait, "reason", lambda wait, lab, wanted: "")
     monkeypatch.setattr(wants, "want_of_job", lambda view: None)
-    clock: Any = None
-    assert waiting.state_and_place(waiting.Wait(desk, clock), [{"state": state, "number": 7, "group": 7}]) == told
+    wait = waiting.Wait(desk, "", None, 2.0, print)
+    assert waiting.state_and_place(wait, [{"state": state, "number": 7, "group": 7}]) == told
 
 
 # ---- a command with a board
@@ -287,19 +291,19 @@ class Held:
     def __init__(self, monkeypatch: pytest.MonkeyPatch) -> None:
         self.back: List[object] = []
         self.is_given, self.number = True, 7
-        monkeypatch.setattr(holding.Reservation, "give_back", self.give_back)
+        monkeypatch.setattr(holding, "is_given_back", self.give_back)
         blocks: Any = types.SimpleNamespace(SIG_BLOCK=0, pthread_sigmask=lambda how, signals: set())
         monkeypatch.setattr(holding, "signal", blocks)
         self.monkeypatch = monkeypatch
 
-    def give_back(self) -> bool:
+    def give_back(self, _: Reservation) -> bool:
         self.back.append(True)
         return self.is_given
 
     def runs(self, comes: Any, number: Optional[int] = 7) -> int:
         """The status where this comes of the run."""
 
-        def ran(reservation: holding.Reservation, options: argparse.Namespace) -> int:
+        def ran(reservation: Reservation, options: argparse.Namespace) -> int:
             reservation.number = number
             if isinstance(comes, BaseException):
                 raise comes
@@ -354,14 +358,14 @@ def test_a_command_that_cant_be_run_is_told_as_a_shell_does(command: str, fault:
     ({"clock": "none"}, "clock: 'none' is neither synchronized nor any"),
 ])
 def test_settings_that_say_nothing_are_told(more: Dict[str, Optional[str]], told: str) -> None:
-    with pytest.raises(settings.BadSettings, match=f"^{told}$"):
+    with pytest.raises(BadSettings, match=f"^{told}$"):
         dispatch.use(argparse.Namespace(), {**dict.fromkeys(dispatch.MORE), "cage": "none", **more})
 
 
 def test_a_cage_that_cant_be_made_is_told(monkeypatch: pytest.MonkeyPatch) -> None:
     monkeypatch.setattr(cages, "can_make", lambda form: form == "none")
     assert dispatch.cage_of("none") == "none"
-    with pytest.raises(settings.BadSettings, match="^cage: no cgroup can be made here$"):
+    with pytest.raises(BadSettings, match="^cage: no cgroup can be made here$"):
         dispatch.cage_of("cgroup")
 
 

@@ -6,7 +6,6 @@ import time
 from typing import Any, Dict, List, Optional
 
 import pytest
-from fizgruk import history
 from fizgruk.desk import usage, views
 
 NOW = 1_800_000_000
@@ -27,7 +26,7 @@ def used(monkeypatch: pytest.MonkeyPatch, rows: List[Dict[str, Any]], by: str = 
         def rows() -> List[Dict[str, Any]]:
             return rows
 
-    monkeypatch.setattr(history, "history_of", lambda desk, options: Past)
+    monkeypatch.setattr(views, "history_of", lambda desk, options: Past)
     monkeypatch.setattr(views, "show", lambda options, said, found, columns: shown.append(found))
     usage.show_usage(None, argparse.Namespace(by=by, since=since))  # type: ignore[arg-type]
     return shown[0]

@@ -1,22 +1,23 @@
 """Waits for a reservation's board, and what is given back, by a clock of the test's own."""
 from __future__ import annotations
 
-import argparse
 import time
 from typing import Any, Dict, List, Optional, Tuple, cast
 
 import pytest
-from fizgruk import calls
-from fizgruk.desk import clocks, holding, waiting
+from fizgruk import calls, holding, waiting
+from fizgruk.desk import clocks, holding as desk_holding, waiting as desk_waiting
+from fizgruk.errors import Refused, ReservationEnded, Unreachable
 
 LEASE = 60  # seconds for which a reservation lives that isn't refreshed
-EXPIRED = calls.Refused(409, 31, "expired")
+EXPIRED = Refused(409, 31, "expired")
 
 
 class Desk:
     """A desk of one reservation, 7, which has its board after some seconds; `faults` come in place of answers."""
 
     timeout = 30.0
+    tell_trouble = staticmethod(lambda trouble: None)
 
     def __init__(self, monkeypatch: pytest.MonkeyPatch) -> None:
         self.now = 1000.0
@@ -73,8 +74,8 @@ def desk(monkeypatch: pytest.MonkeyPatch) -> Desk:
 
 
 def wait(desk: Desk, every: float = 2) -> Dict[str, Any]:
-    options = argparse.Namespace(clock=clocks.Watch(cast(calls.Desk, desk)), every=every)
-    return waiting.wait_for_board(cast(calls.Desk, desk), 7, [], options)
+    with desk_waiting.Wait(cast(calls.Desk, desk), clocks.Watch(cast(calls.Desk, desk)), every) as waits:
+        return waiting.wait_for_board(waits, 7, [])
 
 
 @pytest.mark.parametrize("every", [0.05, 2, 19, 60])
@@ -107,7 +108,7 @@ def test_a_board_that_comes_between_two_views_is_its_own(
 def test_a_job_that_gets_its_board_between_two_views_isnt_its_own_reason(desk: Desk) -> None:
     desk.state, desk.queue = "canceled", [{"kind": "group", "number": 1}]
     job: Dict[str, Any] = {"number": 1, "group": 1, "state": "Submitted", "type": "bbb", "tags": []}
-    waits = waiting.Wait(cast(calls.Desk, desk), clocks.Watch(cast(calls.Desk, desk)))
+    waits = desk_waiting.Wait(cast(calls.Desk, desk), clocks.Watch(cast(calls.Desk, desk)), 2)
     assert waiting.state_and_place(waits, [job]) == "Submitted, place 1 of 1 in the queue"
     other = {**job, "number": 2}
     assert waiting.state_and_place(waits, [other]).endswith(": 1 board fits, held by job 1 of bob")
@@ -115,25 +116,25 @@ def test_a_job_that_gets_its_board_between_two_views_isnt_its_own_reason(desk: D
 
 def test_a_reservation_that_expired_is_gone(desk: Desk) -> None:
     desk.faults = [EXPIRED]
-    with pytest.raises(waiting.Gone, match="^reservation 7 has expired$"):
+    with pytest.raises(ReservationEnded, match="^reservation 7 has expired$"):
         wait(desk)
 
 
 @pytest.mark.parametrize("state", ["expired", "canceled"])
 def test_a_reservation_that_ended_is_gone(desk: Desk, state: str) -> None:
     desk.state = state
-    with pytest.raises(waiting.Gone, match=f"^reservation 7 is {state}$"):
+    with pytest.raises(ReservationEnded, match=f"^reservation 7 is {state}$"):
         wait(desk)
 
 
 def test_another_refusal_of_a_refresh_is_the_desks(desk: Desk) -> None:
-    desk.faults = [calls.Refused(403, 3, "forbidden")]
-    with pytest.raises(calls.Refused, match="^3 forbidden$"):
+    desk.faults = [Refused(403, 3, "forbidden")]
+    with pytest.raises(Refused, match="^3 forbidden$"):
         wait(desk)
 
 
 def test_a_desk_that_gives_no_answer_is_asked_again(desk: Desk, capsys: pytest.CaptureFixture[str]) -> None:
-    desk.faults = [calls.NoAnswer("gone"), calls.NoAnswer("gone")]
+    desk.faults = [Unreachable("gone"), Unreachable("gone")]
     assert wait(desk)["name"] == "b1"
     assert capsys.readouterr().err.count("no answer from the desk: gone\n") == 1
     assert len(desk.refreshes) >= 2
@@ -147,40 +148,40 @@ def reservation_at(desk: Desk) -> holding.Reservation:
 
 
 def test_a_reservation_whose_answer_was_lost_is_asked_for_under_its_key_to_be_canceled(desk: Desk) -> None:
-    desk.faults = [calls.NoAnswer("lost")]
+    desk.faults = [Unreachable("lost")]
     reservation = reservation_at(desk)
-    with pytest.raises(calls.NoAnswer):
+    with pytest.raises(Unreachable):
         reservation.ask()
-    assert reservation.give_back()
+    assert desk_holding.is_given_back(reservation)
     assert [path for path, _ in desk.told] == ["/reservations", "/reservations", "/reservations/7/cancel"]
     first, again, cancel = (key for _, key in desk.told)
     assert first == again is not None and cancel not in (None, first)
 
 
-@pytest.mark.parametrize("fault", [EXPIRED, calls.Refused(409, 32, "wrong reservation state")])
+@pytest.mark.parametrize("fault", [EXPIRED, Refused(409, 32, "wrong reservation state")])
 def test_what_has_ended_already_is_given_back(desk: Desk, fault: Exception) -> None:
     reservation = reservation_at(desk)
     reservation.ask()
     desk.faults = [fault]
-    assert reservation.give_back()
+    assert desk_holding.is_given_back(reservation)
 
 
 def test_it_is_given_back_under_one_key_for_a_minute(desk: Desk, capsys: pytest.CaptureFixture[str]) -> None:
     reservation = reservation_at(desk)
     reservation.ask()
-    desk.faults = [calls.NoAnswer("gone")] * 50
-    assert reservation.give_back()
+    desk.faults = [Unreachable("gone")] * 50
+    assert desk_holding.is_given_back(reservation)
     assert len({key for path, key in desk.told if path.endswith("cancel")}) == 1
-    desk.faults = [calls.NoAnswer("gone")] * 1000
-    assert not reservation.give_back()
+    desk.faults = [Unreachable("gone")] * 1000
+    assert not desk_holding.is_given_back(reservation)
     assert capsys.readouterr().err == "desk: gone: reservation 7 is left: desk cancel-reservation 7\n"
 
 
 def test_a_refusal_leaves_it_and_is_told(desk: Desk, capsys: pytest.CaptureFixture[str]) -> None:
     reservation = reservation_at(desk)
     reservation.ask()
-    desk.faults = [calls.Refused(403, 3, "forbidden")]
-    assert not reservation.give_back()
+    desk.faults = [Refused(403, 3, "forbidden")]
+    assert not desk_holding.is_given_back(reservation)
     assert capsys.readouterr().err == "desk: 3 forbidden: reservation 7 is left: desk cancel-reservation 7\n"
 
 
@@ -188,5 +189,5 @@ def test_a_board_that_expired_before_it_was_acquired(desk: Desk) -> None:
     reservation = reservation_at(desk)
     reservation.ask()
     desk.faults = [EXPIRED]
-    with pytest.raises(waiting.Gone, match="^reservation 7 has expired$"):
+    with pytest.raises(ReservationEnded, match="^reservation 7 has expired$"):
         reservation.acquire("b1")

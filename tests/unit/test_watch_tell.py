@@ -23,7 +23,8 @@ from farm_watch import (
 )
 from farm_watch.rules import Mail, Rules, Webhook
 from farm_watch.store import Delivery, Event, Store
-from fizgruk import calls, wants
+from fizgruk import wants
+from fizgruk.errors import Refused, Unreachable
 
 NOW = 1_800_000_000
 BODY = {"event": "try", "at": NOW, "owner": "ann", "subject": "a try", "text": "It can."}
@@ -348,8 +349,8 @@ class Served:
 
 
 def test_troubles_of_looks_are_told_once_and_their_end(capsys: pytest.CaptureFixture[str]) -> None:
-    away, full = calls.NoAnswer("refused"), sqlite3.OperationalError("disk is full")
-    looks = Served(away, away, None, None, full, calls.Refused(409, 4, "full"), None)
+    away, full = Unreachable("refused", "http://desk"), sqlite3.OperationalError("disk is full")
+    looks = Served(away, away, None, None, full, Refused(409, 4, "full"), None)
     assert looks.serve() == 0
     said = capsys.readouterr()
     assert said.out == "sees 2 boards\n"
@@ -361,7 +362,7 @@ def test_troubles_of_looks_are_told_once_and_their_end(capsys: pytest.CaptureFix
 
 @pytest.mark.parametrize("status", [401, 403])
 def test_a_desk_that_doesnt_let_it_in_ends_it(capsys: pytest.CaptureFixture[str], status: int) -> None:
-    assert Served(None, calls.Refused(status, 0, "no"), None).serve() == 3
+    assert Served(None, Refused(status, 0, "no"), None).serve() == 3
     assert capsys.readouterr().err == f"farm-watch: the desk at http://desk refuses: {status} no\n"
 
 

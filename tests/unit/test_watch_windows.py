@@ -11,10 +11,10 @@ from farm_watch import events as watch_events, holds as watch_holds, passes as w
 from farm_watch.rules import Mail, Rules
 from farm_watch.store import Store
 from farm_watch.watcher import Watcher
-from fizgruk import calls
+from fizgruk.errors import Code, Refused
 
 HOUR = 3600
-GONE = calls.Refused(404, calls.NO_JOB, "no such job")
+GONE = Refused(404, Code.NO_SUCH_JOB, "no such job")
 
 
 class Desk:
@@ -31,7 +31,7 @@ class Desk:
         self.checked = "none"
         self.asked: List[str] = []
         self.told: List[Tuple[str, Optional[str]]] = []
-        self.refusal: Optional[calls.Refused] = None
+        self.refusal: Optional[Refused] = None
         self.is_full = False
 
     @staticmethod
@@ -46,7 +46,7 @@ class Desk:
                 raise GONE
             return self.jobs[int(number)]
         if kind == "history.json":
-            raise calls.Refused(404, calls.NO_ROUTE, "no such route")
+            raise Refused(404, Code.NO_SUCH_ROUTE, "no such route")
         return {
             "status": {
                 "count": self.count, "next": self.next, "types": 1, "clock": int(self.clock.at),
@@ -61,7 +61,7 @@ class Desk:
     def tell(self, path: str, key: Optional[str] = None) -> Any:
         self.told.append((path, key))
         if self.is_full and key:
-            raise calls.Refused(409, calls.FULL, "full")
+            raise Refused(409, Code.FULL, "full")
         if self.refusal:
             raise self.refusal
         self.count += 1
@@ -394,17 +394,17 @@ def test_holds_count_by_the_farms_clock_where_the_machines_was_set_back(
     assert lab.told() == [("ann", "you have held h1 for 4 hours (reservation 1)")]
 
 
-@pytest.mark.parametrize("code", [calls.EXPIRED, calls.WRONG_RESERVATION_STATE, calls.NO_RESERVATION])
+@pytest.mark.parametrize("code", [Code.RESERVATION_EXPIRED, Code.WRONG_RESERVATION_STATE, Code.NO_SUCH_RESERVATION])
 def test_a_hold_that_its_owner_ended_meanwhile_isnt_told(lab: Lab, code: int) -> None:
     lab.desk.holds("h1", NOW - 12 * HOUR)
-    lab.desk.refusal = calls.Refused(409, code, "gone")
+    lab.desk.refusal = Refused(409, code, "gone")
     lab.watches(end=12 * HOUR)
     assert (lab.told(), lab.troubles) == ([], [])
 
 
 def test_a_hold_that_cant_be_ended_is_told_and_tried_again_after_ten_minutes(lab: Lab) -> None:
     lab.desk.holds("h1", NOW - 12 * HOUR)
-    lab.desk.refusal = calls.Refused(403, calls.FORBIDDEN, "forbidden")
+    lab.desk.refusal = Refused(403, Code.FORBIDDEN, "forbidden")
     lab.watches(end=12 * HOUR)
     for _ in range(9):
         lab.looks(after=60)

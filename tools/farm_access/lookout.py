@@ -15,6 +15,7 @@ from farm_access.site import Site
 from farm_dispatch import strangers
 from fizgruk import calls, settings
 from fizgruk._tools import disk
+from fizgruk.errors import Refused, Unreachable
 
 FRESH = 0.25  # seconds for which one look does for all
 STALE = 1.2  # after which nobody waits for who looks
@@ -91,7 +92,7 @@ class Lookout:
     def _asked(self, path: str) -> Dict[str, Any]:
         try:
             return self.desk.look(path)
-        except (calls.NoAnswer, calls.Refused) as fault:
+        except (Unreachable, Refused) as fault:
             raise NoDesk(f"no answer from the desk at {self.desk.server}: {fault}") from fault
 
     def _kept(self, seconds: float) -> Optional[Dict[str, Board]]:

@@ -2,15 +2,17 @@
 import argparse
 import os
 import shutil
-import sys
 import time
-from typing import Optional, Sequence
+from typing import Callable, Optional, Sequence
 
 from farm_backup import copying, failover, follow, keeping, looking
-from fizgruk import calls
-from fizgruk._tools import disk, interrupts, parsers, settings, terminal
+from fizgruk import calls, settings
+from fizgruk._tools import disk, interrupts, parsers, terminal
+from fizgruk._tools.telling import Teller
+from fizgruk.errors import BadSettings, Refused, Unreachable
 
 PROGRAM = "farm-backup"
+tell = Teller(PROGRAM)
 FAULT = 4
 DB = "/var/lib/farm/lab.db"
 LATEST = "latest"
@@ -60,16 +62,16 @@ def main(words: Optional[Sequence[str]] = None) -> int:
         os.makedirs(folder, mode=0o700, exist_ok=True)
         lock = copying.take_folder(folder)
         if lock is None:
-            return told(FAULT, f"{folder} is in use by another farm-backup")
+            return tell.told(FAULT, f"{folder} is in use by another farm-backup")
         if options.promote:
             return promote(farm, folder, options)
         if options.follow:
             follow.Follower(farm, folder, options.every, tell).run()
         return back_up(farm, folder, options)
     except interrupts.Interrupted:
-        return 0 if options.follow else told(FAULT, "ended by a signal: run it again")
+        return 0 if options.follow else tell.told(FAULT, "ended by a signal: run it again")
     except (copying.NoCopy, follow.InUse, OSError) as fault:
-        return told(FAULT, str(fault))
+        return tell.told(FAULT, str(fault))
 
 
 def parser_of() -> parsers.Parser:
@@ -168,25 +170,19 @@ def _seconds(text: str) -> float:
 def _server(text: str) -> str:
     try:
         settings.address_of(text)
-    except settings.BadSettings as fault:
+    except BadSettings as fault:
         raise argparse.ArgumentTypeError(str(fault)) from fault
     return text
-
-
-def tell(text: str) -> None:
-    print(f"{PROGRAM}: {text}", file=sys.stderr, flush=True)
-
-
-def told(status: int, text: str) -> int:
-    tell(text)
-    return status
 
 
 def back_up(farm: copying.Farm, folder: str, options: argparse.Namespace) -> int:
     """Makes one copy, names it, and removes the oldest."""
     answered = answered_at(options.server) if options.server else None
     began = copying.name_of(time.time())
-    place = copying.new_copy(farm, folder, tell if options.verbose else lambda text: None)
+    note: Callable[[str], None] = lambda text: None
+    if options.verbose:
+        note = tell
+    place = copying.new_copy(farm, folder, note)
     try:
         if answered is not None:
             compare(farm.within(place), answered)
@@ -217,7 +213,10 @@ def remove_old(farm: copying.Farm, folder: str, new: str, keep: int) -> None:
 
 def look(farm: copying.Farm, options: argparse.Namespace) -> int:
     """Makes a copy to look at, or a report over one."""
-    told_again = tell if options.verbose else lambda text: None
+    def told_again(text: str) -> None:
+        if options.verbose:
+            tell(text)
+
     if options.to:
         looking.copy_to(farm, options.to, told_again)
         return 0
@@ -256,9 +255,11 @@ def answered_at(server: str) -> Optional[int]:
     desk = calls.Desk(settings.Settings(server, PROGRAM, None, None, ANSWER), patience=0)
     try:
         return int(desk.look("/status")["count"])
-    except (calls.NoAnswer, calls.Refused) as fault:
-        tell(f"the copy isn't compared with the desk at {server}: {fault}")
-        return None
+    except Unreachable as fault:
+        tell(f"the copy isn't compared with the desk at {fault}")
+    except Refused as refusal:
+        tell(f"the copy isn't compared with the desk at {server}: {refusal}")
+    return None
 
 
 def compare(copy: copying.Farm, answered: int) -> None:

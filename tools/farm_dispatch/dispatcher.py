@@ -27,9 +27,9 @@ from farm_dispatch.members import Rows
 from farm_dispatch.past import Past
 from farm_dispatch.retries import Retries
 from farm_dispatch.starts import Starts
-from fizgruk import calls, limits
-from fizgruk._tools import settings
+from fizgruk import calls, limits, settings
 from fizgruk._tools.passes import Counter, Turns
+from fizgruk.errors import Code, Refused, Unreachable
 
 FORBIDDEN = (401, 403)
 RUN = ("Running", "Canceling")
@@ -106,15 +106,15 @@ class Dispatcher:
             said = bool(call(*words))
             self.faults.clear(group or 0)
             return said
-        except (calls.Refused, OSError) as fault:
-            if isinstance(fault, calls.Refused) and fault.status in FORBIDDEN:
+        except (Refused, OSError) as fault:
+            if isinstance(fault, Refused) and fault.status in FORBIDDEN:
                 raise
             self._tell_once(f"{about}: {fault}")
             if group is not None and self.faults.is_over(group, fault, len(self.groups.open)):
                 self.broken.setdefault(group, f"{fault}, for {limits.words_of(faults.STAYS)}")
         except Later as fault:
             self._tell_once(str(fault))
-        except calls.NoAnswer:
+        except Unreachable:
             raise
         except Exception as fault:  # pylint: disable=broad-except
             why = f"a fault of farm-dispatch: {type(fault).__name__}: {fault}"
@@ -211,10 +211,10 @@ class Dispatcher:
             if not unkeyed:
                 self.desk.tell(path, key=key)
                 return True
-        except calls.Refused as refusal:
-            if refusal.code in (calls.NO_JOB, calls.WRONG_JOB_STATE):
+        except Refused as refusal:
+            if refusal.code in (Code.NO_SUCH_JOB, Code.WRONG_JOB_STATE):
                 return False
-            if refusal.code != calls.FULL or not group.files.are_there():
+            if refusal.code != Code.FULL or not group.files.are_there():
                 raise
         return self._is_started_without_key(group, path, unkeyed)
 
@@ -228,9 +228,9 @@ class Dispatcher:
             group.files.write(folders.UNKEYED, "")
         try:
             self.desk.tell(path)
-        except calls.Refused as refusal:
+        except Refused as refusal:
             os.unlink(group.files.file(folders.UNKEYED))
-            if refusal.code in (calls.NO_JOB, calls.WRONG_JOB_STATE):
+            if refusal.code in (Code.NO_SUCH_JOB, Code.WRONG_JOB_STATE):
                 return False
             raise
         return True
@@ -278,7 +278,7 @@ class Dispatcher:
         since = self.stuck.setdefault(group.number, time.monotonic())
         if time.monotonic() < since + KILLS_AFTER:
             return False
-        views = members.all_of(self.desk, group.number)
+        views = calls.members_of(self.desk, group.number)
         why = f"processes of job {group.number} can't be killed: {group.what_is_left()}"
         folders.note(group.files.state, why)
         self._tell_once(f"{why}: its boards become Bad")
@@ -286,7 +286,7 @@ class Dispatcher:
             self.past.expect(board, "Bad", f"a process of job {group.number} can't be killed")
             try:
                 self.retries.as_user("admin").tell(f"/boards/{board}/health", {"health": "Bad"})
-            except calls.Refused as refusal:
+            except Refused as refusal:
                 self._tell_once(f"{board} doesn't become Bad, and is held on: {refusal}")
                 return False
         self.past.see(self.desk.look("/boards")["boards"])
@@ -309,7 +309,7 @@ class Dispatcher:
                 self._leave(number)
             return False
         if not is_over:
-            self._launch(group, members.all_of(self.desk, number))
+            self._launch(group, calls.members_of(self.desk, number))
             return False
         with folders.locked(group.files.state) as is_mine:
             if not is_mine or not folders.claim(group.files.state, ended=NOT_BEGUN):
@@ -341,7 +341,7 @@ class Dispatcher:
         if not group.is_gone():
             self._tell_once(f"job {number}: its folder is lost, and what it started is killed")
             return False
-        views = members.all_of(self.desk, number)
+        views = calls.members_of(self.desk, number)
         rows = members.boards_of(self.desk, views) or []
         for told in group.prepare(views, rows, self.past, LOST):
             self._tell_once(told)
@@ -370,7 +370,7 @@ class Dispatcher:
             return False
         if not group.is_gone() or not self._is_empty(group):
             return False
-        self._tell_finish(group, members.all_of(self.desk, number), "Infra")
+        self._tell_finish(group, calls.members_of(self.desk, number), "Infra")
         self._tell(f"job {number} has ended ({why}): Infra")
         self._forget_broken(group)
         return True
@@ -384,7 +384,7 @@ class Dispatcher:
     def _finish(self, group: Group, ended: str) -> bool:
         """Tells the desk how a group ended, of each member."""
         number, outcome = group.number, self._outcome_of(ended)
-        views = members.all_of(self.desk, number)
+        views = calls.members_of(self.desk, number)
         said = "Canceled" if views[0]["state"] == "Canceling" else outcome
         if said == "Infra":
             self._run_again(group, views[0])
@@ -398,8 +398,8 @@ class Dispatcher:
             path, key = f"/jobs/{view['number']}/finish", group.key_of("finish", view["number"])
             try:
                 self._give(path, {"outcome": outcome}, key)
-            except calls.Refused as refusal:
-                if refusal.code not in (calls.NO_JOB, calls.WRONG_JOB_STATE):
+            except Refused as refusal:
+                if refusal.code not in (Code.NO_SUCH_JOB, Code.WRONG_JOB_STATE):
                     raise
 
     def _settle(self, group: Group, ended: str, how: str) -> None:
@@ -443,8 +443,8 @@ class Dispatcher:
         reply."""
         try:
             self.desk.tell(path, body, key)
-        except calls.Refused as refusal:
-            if refusal.code != calls.FULL:
+        except Refused as refusal:
+            if refusal.code != Code.FULL:
                 raise
             self.desk.tell(path, body)
 

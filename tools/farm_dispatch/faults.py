@@ -6,8 +6,8 @@ import time
 from typing import Collection, Dict, Union
 
 from farm_dispatch import folders, room
-from fizgruk import calls
 from fizgruk._tools import disk
+from fizgruk.errors import Code, Refused
 
 STAYS = 300.0  # seconds for which a group's own fault stays until it ends the group
 TRIAL = "new-trial"  # named as what is cut off, so that the next start removes it
@@ -28,7 +28,7 @@ class Faults:
         """Notes that a group met no fault."""
         self.since.pop(group, None)
 
-    def is_over(self, group: int, fault: Union[OSError, calls.Refused], groups: int) -> bool:
+    def is_over(self, group: int, fault: Union[OSError, Refused], groups: int) -> bool:
         """Notes a group's fault, one of so many groups that are looked after. Returns whether it
         ends the group: it is its own, and has stayed."""
         if not self._is_its_own(fault):
@@ -38,11 +38,11 @@ class Faults:
         is_everybodys = len(self.since) >= max(2, groups)
         return not is_everybodys and time.monotonic() >= since + STAYS
 
-    def _is_its_own(self, fault: Union[OSError, calls.Refused]) -> bool:
+    def _is_its_own(self, fault: Union[OSError, Refused]) -> bool:
         """Whether a fault is no other group's: not a proxy's refusal, nor a full farm's, nor a
         disk's that is full or takes nothing."""
-        if isinstance(fault, calls.Refused):
-            return fault.code not in (0, calls.FULL)
+        if isinstance(fault, Refused):
+            return fault.is_desks and fault.code != Code.FULL
         return fault.errno not in room.NO_ROOM and self._can_write()
 
     def _can_write(self) -> bool:

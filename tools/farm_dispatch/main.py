@@ -4,7 +4,6 @@ import os
 import selectors
 import shlex
 import signal
-import sys
 import time
 from typing import Any, Callable, Dict, List, Optional, Sequence
 
@@ -13,9 +12,12 @@ from farm_dispatch.clocks import UNSYNCHRONIZED, Clocks
 from farm_dispatch.dispatcher import ADOPT, Dispatcher
 from farm_dispatch.runner import wake
 from fizgruk import calls, limits, words as texts
-from fizgruk._tools import disk, parsers, settings, terminal
+from fizgruk._tools import asking, disk, parsers, terminal
+from fizgruk._tools.telling import Teller
+from fizgruk.errors import BadSettings, Refused, Unreachable
 
 HOUR = 3600
+end = Teller("farm-dispatch").told
 REFUSED, FAULT, NOT_STARTED = 3, 4, 5
 STANDS = (
     "a command can't be started ({}): until it can, nothing is started, no pass made, and no job "
@@ -31,7 +33,6 @@ NO_LIMITS = (
     "controllers memory and pids, and the cgroup farm-dispatcher (DelegateSubgroup of the unit); jobs "
     "with accounts have MemoryMax and TasksMax of farm-job@.service"
 )
-NO_TOML = "timeouts of jobs aren't read: this Python has neither tomllib nor tomli (python3-tomli)"
 SIZES, NO_LIMIT = ("log_limit", "folder_limit", "memory_limit"), "none"
 # What options, environment and files may set: its value's word, its default, and what it is.
 MORE = {
@@ -150,9 +151,9 @@ def main(words: Optional[Sequence[str]] = None) -> int:
     dispatcher = None
     try:
         stops = Stops()
-        own = settings.read_settings("dispatch", options, "dispatcher")
+        own = asking.settings_of("dispatch", options, "dispatcher")
         desk = calls.Desk(own, patience=0)
-        use(options, settings.values_of("dispatch", options))
+        use(options, asking.values_of("dispatch", options))
         place = os.path.realpath(options.folder)
         os.makedirs(place, mode=0o711, exist_ok=True)
         if options.adopt:
@@ -174,7 +175,7 @@ def main(words: Optional[Sequence[str]] = None) -> int:
         # (a later one would end Python's own end)
         signal.pthread_sigmask(signal.SIG_BLOCK, Stops.SIGNALS)
         return NOT_STARTED if dispatcher and dispatcher.starts.fault else 0
-    except (settings.BadSettings, parts.Taken, OSError, ValueError) as fault:
+    except (BadSettings, parts.Taken, OSError, ValueError) as fault:
         return end(FAULT, str(fault))
 
 
@@ -192,8 +193,6 @@ def lock_of(place: str) -> Optional[int]:
 def tell_of_itself(desk: calls.Desk, place: str, options: argparse.Namespace) -> None:
     part = f", boards with {options.serves}" if options.serves else ""
     print(f"passes every {options.every:g} s at {desk.server}, jobs in {place}{part}", flush=True)
-    if limits.tomllib is None:
-        end(0, NO_TOML)
     if options.cage == cages.NONE:
         end(0, NO_CAGE)
 
@@ -238,7 +237,7 @@ Only lets the dispatcher of DIR take these jobs, '12,13', which run for the desk
 a folder that is lost: they end as Infra. What began them has to be gone, as its machine is off, and
 stay so until they are Finished."""
     parser.add_argument("--adopt", metavar="NUMBERS", type=numbers_of, help=about)
-    group = settings.add_options(parser, "dispatch", "default dispatcher")
+    group = asking.add_options(parser, "dispatch", "default dispatcher")
     for name, (metavar, default, about) in MORE.items():
         word = f"--{name.replace('_', '-')}"
         group.add_argument(word, metavar=metavar, help=f"{about} (default {default}).")
@@ -283,15 +282,15 @@ def use(options: argparse.Namespace, more: Dict[str, Optional[str]]) -> None:
         try:
             setattr(options, name, 0 if text == NO_LIMIT == MORE[name][1] else of(text))
         except ValueError as fault:
-            raise settings.BadSettings(f"{name}: {text!r} is no {like} is one") from fault
+            raise BadSettings(f"{name}: {text!r} is no {like} is one") from fault
     options.limit = min(options.limit, options.most)
     options.serves = more["serves"] or parts.ALL
     if options.serves and not texts.TAGS.fullmatch(options.serves):
-        raise settings.BadSettings(f"serves: {options.serves!r} is no tag, as worker=rack2 is one")
+        raise BadSettings(f"serves: {options.serves!r} is no tag, as worker=rack2 is one")
     options.cage = cage_of(more["cage"] or MORE["cage"][1])
     options.clock = more["clock"] or MORE["clock"][1]
     if options.clock not in ("synchronized", "any"):
-        raise settings.BadSettings(f"clock: {options.clock!r} is neither synchronized nor any")
+        raise BadSettings(f"clock: {options.clock!r} is neither synchronized nor any")
 
 
 def cage_of(word: str) -> str:
@@ -299,9 +298,9 @@ def cage_of(word: str) -> str:
     if word == "best":
         return cages.best_form()
     if word not in cages.FORMS:
-        raise settings.BadSettings(f"cage: {word!r} is none of best, {', '.join(cages.FORMS)}")
+        raise BadSettings(f"cage: {word!r} is none of best, {', '.join(cages.FORMS)}")
     if not cages.can_make(word):
-        raise settings.BadSettings(f"cage: no {word} can be made here")
+        raise BadSettings(f"cage: no {word} can be made here")
     return word
 
 
@@ -335,11 +334,6 @@ def time_of(text: str) -> float:
         return limits.time_of(text)
 
 
-def end(status: int, text: str) -> int:
-    print(f"farm-dispatch: {text}", file=sys.stderr, flush=True)
-    return status
-
-
 def serve(dispatcher: Dispatcher, clocks: Clocks, wakes: "Wakes", stops: Stops) -> int:
     """Passes and looks after the jobs until a signal comes, or the desk doesn't take the caller."""
     due = time.monotonic()
@@ -354,15 +348,15 @@ def serve(dispatcher: Dispatcher, clocks: Clocks, wakes: "Wakes", stops: Stops) 
                 cleaned = now
                 dispatcher.remove_old()
             trouble = one_round(dispatcher, clocks, passes)
-        except calls.Refused as refusal:
+        except Refused as refusal:
             if refusal.status in (401, 403):
                 return end(
                     REFUSED,
                     f"the desk at {dispatcher.desk.server} refuses the dispatcher: {refusal}",
                 )
             trouble = f"the desk refuses: {refusal}"
-        except calls.NoAnswer as fault:
-            trouble = f"no answer from the desk at {dispatcher.desk.server}: {fault}"
+        except Unreachable as fault:
+            trouble = f"no answer from the desk at {fault}"
         except OSError as fault:
             trouble = str(fault)
         if trouble != before:

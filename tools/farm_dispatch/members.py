@@ -2,7 +2,7 @@
 from typing import Any, Dict, Iterable, List, Optional
 
 from fizgruk import calls
-from fizgruk.bounds import MOST_WANTS
+from fizgruk.calls import members_of
 
 Rows = List[Dict[str, Any]]  # members of a group, by their views
 Boards = Dict[str, Dict[str, Any]]  # boards that are held, by their names
@@ -18,28 +18,10 @@ def views_of(desk: calls.Desk, numbers: Iterable[int]) -> Rows:
     return [desk.look(f"/jobs/{it}") for it in numbers]
 
 
-def all_of(desk: calls.Desk, number: int) -> Rows:
-    """The views of all members of a group, whether they hold boards or not: they have the numbers
-    from the group's own on."""
-    first = desk.look(f"/jobs/{number}")
-    found = [first]
-    while first["role"] and len(found) < MOST_WANTS:
-        try:
-            view = desk.look(f"/jobs/{number + len(found)}")
-        except calls.Refused as refusal:
-            if refusal.code != calls.NO_JOB:
-                raise
-            break
-        if view["group"] != number:
-            break
-        found.append(view)
-    return found
-
-
 def whole(desk: calls.Desk, number: int) -> Optional[Rows]:
     """The views of all members of a group that has all its boards and waits for its start. None
     where it has changed meanwhile."""
-    views = all_of(desk, number)
+    views = members_of(desk, number)
     return views if all(it["state"] == "Scheduled" and it["board"] for it in views) else None
 
 

@@ -9,6 +9,7 @@ from farm_dispatch import folders, strangers
 from fizgruk import calls, records, toml_text
 from fizgruk._tools import disk
 from fizgruk.bounds import MOST_WANTS
+from fizgruk.errors import Code, Refused
 from fizgruk.submissions import Submissions
 
 LONGEST_NAME = 200
@@ -111,8 +112,8 @@ class Past:
         numbers = [it["job"] for it in boards]
         try:
             return _about([self.desk.look(f"/jobs/{it}") for it in numbers])
-        except calls.Refused as refusal:
-            if refusal.code != calls.NO_JOB:
+        except Refused as refusal:
+            if refusal.code != Code.NO_SUCH_JOB:
                 raise
             return {"owner": "", "name": "", "members": []}  # another farm's
 
@@ -127,8 +128,8 @@ class Past:
         """How a job ended, as the desk says; nothing where that doesn't know it any more."""
         try:
             view = self.desk.look(f"/jobs/{member['job']}")
-        except calls.Refused as refusal:
-            if refusal.code != calls.NO_JOB:
+        except Refused as refusal:
+            if refusal.code != Code.NO_SUCH_JOB:
                 raise
             return ""
         is_it = (view["owner"], view["board"]) == (owner, member["board"])

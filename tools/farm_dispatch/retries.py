@@ -3,8 +3,8 @@ import dataclasses
 import re
 from typing import Any, Dict, Optional
 
-from fizgruk import calls, toml_text
-from fizgruk._tools import settings
+from fizgruk import calls, settings, toml_text
+from fizgruk.errors import Refused
 
 LINE = re.compile(r"^([ \t]*retry[ \t]*=[ \t]*)1([ \t]*(?:#.*)?)$", re.MULTILINE)
 
@@ -52,6 +52,6 @@ class Retries:
             return "it isn't run again: farm-dispatch asks with a password, and can't as its owner"
         try:
             number = self.as_user(owner).tell("/jobs", again.encode(), key)["number"]
-        except calls.Refused as refusal:
+        except Refused as refusal:
             return f"it isn't run again: {refusal}"
         return f"it is run again as job {number}"

@@ -1,14 +1,16 @@
 """farm-from-desk: a lab file from a desk's boards, for the farm that comes after it."""
 import argparse
 import re
-import sys
-from typing import Any, Dict, List, NamedTuple, Optional, Sequence, Tuple
+from typing import Any, Dict, NamedTuple, Optional, Sequence, Tuple
 
 from farm_import import lab_file
-from fizgruk import calls, clocks
-from fizgruk._tools import parsers, settings, terminal
+from fizgruk import calls, clocks, toml_text
+from fizgruk._tools import asking, parsers, terminal
+from fizgruk._tools.telling import Teller
+from fizgruk.errors import BadSettings, Refused, Unreachable
 
 PROGRAM = "farm-from-desk"
+tell = Teller(PROGRAM)
 ABOUT = """\
 Asks a desk for its types, boards and queue, and writes a lab file that 'farm import' takes, to \
 begin the next farm with: each type with its check, and each board with its tags. A line 'health' \
@@ -36,25 +38,18 @@ FIRST_HEALTH = "Maintenance"
 def main(words: Optional[Sequence[str]] = None) -> int:
     terminal.guard()
     options = options_of(words)
-    server = settings.SERVER
     try:
-        desk = calls.Desk(settings.read_settings("desk", options, "admin"), PATIENCE)
-        server = desk.server
+        desk = calls.Desk(asking.settings_of("desk", options, "admin"), PATIENCE)
         if options.set_health is not None:
             return set_health(desk, options.set_health)
         warn_of_clock(desk)
         return lab_file.status_of(PROGRAM, lambda it: lab_of(desk, it.lab), options)
-    except calls.Refused as refusal:
-        return told(REFUSED, f"refused: {refusal}")
-    except calls.NoAnswer as fault:
-        return told(lab_file.FAULT, f"no answer from the desk at {server}: {fault}")
-    except (settings.BadSettings, lab_file.Unreadable, OSError, UnicodeDecodeError) as fault:
-        return told(lab_file.FAULT, str(fault))
-
-
-def told(status: int, text: str) -> int:
-    print(f"{PROGRAM}: {text}", file=sys.stderr)
-    return status
+    except Refused as refusal:
+        return tell.told(REFUSED, f"refused: {refusal}")
+    except Unreachable as fault:
+        return tell.told(lab_file.FAULT, f"no answer from the desk at {fault}")
+    except (BadSettings, lab_file.Unreadable, OSError, UnicodeDecodeError) as fault:
+        return tell.told(lab_file.FAULT, str(fault))
 
 
 def parser_of() -> parsers.Parser:
@@ -65,13 +60,13 @@ def parser_of() -> parsers.Parser:
     )
     about = """\
 The lab's own file, to be compared with the desk: the written file and standard error name its lines
-that say something else of a type or a board. It wants Python 3.11, which reads TOML."""
+that say something else of a type or a board."""
     parser.add_argument("--lab", metavar="FILE", help=about)
     about = """\
 The lab file whose boards are given their health, which is printed. Those in Maintenance stay as the
 import made them. Done again it does no harm."""
     parser.add_argument("--set-health", metavar="FILE", help=about)
-    settings.add_options(parser, "desk", "default admin")
+    asking.add_options(parser, "desk", "default admin")
     return parser
 
 
@@ -107,7 +102,7 @@ def warn_of_clock(desk: calls.Desk) -> None:
     """Says where the farm's clock is ahead of this machine's: a farm's clock never falls back."""
     ahead = clocks.ahead(desk.look("/status"), "begin the next farm")
     if ahead:
-        told(0, ahead)
+        tell(ahead)
 
 
 # ---- the lab's own file
@@ -117,7 +112,7 @@ class Entry(NamedTuple):
     """What a lab file says of a type or a board, in the file's words."""
 
     words: str
-    line: Optional[int]
+    line: int
 
 
 def compare(lab: lab_file.LabFile, file: str) -> None:
@@ -129,7 +124,7 @@ def compare(lab: lab_file.LabFile, file: str) -> None:
     for key in sorted(here.keys() & own.keys()):
         entry = own[key]
         if entry.words != here[key]:
-            where = file if entry.line is None else f"{file}:{entry.line}"
+            where = f"{file}:{entry.line}"
             lab.remarks[key] = f"{where} has {entry.words}: its import leaves what stands here"
             what = f"it has {entry.words}, and the desk {here[key]}: an import changes nothing"
             lab.note(where, f"{key[0][:-1]} {key[1]}: {what}")
@@ -146,21 +141,16 @@ def board_words(kind: str, tags: Sequence[str]) -> str:
 
 def entries_of(file: str) -> Dict[Tuple[str, str], Entry]:
     """The types and boards of a lab file."""
-    try:
-        import tomllib
-    except ImportError as fault:
-        raise lab_file.Unreadable("--lab wants Python 3.11, which reads TOML") from fault
     with open(file, encoding="utf-8") as opened:
         text = opened.read()
     try:
-        tables = tomllib.loads(text)
+        tables = toml_text.tree_of(text)
         types, boards = tables.get("types", {}), tables.get("boards", {})
         words = {("types", name): type_words_of(row) for name, row in types.items()}
         words.update({("boards", name): board_words_of(row) for name, row in boards.items()})
-    except (tomllib.TOMLDecodeError, AttributeError, KeyError, TypeError) as fault:
+    except (toml_text.NotToml, AttributeError, KeyError, TypeError) as fault:
         raise lab_file.Unreadable(f"{file} is no lab file: {fault}") from fault
-    lines = text.splitlines()
-    return {key: Entry(said, line_of(lines, *key)) for key, said in words.items()}
+    return {key: Entry(said, toml_text.line_of(text, key)) for key, said in words.items()}
 
 
 def type_words_of(row: Dict[str, Any]) -> str:
@@ -169,12 +159,6 @@ def type_words_of(row: Dict[str, Any]) -> str:
 
 def board_words_of(row: Dict[str, Any]) -> str:
     return board_words(row["type"], row.get("tags", []))
-
-
-def line_of(lines: List[str], kind: str, name: str) -> Optional[int]:
-    """The line on which a type or board begins, counted from 1, where it has a line of its own."""
-    header = re.compile(rf"""\s*\[\s*{kind}\s*\.\s*["']?{re.escape(name)}["']?\s*\]""")
-    return next((at for at, line in enumerate(lines, 1) if header.match(line)), None)
 
 
 # ---- giving health

@@ -3,12 +3,14 @@ lines that the dispatcher's history has got since they were counted last."""
 import json
 import os
 import time
-from typing import Any, Dict, List, Optional
+from typing import Any, Dict, Iterable, List, Optional, Sequence, Tuple
 
-from farm_metrics.prometheus import COUNTER, GAUGE, Family, one
+from prometheus_client.core import CounterMetricFamily, GaugeMetricFamily, Metric
+
 from fizgruk import calls
 from fizgruk._tools import disk, passes
 from fizgruk.bounds import MOST_BOARDS, MOST_JOBS, MOST_RESERVATIONS, MOST_TYPES
+from fizgruk.errors import Refused, Unreachable
 
 HEALTHS = ("Good", "Bad", "Unknown", "Maintenance", "Retired")
 STATES = ("Idle", "Reserved", "Running")
@@ -42,7 +44,7 @@ class Collector:
         self.trouble = ""  # why the desk isn't told of
         self.lost = ""  # why the next process doesn't know what this one does
 
-    def families(self) -> List[Family]:
+    def families(self) -> List[Metric]:
         """All metrics, as of now."""
         families = self._of_the_desk()
         families.extend(self.passes.families())
@@ -50,18 +52,21 @@ class Collector:
         self._keep()
         return families
 
-    def _of_the_desk(self) -> List[Family]:
+    def _of_the_desk(self) -> List[Metric]:
         try:
             status = self.desk.look("/status")
             boards = self.desk.look("/boards")["boards"]
             queue = self.desk.look("/queue")["queue"]
-        except (calls.NoAnswer, calls.Refused) as fault:
-            self.trouble = str(fault)
+        except Unreachable as fault:
+            self.trouble = fault.trouble
+            return [_up(0)]
+        except Refused as refusal:
+            self.trouble = str(refusal)
             return [_up(0)]
         self.trouble = ""
         return [_up(1), boards_of(boards), *self._claims(status, queue), *_of_status(status)]
 
-    def _claims(self, status: Dict[str, int], queue: List[Dict[str, Any]]) -> List[Family]:
+    def _claims(self, status: Dict[str, int], queue: List[Dict[str, Any]]) -> List[Metric]:
         """The claims that wait, and since when the oldest is seen: the desk doesn't tell when one
         was made, but numbers grow."""
         now = time.time()
@@ -69,12 +74,12 @@ class Collector:
         self.count = status["count"]
         self.seen = {str(it["number"]): former.get(str(it["number"]), now) for it in queue}
         since = self.seen[min(self.seen, key=int)] if queue else now
-        waiting = [({"kind": kind}, sum(it["kind"] == kind for it in queue)) for kind in KINDS]
+        waiting = [([kind], sum(it["kind"] == kind for it in queue)) for kind in KINDS]
         about = "Claims that wait for boards."
         age = "Seconds since the oldest claim that waits was first seen here."
         return [
-            Family("fizgruk_claims_waiting", GAUGE, about, waiting),
-            one("fizgruk_oldest_claim_age_seconds", GAUGE, age, max(0.0, now - since)),
+            gauges("fizgruk_claims_waiting", about, ["kind"], waiting),
+            gauge("fizgruk_oldest_claim_age_seconds", age, max(0.0, now - since)),
         ]
 
     def _keep(self) -> None:
@@ -95,21 +100,21 @@ class Passes:
         self.file = file
         self.trouble = ""
 
-    def families(self) -> List[Family]:
+    def families(self) -> List[Metric]:
         """What there is to tell; without the dispatcher's file, why there is nothing."""
         name, about = "fizgruk_passes_total", "Passes that the dispatcher asked for."
         self.trouble = ""
         try:
             found = passes.passes_in(self.file)
         except FileNotFoundError:
-            return [Family(name, COUNTER, f"{about} None are counted: no {self.file}.", [])]
+            return [CounterMetricFamily(name, f"{about} None are counted: no {self.file}.")]
         except (OSError, ValueError) as fault:
             self.trouble = str(fault)
             return []
         age = max(0.0, time.time() - found.at)
         return [
-            one(name, COUNTER, about, found.count),
-            one("fizgruk_last_pass_age_seconds", GAUGE, "Seconds since the last of them.", age),
+            CounterMetricFamily(name, about, found.count),
+            gauge("fizgruk_last_pass_age_seconds", "Seconds since the last of them.", age),
         ]
 
 
@@ -126,7 +131,7 @@ class History:
     def state(self) -> Dict[str, Any]:
         return {"inode": self.inode, "offset": self.offset, "outcomes": self.outcomes}
 
-    def families(self) -> List[Family]:
+    def families(self) -> List[Metric]:
         """What there is to tell; nothing where there is no history."""
         self.trouble = ""
         try:
@@ -138,8 +143,12 @@ class History:
         if not self.inode:
             return []
         names = [*OUTCOMES, *sorted(self.outcomes.keys() - set(OUTCOMES))]
-        counts = [({"outcome": name}, self.outcomes.get(name, 0)) for name in names]
-        return [Family("fizgruk_jobs_ended_total", COUNTER, "Jobs that ended.", counts)]
+        family = CounterMetricFamily(
+            "fizgruk_jobs_ended_total", "Jobs that ended.", labels=["outcome"]
+        )
+        for name in names:
+            family.add_metric([name], self.outcomes.get(name, 0))
+        return [family]
 
     def _read(self) -> None:
         """Counts the whole lines that are new; a file that is another one, or was cut, is read from
@@ -193,11 +202,11 @@ def _state_in(file: Optional[str]) -> Dict[str, Any]:
 # ---- by the desk's views
 
 
-def _up(value: int) -> Family:
-    return one("fizgruk_up", GAUGE, "Whether the desk answers.", value)
+def _up(value: int) -> Metric:
+    return gauge("fizgruk_up", "Whether the desk answers.", value)
 
 
-def boards_of(boards: List[Dict[str, Any]]) -> Family:
+def boards_of(boards: List[Dict[str, Any]]) -> Metric:
     """How many boards there are of each type, health and state."""
     counts = {
         (kind, health, state): 0
@@ -208,22 +217,34 @@ def boards_of(boards: List[Dict[str, Any]]) -> Family:
     for it in boards:
         key = (it["type"], it["health"], it["state"])
         counts[key] = counts.get(key, 0) + 1
-    samples = [
-        ({"type": kind, "health": health, "state": state}, count)
-        for (kind, health, state), count in counts.items()
-    ]
-    return Family("fizgruk_boards", GAUGE, "Boards.", samples)
+    return gauges("fizgruk_boards", "Boards.", ["type", "health", "state"], counts.items())
 
 
-def _of_status(status: Dict[str, int]) -> List[Family]:
-    rows = [({"table": it}, status[it]) for it in LIMITS]
-    limits = [({"table": it}, most) for it, most in LIMITS.items()]
+def _of_status(status: Dict[str, int]) -> List[Metric]:
+    rows = [([it], status[it]) for it in LIMITS]
+    limits = [([it], most) for it, most in LIMITS.items()]
     age = "Seconds since the last command; below 0 the farm's clock is ahead."
     collects = "Number of the group that collects boards, 0 while none does."
     return [
-        one("fizgruk_collecting_group", GAUGE, collects, status["collector"]),
-        one("fizgruk_commands_total", COUNTER, "Commands that were accepted.", status["count"]),
-        one("fizgruk_last_command_age_seconds", GAUGE, age, time.time() - status["clock"]),
-        Family("fizgruk_rows", GAUGE, "Rows that the farm has.", rows),
-        Family("fizgruk_rows_limit", GAUGE, "Rows that the farm can have.", limits),
+        gauge("fizgruk_collecting_group", collects, status["collector"]),
+        CounterMetricFamily(
+            "fizgruk_commands_total", "Commands that were accepted.", status["count"]
+        ),
+        gauge("fizgruk_last_command_age_seconds", age, time.time() - status["clock"]),
+        gauges("fizgruk_rows", "Rows that the farm has.", ["table"], rows),
+        gauges("fizgruk_rows_limit", "Rows that the farm can have.", ["table"], limits),
     ]
+
+
+def gauge(name: str, about: str, value: float) -> Metric:
+    return GaugeMetricFamily(name, about, value)
+
+
+def gauges(
+    name: str, about: str, labels: Sequence[str], samples: Iterable[Tuple[Sequence[str], float]]
+) -> Metric:
+    """A metric with a value for each of its labels."""
+    family = GaugeMetricFamily(name, about, labels=labels)
+    for values, value in samples:
+        family.add_metric(values, value)
+    return family

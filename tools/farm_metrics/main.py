@@ -2,15 +2,21 @@
 import argparse
 import http.server
 import os
-import sys
 import threading
-from typing import Optional, Sequence
+from typing import List, Optional, Sequence
 
-from farm_metrics import collecting, prometheus
+from prometheus_client import CollectorRegistry, MetricsHandler, generate_latest
+from prometheus_client.core import Metric
+from prometheus_client.registry import Collector
+
+from farm_metrics import collecting
 from fizgruk import calls
-from fizgruk._tools import disk, interrupts, parsers, passes, settings, terminal
+from fizgruk._tools import asking, disk, interrupts, parsers, passes, terminal
+from fizgruk._tools.telling import Teller
+from fizgruk.errors import BadSettings
 
 PROGRAM = "farm-metrics"
+tell = Teller(PROGRAM)
 FAULT = 4
 LONGEST_LOOK = 5.0  # seconds that the desk has for an answer
 STALLED = 10  # seconds that a client has for its request
@@ -37,7 +43,7 @@ def main(words: Optional[Sequence[str]] = None) -> int:
     options = options_of(words)
     try:
         interrupts.catch_signals()
-        desk = calls.Desk(settings.read_settings("desk", options, "metrics"), patience=0)
+        desk = calls.Desk(asking.settings_of("desk", options, "metrics"), patience=0)
         desk.timeout = min(desk.timeout, LONGEST_LOOK)
         state = options.state or (options.textfile and f"{options.textfile}.state")
         beside = os.path.join(os.path.dirname(options.history), passes.FILE)
@@ -54,9 +60,8 @@ def main(words: Optional[Sequence[str]] = None) -> int:
         return FAULT if metrics.collector.trouble or metrics.collector.lost else 0
     except interrupts.Interrupted as interrupted:
         return 0 if options.listen is not None else interrupted.status
-    except (settings.BadSettings, OSError) as fault:
-        tell(str(fault))
-        return FAULT
+    except (BadSettings, OSError) as fault:
+        return tell.told(FAULT, str(fault))
 
 
 def parser_of() -> parsers.Parser:
@@ -86,7 +91,7 @@ What is kept for the next time: since when claims are seen, and the counts of th
 PATH.state with --textfile; else nothing is kept)."""
     parser.add_argument("--state", metavar="FILE", help=about)
     timeout = "How long a network call may wait, 5 at most (default 5)."
-    settings.add_options(
+    asking.add_options(
         parser, "desk", "default metrics, which the desk lets look", timeout=timeout
     )
     return parser
@@ -103,24 +108,25 @@ def _port(text: str) -> int:
     return port
 
 
-def tell(text: str) -> None:
-    print(f"{PROGRAM}: {text}", file=sys.stderr, flush=True)
-
-
-class Metrics:
-    """The text of a collector's metrics, for one client after another; each trouble is told
-    once."""
+class Metrics(Collector):
+    """A collector's metrics, for one client after another; each trouble is told once."""
 
     def __init__(self, collector: collecting.Collector):
         self.collector = collector
         self.lock = threading.Lock()
         self.told: Sequence[str] = ()
+        self.registry = CollectorRegistry()
+        self.registry.register(self)
+
+    def collect(self) -> List[Metric]:
+        """What prometheus_client asks for, at each text."""
+        with self.lock:
+            families = self.collector.families()
+            self._tell()
+            return families
 
     def text(self) -> str:
-        with self.lock:
-            text = prometheus.text_of(self.collector.families())
-            self._tell()
-            return text
+        return generate_latest(self.registry).decode()
 
     def _tell(self) -> None:
         troubles = []
@@ -144,10 +150,10 @@ class Metrics:
 def listen(metrics: Metrics, port: int) -> None:
     """Serves the metrics until a signal comes."""
 
-    class Handler(http.server.BaseHTTPRequestHandler):
+    class Handler(MetricsHandler):
         """One client's requests."""
 
-        protocol_version = "HTTP/1.1"
+        registry = metrics.registry
         timeout = STALLED
 
         def do_GET(self) -> None:  # the name that http.server calls
@@ -155,20 +161,9 @@ def listen(metrics: Metrics, port: int) -> None:
                 self.send_error(404)
                 return
             try:
-                self._answer(metrics.text().encode())
-            except OSError as fault:  # a client that went, or a disk that is full
+                super().do_GET()
+            except OSError as fault:  # a client that went
                 tell(str(fault))
-                self.close_connection = True
-
-        def _answer(self, body: bytes) -> None:
-            self.send_response(200)
-            self.send_header("content-type", prometheus.CONTENT)
-            self.send_header("content-length", str(len(body)))
-            self.end_headers()
-            self.wfile.write(body)
-
-        def log_message(self, *_: object) -> None:
-            """Says nothing of a request."""
 
     with http.server.ThreadingHTTPServer(("127.0.0.1", port), Handler) as server:
         server.daemon_threads = True

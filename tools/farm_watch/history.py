@@ -4,6 +4,7 @@ import time
 from typing import Any, Dict, List, Optional
 
 from fizgruk import calls
+from fizgruk.errors import Refused, Unreachable
 
 PATH = "/history.json"
 ABSENT = 600.0  # where it isn't served it is left for so many seconds
@@ -39,7 +40,7 @@ class History:
             return []
         try:
             rows = self.desk.look(PATH).get("jobs", [])
-        except (calls.Refused, calls.NoAnswer):
+        except (Refused, Unreachable):
             rows = None
         if not isinstance(rows, list):
             self.later = time.monotonic() + ABSENT

@@ -12,11 +12,12 @@ from farm_watch.events import Events
 from farm_watch.rules import Rules
 from farm_watch.store import Seen, Store
 from fizgruk import calls
+from fizgruk.errors import Code, Refused
 
 LEASE = 60
 RECENT = 60.0  # a hold that wasn't there so many seconds ago has begun since
 RETRY = 600.0
-ENDED = (calls.EXPIRED, calls.WRONG_RESERVATION_STATE, calls.NO_RESERVATION)
+ENDED = (Code.RESERVATION_EXPIRED, Code.WRONG_RESERVATION_STATE, Code.NO_SUCH_RESERVATION)
 
 
 class Holds:
@@ -116,7 +117,7 @@ class Holds:
         path = f"/reservations/{key}/cancel"
         try:
             self._cancel(path, f"watch-end-{key}")
-        except calls.Refused as refusal:
+        except Refused as refusal:
             if refusal.code not in ENDED:
                 self.later[key] = time.monotonic() + RETRY
                 self.told(f"reservation {key} can't be ended: refused: {refusal}")
@@ -128,7 +129,7 @@ class Holds:
         """Cancels, without the key where the desk has no room for one more reply."""
         try:
             self.desk.tell(path, key=key)
-        except calls.Refused as refusal:
-            if refusal.code != calls.FULL:
+        except Refused as refusal:
+            if refusal.code != Code.FULL:
                 raise
             self.desk.tell(path)

@@ -5,7 +5,6 @@ import os
 import select
 import signal
 import sqlite3
-import sys
 import time
 from typing import Dict, List, Optional, Sequence
 
@@ -15,10 +14,13 @@ from farm_watch.rules import Rules, read_file
 from farm_watch.store import Delivery, Store
 from farm_watch.watcher import Watcher
 from fizgruk import calls, limits
-from fizgruk._tools import disk, parsers, settings, terminal
+from fizgruk._tools import asking, disk, parsers, terminal
+from fizgruk._tools.telling import Teller
+from fizgruk.errors import BadSettings, Refused, Unreachable
 from fizgruk.words import BadFile
 
 BAD, REFUSED, FAULT = 2, 3, 4
+end = Teller("farm-watch").told
 FILE, FOLDER = "/etc/farm/watch.toml", "/var/lib/farm-watch"
 LONGEST_EVERY = LONGEST_CALL = 5.0
 DAY = 86400
@@ -54,7 +56,7 @@ def main(words: Optional[Sequence[str]] = None) -> int:
         return run(options, rules)
     except BadFile as fault:
         return end(BAD, str(fault))
-    except (settings.BadSettings, OSError) as fault:
+    except (BadSettings, OSError) as fault:
         return end(FAULT, str(fault))
 
 
@@ -76,7 +78,7 @@ days. Without this file it begins as at its first look."""
     parser.add_argument("--check", action="store_true", help="Read FILE, and print its rules.")
     about = "Send the admins a word by each way, and say who took it."
     parser.add_argument("--try", action="store_true", dest="try_ways", help=about)
-    settings.add_options(
+    asking.add_options(
         parser,
         "watch",
         "default admin, as it has to be where holds are ended",
@@ -97,12 +99,6 @@ def seconds(text: str) -> float:
     if not 0.05 <= given <= LONGEST_EVERY:
         raise ValueError
     return given
-
-
-def end(status: int, text: str) -> int:
-    """Tells a trouble. Returns the exit status."""
-    print(f"farm-watch: {text}", file=sys.stderr, flush=True)
-    return status
 
 
 def summary(rules: Rules) -> str:
@@ -151,7 +147,7 @@ def run(options: argparse.Namespace, rules: Rules) -> int:
     """Watches until a signal comes. Returns the exit status."""
     stops = Stops()
     use_table(options, rules.desk)
-    desk = calls.Desk(settings.read_settings("watch", options, "admin"), patience=0)
+    desk = calls.Desk(asking.settings_of("watch", options, "admin"), patience=0)
     desk.timeout = min(desk.timeout, LONGEST_CALL)
     place = os.path.realpath(options.folder)
     os.makedirs(place, mode=0o750, exist_ok=True)
@@ -225,7 +221,7 @@ def serve(watcher: Watcher, tellers: List[watch_tell.Teller], stops: Stops, ever
             if cleaned is None or begun >= cleaned + DAY:
                 cleaned = begun
                 watcher.store.remove_old()
-        except calls.Refused as refusal:
+        except Refused as refusal:
             if refusal.status in (401, 403):
                 return end(REFUSED, f"the desk at {watcher.desk.server} refuses: {refusal}")
             trouble = f"the desk refuses: {refusal}"
@@ -245,6 +241,6 @@ def one_look(watcher: Watcher) -> str:
     try:
         watcher.round()
         return ""
-    except calls.NoAnswer as fault:
-        watcher.no_answer(str(fault))
-        return f"no answer from the desk at {watcher.desk.server}: {fault}"
+    except Unreachable as fault:
+        watcher.no_answer(fault.trouble)
+        return f"no answer from the desk at {fault}"

@@ -7,8 +7,7 @@ import re
 import urllib.parse
 from typing import Any, Callable, Dict, Optional, Tuple
 
-from fizgruk import limits, toml_text
-from fizgruk._tools import settings
+from fizgruk import limits, settings, toml_text
 from fizgruk.words import BadFile, name_of
 
 CHANNELS = ("mail", "webhook")

@@ -15,6 +15,7 @@ from farm_watch.room import Room
 from farm_watch.rules import Rules
 from farm_watch.store import Seen, Store, nothing
 from fizgruk import calls, wants
+from fizgruk.errors import Code, Refused
 
 MOST_JOBS = 200  # jobs that a look asks for one by one; the next look goes on
 
@@ -155,8 +156,8 @@ class Watcher:
     def _job(self, number: int) -> Optional[Dict[str, Any]]:
         try:
             return self.desk.look(f"/jobs/{number}")
-        except calls.Refused as refusal:
-            if refusal.code != calls.NO_JOB:
+        except Refused as refusal:
+            if refusal.code != Code.NO_SUCH_JOB:
                 raise
             return None
 

@@ -1,57 +1,42 @@
-"""Calls to the desk: one HTTP request each, sent again under one key where no answer came."""
+"""Calls to the desk over HTTP: connections that are kept where the server keeps them, and requests
+that are sent again, a command under its key, where no answer came."""
 import base64
 import copy
 import http.client
 import json
+import os
 import secrets
+import socket
 import ssl
 import time
 import urllib.parse
-from typing import Any, Callable, Dict, Iterator, List, Optional, Protocol, Tuple, Union
+from typing import Any, Callable, Dict, Iterator, List, NamedTuple, Optional, Protocol, Tuple, Union
 
-from fizgruk._tools.settings import Settings
+from fizgruk.bounds import MOST_WANTS
+from fizgruk.errors import Code, Refused, Unreachable
+from fizgruk.settings import Settings, address_of
 
-NOT_LET_IN, NOT_FOUND, NOTHING_BEYOND = 401, 404, 416
-TOO_LARGE = 413
-FORBIDDEN = 3
-FULL = 4
-NO_TYPE = 10
-NO_JOB = 20
-NO_BOARDS = 22
-WRONG_JOB_STATE = 21
-BAD_JOB_FILE = (5, 6, 7, 23, 70)
-NO_RESERVATION = 30
-EXPIRED = 31
-WRONG_RESERVATION_STATE = 32
-NO_ROUTE = 52
-
+NOT_LET_IN, NOT_FOUND, TOO_LARGE, NOTHING_BEYOND, TOO_MANY = 401, 404, 413, 416, 429
 # Statuses after which nobody knows whether a command was done: those of a proxy that reached no
 # desk, and the desk's own 503.
 UNKNOWN = (502, 503, 504)
-FIRST_WAIT = 0.2
-LONGEST_WAIT = 5.0
+FIRST_WAIT, LONGEST_WAIT = 0.2, 5.0
+# A connection that nobody used for so many seconds isn't used again: what lies between may have
+# dropped it without a word.
+LONGEST_IDLE = 30.0
+MOST_IDLE = 4
 BLOCK = 65536
-Body = Union[bytes, Dict[str, Any], None]
+NO_DESKS = "the answer isn't a desk's"
+Row = Dict[str, Any]
+Body = Union[bytes, Row, None]
 
 
-class Refused(Exception):
-    """The desk, or the proxy in front of it, refused. `code` is the desk's number, 0 where it gave
-    none."""
+class Answer(NamedTuple):
+    """An answer as it came."""
 
-    def __init__(self, status: int, code: int, text: str):
-        super().__init__(f"{code} {text}" if code else f"{status} {text}")
-        self.status = status
-        self.code = code
-
-    def about(self, what: str) -> "Refused":
-        """This refusal, and what it is about."""
-        self.args = (f"{self}: {what}",)
-        return self
-
-
-class NoAnswer(Exception):
-    """No answer came in time, or none that is the desk's: nobody knows whether a command was
-    done."""
+    status: int
+    reason: str
+    body: bytes
 
 
 def fresh_key() -> str:
@@ -67,7 +52,7 @@ def part(name: str) -> str:
 class Looker(Protocol):
     """What shows a desk's views."""
 
-    def look(self, path: str) -> Dict[str, Any]:
+    def look(self, path: str) -> Row:
         ...
 
 
@@ -76,38 +61,39 @@ class Remembered:
 
     def __init__(self, desk: Looker):
         self.desk = desk
-        self.seen: Dict[str, Dict[str, Any]] = {}
+        self.seen: Dict[str, Row] = {}
 
-    def look(self, path: str) -> Dict[str, Any]:
+    def look(self, path: str) -> Row:
         if path not in self.seen:
             self.seen[path] = self.desk.look(path)
         return self.seen[path]
 
 
 class Desk:
-    """A desk at a server's address, as one user sees it."""
+    """A desk at a server's address, as one user sees it; several threads may use it at once."""
 
     def __init__(self, settings: Settings, patience: float):
         """`patience` is for how many seconds a call is sent again where no answer comes."""
-        address = urllib.parse.urlsplit(settings.server)
+        address = address_of(settings.server)
         self.server = settings.server
         self.user = settings.user
-        self.host = address.hostname or ""
-        self.port = address.port
-        self.front = address.path.rstrip("/")
         self.timeout = settings.timeout
         self.patience = patience
-        # what is told, once, where a call gets no answer at first and is sent again
+        # what is told, once a call, where it gets no answer at first and is sent again
         self.tell_trouble: Callable[[str], None] = lambda trouble: None
         # what is called before a command is given
         self.tell_where: Callable[[], None] = lambda: None
-        self.context: Optional[ssl.SSLContext] = None
+        self._address = address
+        self._front = address.path.rstrip("/")
+        self._context: Optional[ssl.SSLContext] = None
         if address.scheme == "https":
-            self.context = ssl.create_default_context(cafile=settings.ca_file)
-        self.fields = {"x-user": settings.user}
+            self._context = ssl.create_default_context(cafile=settings.ca_file)
+        self._fields = {"x-user": settings.user}
         if settings.password is not None:
             pair = f"{settings.user}:{settings.password}".encode()
-            self.fields["authorization"] = "Basic " + base64.b64encode(pair).decode()
+            self._fields["authorization"] = "Basic " + base64.b64encode(pair).decode()
+        self._idle: List[Tuple[http.client.HTTPConnection, float]] = []
+        self._process = os.getpid()
 
     def of_patience(self, seconds: float) -> "Desk":
         """The same desk, whose calls are sent again for so many seconds."""
@@ -115,23 +101,36 @@ class Desk:
         other.patience = seconds
         return other
 
+    def alone(self) -> "Desk":
+        """The same desk, over connections of its own, whose calls are sent once."""
+        other = self.of_patience(0)
+        other._idle = []
+        return other
+
+    def close(self) -> None:
+        """Closes the connections that are kept; the next call opens one again."""
+        for line in iter(self._kept, None):
+            line.close()
+
     def asked_as(self) -> str:
         """Who asks, as the desk or the proxy in front of it sees it."""
-        word = "with" if "authorization" in self.fields else "without"
+        word = "with" if "authorization" in self._fields else "without"
         return f"asked as {self.user}, {word} a password"
 
-    def look(self, path: str) -> Dict[str, Any]:
+    # ---- calls
+
+    def look(self, path: str) -> Row:
         """What a view shows."""
         return self._answer("GET", path, None, {}, True)
 
-    def tell(self, path: str, body: Body = None, key: Optional[str] = None) -> Dict[str, Any]:
+    def tell(self, path: str, body: Body = None, key: Optional[str] = None) -> Row:
         """Gives a command, again and again under its key until an answer comes; without a key it is
         sent once."""
         self.tell_where()
         fields = {"x-key": key} if key else {}
         return self._answer("POST", path, _bytes_of(body), fields, key is not None)
 
-    def nudge(self, path: str) -> Dict[str, Any]:
+    def nudge(self, path: str) -> Row:
         """Gives a command that does no harm when it is done twice, a pass or a refresh, so it needs
         no key."""
         self.tell_where()
@@ -140,83 +139,144 @@ class Desk:
     def stream(self, path: str, begin: int = 0) -> Iterator[bytes]:
         """The bytes of a file that stands beside the desk, from one on, or the last ones where that
         is below 0."""
-        line = self._line()
+        line = self._opened()
         try:
             span = {"range": f"bytes={begin}-" if begin > 0 else f"bytes={begin}"} if begin else {}
-            line.request("GET", self.front + path, headers={**self.fields, **span})
+            line.request("GET", self._front + path, headers={**self._fields, **span})
             answer = line.getresponse()
             if answer.status == NOTHING_BEYOND:
                 return
             if answer.status in UNKNOWN:
-                raise NoAnswer(f"{answer.status} {answer.reason}")
+                raise Unreachable(f"{answer.status} {answer.reason}", self.server)
             if answer.status not in (200, 206):
-                self._meaning(answer.status, answer.reason, answer.read())
+                self._meaning(Answer(answer.status, answer.reason, answer.read()))
             yield from _read(answer, 0 if answer.status == 206 else begin)
         except (OSError, http.client.HTTPException) as fault:
-            raise NoAnswer(str(fault) or type(fault).__name__) from fault
+            raise Unreachable(str(fault) or type(fault).__name__, self.server) from fault
         finally:
             line.close()
 
     def _answer(
         self, method: str, path: str, body: Optional[bytes], fields: Dict[str, str], again: bool
-    ) -> Dict[str, Any]:
+    ) -> Row:
         until = time.monotonic() + self.patience
-        wait = FIRST_WAIT
+        wait, is_told = FIRST_WAIT, False
         while True:
-            try:
-                status, reason, said = self._exchange(method, path, body, {**self.fields, **fields})
-                if status not in UNKNOWN:
-                    return self._meaning(status, reason, said)
-                trouble = f"{status} {reason}"
-            except ssl.SSLError as fault:
-                raise NoAnswer(str(fault)) from fault
-            except (OSError, http.client.HTTPException) as fault:
-                trouble = str(fault) or type(fault).__name__
-            if not again or time.monotonic() + wait > until:
-                raise NoAnswer(trouble)
-            self.tell_trouble(trouble)
+            answer, trouble = self._tried(method, path, body, {**self._fields, **fields})
+            has_time = time.monotonic() + wait <= until
+            # (where a proxy lets nothing through, nothing was done: that goes without a key too)
+            is_limited = answer is not None and answer.status == TOO_MANY
+            is_known = answer is not None and answer.status not in UNKNOWN
+            if answer is not None and is_known and not (is_limited and has_time):
+                return self._meaning(answer)
+            if not has_time or not (again or is_limited):
+                raise Unreachable(trouble, self.server)
+            if not is_told:
+                self.tell_trouble(trouble)
+            is_told = True
             time.sleep(wait)
             wait = min(2 * wait, LONGEST_WAIT)
 
-    def _meaning(self, status: int, reason: str, said: bytes) -> Dict[str, Any]:
+    def _tried(
+        self, method: str, path: str, body: Optional[bytes], fields: Dict[str, str]
+    ) -> Tuple[Optional[Answer], str]:
+        """The answer to a request, if one comes, and what is told where it is none."""
+        try:
+            answer = self._exchange(method, path, body, fields)
+        except (OSError, http.client.HTTPException) as fault:
+            trouble = str(fault) or type(fault).__name__
+            if _is_final(fault):
+                raise Unreachable(trouble, self.server) from fault
+            return None, trouble
+        return answer, f"{answer.status} {answer.reason}"
+
+    def _meaning(self, answer: Answer) -> Row:
         """What an answer says, where it isn't a refusal."""
         try:
-            told = json.loads(said)
+            told = json.loads(answer.body)
         except ValueError:
             told = None
-        if status == 200 and isinstance(told, dict):
+        if answer.status == 200 and isinstance(told, dict):
             return told
-        if 200 <= status < 300:
-            raise NoAnswer("the answer isn't a desk's")
-        told = told if isinstance(told, dict) else {}
-        refusal = Refused(status, told.get("code", 0), told.get("text", reason))
-        if status == NOT_LET_IN:
+        if 200 <= answer.status < 300:
+            raise Unreachable(NO_DESKS, self.server)
+        code, text = 0, answer.reason
+        if isinstance(told, dict) and isinstance(told.get("code"), int):
+            code, text = told["code"], str(told.get("text", text))
+        refusal = Refused(answer.status, code, text)
+        if answer.status == NOT_LET_IN:
             refusal.about(self.asked_as())
-        elif refusal.code == FORBIDDEN:
+        elif code == Code.FORBIDDEN:
             refusal.about(f"asked as {self.user}")
         raise refusal
 
+    # ---- connections
+
     def _exchange(
         self, method: str, path: str, body: Optional[bytes], fields: Dict[str, str]
-    ) -> Tuple[int, str, bytes]:
-        """One request and its answer: status, reason and body."""
-        line = self._line()
+    ) -> Answer:
+        """One request and its answer. A server may close a connection that it kept just as it is
+        used again: then the request goes out over a new one."""
+        kept = self._kept()
+        if kept is not None:
+            try:
+                return self._exchange_over(kept, method, path, body, fields)
+            except socket.timeout:
+                raise
+            except (OSError, http.client.HTTPException):
+                self.close()
+        return self._exchange_over(self._opened(), method, path, body, fields)
+
+    def _exchange_over(
+        self, line: http.client.HTTPConnection, method: str, path: str, body: Optional[bytes],
+        fields: Dict[str, str],
+    ) -> Answer:
         try:
-            line.request(method, self.front + path, body=body, headers=fields)
+            line.request(method, self._front + path, body=body, headers=fields)
             answer = line.getresponse()
             if not (answer.getheader("content-length") or answer.getheader("transfer-encoding")):
                 raise http.client.HTTPException("the answer was cut in its head")
-            return answer.status, answer.reason, answer.read()
-        finally:
+            found = Answer(answer.status, answer.reason, answer.read())
+        except BaseException:
+            line.close()
+            raise
+        if answer.will_close or len(self._idle) >= MOST_IDLE:
+            line.close()
+        else:
+            self._idle.append((line, time.monotonic()))
+        return found
+
+    def _kept(self) -> Optional[http.client.HTTPConnection]:
+        """A connection that was kept, if there is one; a child of the process that opened it leaves
+        it alone."""
+        if self._process != os.getpid():
+            self._idle, self._process = [], os.getpid()
+        while True:
+            try:
+                line, since = self._idle.pop()
+            except IndexError:
+                return None
+            if time.monotonic() - since < LONGEST_IDLE:
+                if line.sock:
+                    line.sock.settimeout(self.timeout)
+                return line
             line.close()
 
-    def _line(self) -> http.client.HTTPConnection:
-        """A connection to the server."""
-        if self.context:
+    def _opened(self) -> http.client.HTTPConnection:
+        host, port = self._address.hostname or "", self._address.port
+        if self._context:
             return http.client.HTTPSConnection(
-                self.host, self.port, timeout=self.timeout, context=self.context
+                host, port, timeout=self.timeout, context=self._context
             )
-        return http.client.HTTPConnection(self.host, self.port, timeout=self.timeout)
+        return http.client.HTTPConnection(host, port, timeout=self.timeout)
+
+
+def _is_final(fault: Exception) -> bool:
+    """Whether it would be the same again: a certificate that isn't trusted, or no TLS there. A
+    connection that ended within TLS is as any that ended."""
+    return isinstance(fault, ssl.SSLError) and not isinstance(
+        fault, (ssl.SSLEOFError, ssl.SSLZeroReturnError, ssl.SSLSyscallError)
+    )
 
 
 def _read(answer: http.client.HTTPResponse, begin: int) -> Iterator[bytes]:
@@ -239,18 +299,40 @@ def _bytes_of(body: Body) -> Optional[bytes]:
     return json.dumps(body).encode()
 
 
-def members_of(desk: Desk, number: int) -> List[Dict[str, Any]]:
-    """The views of all members of a job's group: jobs with consecutive numbers from the group's
-    on."""
-    group = desk.look(f"/jobs/{number}")["group"]
-    members: List[Dict[str, Any]] = []
-    while True:
+# ---- what is answered
+
+
+def number_of(desk: "Desk", said: Row) -> int:
+    """The number that a command is answered by."""
+    number = said.get("number")
+    if not isinstance(number, int):
+        raise Unreachable(NO_DESKS, desk.server)
+    return number
+
+
+def rows_of(desk: Looker, name: str) -> List[Row]:
+    """The rows of a view."""
+    rows = desk.look(f"/{name}").get(name)
+    if not isinstance(rows, list):
+        raise Unreachable(NO_DESKS, getattr(desk, "server", ""))
+    return rows
+
+
+def members_of(desk: Looker, number: int) -> List[Row]:
+    """The views of all members of a job's group, whether they hold boards or not: they have the
+    numbers from the group's own on, and roles, if they are more than one."""
+    first = desk.look(f"/jobs/{number}")
+    if first["group"] != number:
+        first = desk.look(f"/jobs/{first['group']}")
+    found = [first]
+    while first["role"] and len(found) < MOST_WANTS:
         try:
-            view = desk.look(f"/jobs/{group + len(members)}")
+            view = desk.look(f"/jobs/{first['number'] + len(found)}")
         except Refused as refusal:
-            if refusal.status != NOT_FOUND or not members:
+            if refusal.code != Code.NO_SUCH_JOB:
                 raise
-            return members
-        if view["group"] != group:
-            return members
-        members.append(view)
+            break
+        if view["group"] != first["group"]:
+            break
+        found.append(view)
+    return found

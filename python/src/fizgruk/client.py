@@ -4,9 +4,9 @@ import logging
 from types import TracebackType
 from typing import Callable, Dict, List, Optional, Sequence, Type, TypeVar, Union
 
-from fizgruk import models
-from fizgruk.errors import Code, Refused, Unreachable
-from fizgruk.holding import Hold
+from fizgruk import calls, models, waiting
+from fizgruk.calls import Body, Desk, Row, fresh_key, part
+from fizgruk.holding import Hold, Priority
 from fizgruk.models import (
     BoardView,
     Check,
@@ -20,12 +20,10 @@ from fizgruk.models import (
     TypeView,
 )
 from fizgruk.settings import read_settings
-from fizgruk.waiting import Tell, Wait, wait_for_board, wait_for_group
-from fizgruk.wire import Body, Told, Wire, fresh_key, part
+from fizgruk.waiting import Tell, Wait
 
 LOG = logging.getLogger("fizgruk")
 Own = TypeVar("Own", bound="Client")
-Priority = Union[int, str, None]
 
 
 class Client:
@@ -48,20 +46,20 @@ class Client:
             "server": server, "user": user, "password_file": password_file, "ca_file": ca_file,
             "timeout": seconds, "config": config,
         }
-        self._wire = Wire(read_settings(given))
-        self.patience = patience
+        self._desk = Desk(read_settings(given), patience)
+        self._desk.tell_trouble = self._log_trouble
 
     @property
     def server(self) -> str:
-        return self._wire.server
+        return self._desk.server
 
     @property
     def user(self) -> str:
-        return self._wire.user
+        return self._desk.user
 
     def close(self) -> None:
         """Closes the connections that are kept; the next call opens one again."""
-        self._wire.close()
+        self._desk.close()
 
     def __enter__(self: Own) -> Own:
         return self
@@ -75,14 +73,11 @@ class Client:
     def of_patience(self: Own, seconds: float) -> Own:
         """The same client, whose calls are sent again for so many seconds."""
         other = copy.copy(self)
-        other.patience = seconds
+        other._desk = self._desk.of_patience(seconds)
         return other
 
-    def alone(self: Own) -> Own:
-        """The same client over connections of its own, for a thread. Its calls are sent once."""
-        other = self.of_patience(0)
-        other._wire = self._wire.alone()
-        return other
+    def _log_trouble(self, trouble: str) -> None:
+        LOG.warning("waiting for the desk at %s: %s", self.server, trouble)
 
     # ---- views
 
@@ -102,25 +97,14 @@ class Client:
         return self._rows("reservations", ReservationView)
 
     def job(self, number: int) -> JobView:
-        return models.view_of(JobView, self._look(f"/jobs/{number}"))
+        return models.view_of(JobView, self._desk.look(f"/jobs/{number}"))
 
     def group(self, number: int) -> List[JobView]:
         """All members of a job's group, which have consecutive numbers."""
-        first = self.job(number).group
-        members: List[JobView] = []
-        while True:
-            try:
-                job = self.job(first + len(members))
-            except Refused as refusal:
-                if refusal.code != Code.NO_SUCH_JOB or not members:
-                    raise
-                return members
-            if job.group != first:
-                return members
-            members.append(job)
+        return [models.view_of(JobView, it) for it in calls.members_of(self._desk, number)]
 
     def status(self) -> Status:
-        return models.view_of(Status, self._look("/status"))
+        return models.view_of(Status, self._desk.look("/status"))
 
     # ---- the admin's commands
 
@@ -163,8 +147,8 @@ class Client:
         tell: Tell = LOG.info,
     ) -> List[JobView]:
         """Waits until all members of a job's group have ended, and gives them."""
-        wait = Wait(self, f"job {number} hasn't ended", timeout, every, tell)
-        return wait_for_group(wait, number)
+        wait = Wait(self._desk, f"job {number} hasn't ended", timeout, every, tell)
+        return [models.view_of(JobView, it) for it in waiting.wait_for_group(wait, number)]
 
     # ---- reservations
 
@@ -184,9 +168,8 @@ class Client:
     ) -> BoardView:
         """Waits until a reservation has a board, and refreshes it meanwhile. The board is to be
         acquired within a minute."""
-        rows = [it for it in self.reservations() if it.number == number]
-        wait = Wait(self, f"no board for reservation {number}", timeout, every, tell)
-        return wait_for_board(wait, number, rows[0].tags if rows else ())
+        wait = Wait(self._desk, f"no board for reservation {number}", timeout, every, tell)
+        return models.view_of(BoardView, waiting.wait_for_board(wait, number, None))
 
     def acquire(self, number: int, *, key: Optional[str] = None) -> None:
         """Takes the board that a reservation was given, until it is released or canceled."""
@@ -199,7 +182,7 @@ class Client:
     def refresh(self, number: int) -> None:
         """Lets a reservation live for a minute from now on. Done twice it does no harm, so it has
         no key."""
-        self._wire.tell(f"/reservations/{number}/refresh", None, None, self.patience)
+        self._desk.nudge(f"/reservations/{number}/refresh")
 
     def cancel_reservation(self, number: int, *, key: Optional[str] = None) -> None:
         """Ends a reservation: its board is free."""
@@ -220,14 +203,13 @@ class Client:
         Raises `HoldLost` where an admin or farm-watch ends the reservation meanwhile.
         """
         asked = [*tags, *(f"{name}={value}" for name, value in wants.items())]
-        return Hold(self, asked, priority, timeout, every, tell)
+        return Hold(self._desk, asked, priority, timeout, every, tell)
 
     # ---- the dispatcher's commands
 
     def call_pass(self) -> PassCounts:
         """Gives boards to what waits for them. Done twice it does no harm, so it has no key."""
-        told = self._wire.tell("/pass", None, None, self.patience)
-        return models.view_of(PassCounts, told)
+        return models.view_of(PassCounts, self._desk.nudge("/pass"))
 
     def start_job(self, number: int, *, key: Optional[str] = None) -> int:
         """Starts a job's group. Gives the group's number."""
@@ -239,20 +221,11 @@ class Client:
 
     # ---- how it is asked
 
-    def _look(self, path: str) -> Told:
-        return self._wire.look(path, self.patience)
-
     def _rows(self, name: str, kind: Callable[..., models.View]) -> List[models.View]:
-        rows = self._look(f"/{name}").get(name)
-        if not isinstance(rows, list):
-            raise Unreachable(f"{self.server}: the answer isn't a desk's")
-        return [models.view_of(kind, it) for it in rows]
+        return [models.view_of(kind, it) for it in calls.rows_of(self._desk, name)]
 
-    def _tell(self, path: str, body: Body, key: Optional[str]) -> Told:
-        return self._wire.tell(path, body, key or fresh_key(), self.patience)
+    def _tell(self, path: str, body: Body, key: Optional[str]) -> Row:
+        return self._desk.tell(path, body, key or fresh_key())
 
     def _number(self, path: str, body: Body, key: Optional[str]) -> int:
-        number = self._tell(path, body, key).get("number")
-        if not isinstance(number, int):
-            raise Unreachable(f"{self.server}: the answer isn't a desk's")
-        return number
+        return calls.number_of(self._desk, self._tell(path, body, key))

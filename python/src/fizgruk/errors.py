@@ -45,15 +45,26 @@ class Refused(FizgrukError):
     """The desk refused: nothing was done. What the proxy in front of it refuses has the HTTP status
     as its code, as 401 where the password is wrong."""
 
-    def __init__(self, code: int, text: str, status: int, about: str = "") -> None:
-        super().__init__(f"{code} {text}" + (f": {about}" if about else ""))
-        self.code = code
-        self.text = text
+    def __init__(self, status: int, code: int, text: str) -> None:
+        super().__init__(f"{code or status} {text}")
         self.status = status
+        self.code = code or status
+        self.is_desks = code != 0
+        self.text = text
+
+    def about(self, what: str) -> "Refused":
+        """This refusal, and what it is about."""
+        self.args = (f"{self}: {what}",)
+        return self
 
 
 class Unreachable(FizgrukError):
     """No answer came, or none that is a desk's: nobody knows whether a command was done."""
+
+    def __init__(self, trouble: str, server: str = "") -> None:
+        """`trouble` is why; the error's text names the server too."""
+        super().__init__(f"{server}: {trouble}" if server else trouble)
+        self.trouble = trouble
 
 
 class TimedOut(FizgrukError, TimeoutError):

@@ -1,12 +1,11 @@
 """The history that farm-dispatch keeps, as the proxy serves it beside the desk, or as it stands in
 the dispatcher's folder."""
-import argparse
 import collections
 import os
-from typing import Any, Dict, Iterator, List, Optional, Union
+from typing import Any, Dict, Iterator, List, Union
 
 from fizgruk import calls, records, submissions
-from fizgruk._tools import settings
+from fizgruk.errors import BadSettings, Code, Refused, Unreachable
 
 NONE_SERVED = (
     "{} serves no history: ask through the proxy (examples/nginx.conf), or on the dispatcher's "
@@ -34,7 +33,7 @@ class Served:
         try:
             jobs: List[Dict[str, Any]] = self.desk.look(f"/{records.NEWEST}")["jobs"]
             return jobs
-        except calls.Refused as refusal:
+        except Refused as refusal:
             raise self._about(refusal)
 
     def rows(self, last: int = 0) -> Iterator[Dict[str, Any]]:
@@ -45,15 +44,15 @@ class Served:
             for said in self.desk.stream(f"/{records.LINES}", -last):
                 *lines, rest = (rest + said).split(b"\n")
                 yield from (row for row in map(records.row_of, lines) if row is not None)
-        except calls.Refused as refusal:
+        except Refused as refusal:
             raise self._about(refusal)
 
     def log(self, number: int, begin: int) -> Iterator[bytes]:
         """What a job's log has, from a byte on."""
         try:
             yield from self.desk.stream(f"/logs/{number}", begin)
-        except calls.Refused as refusal:
-            if refusal.status == calls.NOT_FOUND and refusal.code != calls.NO_ROUTE:
+        except Refused as refusal:
+            if refusal.status == calls.NOT_FOUND and refusal.code != Code.NO_SUCH_ROUTE:
                 raise NoLog from refusal
             raise self._about(refusal)
 
@@ -63,12 +62,12 @@ class Served:
         try:
             for piece in self.desk.stream(f"/{submissions.FILE}", -NUMBERS):
                 said += piece
-        except (calls.Refused, calls.NoAnswer):
+        except (Refused, Unreachable):
             return []
         lines = said.decode(errors="replace").splitlines(keepends=True)
         return submissions.looks_of(lines if len(said) < NUMBERS else lines[1:])
 
-    def _about(self, refusal: calls.Refused) -> calls.Refused:
+    def _about(self, refusal: Refused) -> Refused:
         if refusal.status == calls.NOT_FOUND:
             return refusal.about(NONE_SERVED.format(self.desk.server))
         return refusal
@@ -81,7 +80,7 @@ class Kept:
         self.lines = place if os.path.isfile(place) else os.path.join(place, records.LINES)
         self.folder = os.path.dirname(self.lines)
         if not os.path.isfile(self.lines):
-            raise settings.BadSettings(f"{place} has no history: {self.lines} isn't there")
+            raise BadSettings(f"{place} has no history: {self.lines} isn't there")
 
     def newest(self) -> List[Dict[str, Any]]:
         """The lines of the newest jobs, the newest first."""
@@ -116,17 +115,3 @@ class Kept:
 
 
 Past = Union[Served, Kept]
-
-
-def moments_of(desk: calls.Desk, options: argparse.Namespace) -> submissions.Looks:
-    """When the last numbers were given, as far as it is known."""
-    try:
-        return history_of(desk, options).moments()
-    except settings.BadSettings:
-        return []  # it has no history
-
-
-def history_of(desk: calls.Desk, options: argparse.Namespace) -> Past:
-    """The history of a desk: the folder's that the settings name, or the one that is served."""
-    place: Optional[str] = settings.values_of("desk", options)["history"]
-    return Kept(os.path.expanduser(place)) if place else Served(desk)

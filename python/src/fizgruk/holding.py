@@ -4,52 +4,112 @@ import logging
 import os
 import time
 from types import TracebackType
-from typing import TYPE_CHECKING, Optional, Sequence, Set, Type, Union
+from typing import Any, Dict, Optional, Sequence, Set, Type, Union
 
-from fizgruk.errors import (
-    Code,
-    FizgrukError,
-    HoldLost,
-    NotGivenBack,
-    Refused,
-    ReservationEnded,
-    Unreachable,
-)
+from fizgruk import wants
+from fizgruk.calls import Desk, fresh_key, number_of
+from fizgruk.errors import Code, FizgrukError, HoldLost, NotGivenBack, Refused, Unreachable
 from fizgruk.models import Board
-from fizgruk.waiting import LEASE, Tell, Wait, wait_for_board
-from fizgruk.watching import Interrupt, Watch
-from fizgruk.wire import fresh_key
-
-if TYPE_CHECKING:
-    from fizgruk.client import Client
+from fizgruk.waiting import LEASE, Tell, Wait, wait_for_board, with_end_told
+from fizgruk.watching import BlockWatch, Interrupt
 
 LOG = logging.getLogger("fizgruk")
 # For so many seconds it is tried to give a board back.
 GIVES_UP = 60.0
 PAUSE = 1.0
-ENDED = (Code.RESERVATION_EXPIRED, Code.WRONG_RESERVATION_STATE)
-NONE_HELD = (*ENDED, Code.NO_SUCH_RESERVATION)
+# What a reservation that has ended, and so holds nothing, is refused for.
+NONE_HELD = (
+    Code.RESERVATION_EXPIRED, Code.WRONG_RESERVATION_STATE, Code.NO_SUCH_RESERVATION,
+)
 MOST_INTERRUPTS = 1000
+Priority = Union[int, str, None]
 OPEN: Set["Hold"] = set()
+
+
+class Reservation:
+    """A reservation of one's own, from its asking to its end."""
+
+    def __init__(self, desk: Desk, tags: Optional[Sequence[str]], priority: Priority) -> None:
+        self.desk = desk
+        self.tags = tags
+        self.number: Optional[int] = None
+        self.board = ""  # what it has acquired
+        self.is_lost = False  # whether it had ended before its board was given back
+        self._body: Dict[str, Any] = {"tags": None if tags is None else list(tags)}
+        if priority is not None:
+            self._body["priority"] = priority
+        self._is_refused = False
+        self._key, self._cancel_key = fresh_key(), fresh_key()
+        self._until: Optional[float] = None
+
+    def ask(self, desk: Optional[Desk] = None) -> int:
+        """Reserves. Asked again, it is the same reservation."""
+        try:
+            said = (desk or self.desk).tell("/reservations", self._body, self._key)
+            self.number = number_of(self.desk, said)
+        except Refused as refusal:
+            self._is_refused = True
+            if refusal.code == Code.NO_SUCH_BOARDS and self.tags is not None:
+                raise wants.told(self.desk, refusal, [wants.Want("", tuple(self.tags))])
+            raise
+        return self.number
+
+    def acquire(self, board: str) -> None:
+        """Makes the board that it was given its owner's."""
+        desk, path = self.desk.of_patience(LEASE), f"/reservations/{self.number}/acquire"
+        with_end_told(self.number or 0, lambda: desk.tell(path, key=fresh_key()))
+        self.board = board
+
+    def give_back(self) -> None:
+        """Cancels it, so that its board is free, and tries so for a minute, under one key however
+        often it is called. One without a number may have been made, and its answer lost: it is
+        asked for once more. Raises NotGivenBack where it is left."""
+        if self._is_refused:
+            return
+        desk = self.desk.of_patience(0)
+        self._until = self._until or time.monotonic() + GIVES_UP
+        is_told = False
+        while True:
+            try:
+                number = self.number or self.ask(desk)
+                desk.tell(f"/reservations/{number}/cancel", key=self._cancel_key)
+                return
+            except Refused as refusal:
+                if self.number is None:
+                    return  # there is none
+                if refusal.code in NONE_HELD:
+                    self.is_lost = bool(self.board)
+                    return
+                raise NotGivenBack(f"{refusal}: {self._left()}") from refusal
+            except Unreachable as silence:
+                if self.number is None or time.monotonic() > self._until:
+                    raise NotGivenBack(f"{silence.trouble}: {self._left()}") from silence
+                if not is_told:
+                    self.desk.tell_trouble(silence.trouble)
+                is_told = True
+            time.sleep(PAUSE)
+
+    def _left(self) -> str:
+        if self.number is None:
+            return "a reservation may be left, which ends by itself within two minutes"
+        return f"reservation {self.number} is left: desk cancel-reservation {self.number}"
 
 
 class Hold:
     """What `Client.board` gives: within it the board is acquired."""
 
     def __init__(
-        self, client: "Client", tags: Sequence[str], priority: Union[int, str, None],
-        timeout: Optional[float], every: float, tell: Tell,
+        self, desk: Desk, tags: Sequence[str], priority: Priority, timeout: Optional[float],
+        every: float, tell: Tell,
     ) -> None:
-        self._client = client
+        self._desk = desk
         self._tags = tags
-        self._priority = priority
         self._timeout = timeout
         self._every = every
         self._tell = tell
-        self._key = fresh_key()
-        self._number: Optional[int] = None
+        self._reservation = Reservation(desk, tags, priority)
         self._process = 0
-        self.watch: Optional[Watch] = None
+        self.watch: Optional[BlockWatch] = None
 
     @property
     def lost(self) -> str:
@@ -84,26 +144,14 @@ class Hold:
             raise HoldLost(self.lost) from fault
 
     def _acquired(self) -> Board:
-        number = self._ask(self._client.patience)
+        number = self._reservation.ask()
         what = " ".join(["no board", *(["with"] if self._tags else []), *self._tags])
-        wait = Wait(self._client, what, self._timeout, self._every, self._tell)
+        wait = Wait(self._desk, what, self._timeout, self._every, self._tell)
         board = wait_for_board(wait, number, self._tags)
-        try:
-            self._client.of_patience(LEASE).acquire(number)
-        except Refused as refusal:
-            if refusal.code in ENDED:
-                raise ReservationEnded(f"reservation {number} has ended") from refusal
-            raise
-        self.watch = Watch(self._client, board.name, number)
+        self._reservation.acquire(board["name"])
+        self.watch = BlockWatch(self._desk, board["name"], number)
         self.watch.begin()
-        return Board(board.name, board.type, board.tags, number)
-
-    def _ask(self, patience: float) -> int:
-        """Reserves. Asked again, it is the same reservation."""
-        if self._number is None:
-            client = self._client.of_patience(patience)
-            self._number = client.reserve(*self._tags, priority=self._priority, key=self._key)
-        return self._number
+        return Board(board["name"], board["type"], tuple(board["tags"]), number)
 
     def end(self, fault: Optional[BaseException] = None) -> None:
         """Gives the board back, also where the program is interrupted again and again: what comes
@@ -114,12 +162,11 @@ class Hold:
             return
         if self.watch:
             self.watch.end()
-        until = time.monotonic() + GIVES_UP
-        key = fresh_key()
         came: Optional[BaseException] = None
         for _ in range(MOST_INTERRUPTS):
             try:
-                self._give_back(key, until, isinstance(fault, Refused))
+                self._reservation.give_back()
+                self._note_loss()
                 break
             except NotGivenBack as left:
                 OPEN.discard(self)
@@ -137,39 +184,10 @@ class Hold:
         """Whether this process reserved it."""
         return self._process == os.getpid()
 
-    def _give_back(self, key: str, until: float, is_refused: bool) -> None:
-        """Cancels the reservation, so that its board is free, and tries so until a moment. One
-        without a number may have been made, and its answer lost."""
-        if self._number is None and is_refused:
-            return
-        while True:
-            try:
-                number = self._ask(0)
-                self._client.of_patience(0).cancel_reservation(number, key=key)
-                return
-            except Refused as refusal:
-                if self._number is None:
-                    return  # there is none
-                if refusal.code in NONE_HELD:
-                    self._note_loss()
-                    return
-                raise NotGivenBack(self._left(refusal)) from refusal
-            except Unreachable as silence:
-                if self._number is None or time.monotonic() > until:
-                    raise NotGivenBack(self._left(silence)) from silence
-            time.sleep(PAUSE)
-
     def _note_loss(self) -> None:
-        """Notes that the reservation had ended before it was given back. One that had a board was
-        lost then."""
-        if self.watch and not self.watch.lost:
-            self.watch.note(self.watch.text(self._client.of_patience(0)))
-
-    def _left(self, fault: FizgrukError) -> str:
-        if self._number is None:
-            return f"{fault}: a reservation may be left, which ends by itself within two minutes"
-        number = self._number
-        return f"{fault}: reservation {number} is left: desk cancel-reservation {number}"
+        """Notes that the reservation had ended before its board was given back."""
+        if self._reservation.is_lost and self.watch and not self.watch.lost:
+            self.watch.note(self.watch.text())
 
 
 @atexit.register

@@ -3,10 +3,13 @@ from typing import Any, Dict, List, Optional
 
 from fizgruk import calls, limits, toml_text, wants, words
 from fizgruk.bounds import HIGHEST_PRIORITY, LONGEST_JOB_FILE, MOST_WANTS
+from fizgruk.errors import Code, Refused, Unreachable
 from fizgruk.wants import Want
 from fizgruk.words import BadFile
 
 PRIORITIES = ("low", "medium", "high")
+# What the desk refuses for a rule that the file breaks.
+BROKEN = (Code.BAD_NAME, Code.BAD_TAG, Code.BAD_COUNT, Code.BAD_PRIORITY, Code.BAD_JOB_FILE)
 
 
 def fault_of(data: bytes) -> Optional[str]:
@@ -48,17 +51,17 @@ def wants_of(data: bytes) -> List[Want]:
     return [want for want, count in wanted for _ in range(count)]
 
 
-def why_refused(desk: calls.Looker, refusal: calls.Refused, data: bytes) -> calls.Refused:
+def why_refused(desk: calls.Looker, refusal: Refused, data: bytes) -> Refused:
     """A refusal of a job file, and what is known of why."""
-    if refusal.code in calls.BAD_JOB_FILE or refusal.status == calls.TOO_LARGE:
+    if refusal.code in BROKEN or refusal.status == calls.TOO_LARGE:
         fault = fault_of(data)
         return refusal.about(fault) if fault else refusal
-    if refusal.code == calls.NO_BOARDS:
+    if refusal.code == Code.NO_SUCH_BOARDS:
         return wants.told(desk, refusal, wants_of(data))
-    if refusal.code == calls.NO_TYPE:
+    if refusal.code == Code.NO_SUCH_TYPE:
         try:
             there = {it["name"] for it in desk.look("/types")["types"]}
-        except (calls.NoAnswer, calls.Refused):
+        except (Unreachable, Refused):
             return refusal
         lacks = dict.fromkeys(it.kind for it in wants_of(data) if it.kind not in there)
         return refusal.about(" ".join(lacks)) if lacks else refusal

@@ -1,24 +1,12 @@
 """How long a job may run: `[timeouts] job` of its text, written as LAVA writes it, or the
 dispatcher's default, and never longer than the dispatcher's most."""
 import dataclasses
-import importlib
 import math
 import re
-from types import ModuleType
 from typing import List, Optional, Tuple
 
+from fizgruk import toml_text
 
-def _reader() -> Optional[ModuleType]:
-    """Python's own reader of TOML, or tomli before Python 3.11; None where neither is there."""
-    for name in ("tomllib", "tomli"):
-        try:
-            return importlib.import_module(name)
-        except ImportError:
-            continue
-    return None
-
-
-tomllib = _reader()
 UNITS = {"days": 86400, "hours": 3600, "minutes": 60, "seconds": 1}
 PART = re.compile(r"([0-9]+(?:\.[0-9]+)?) *(day|hour|minute|second)s?(?: *,? *|$)")
 LONGEST = 1e9
@@ -129,11 +117,9 @@ def _asked(text: str) -> Optional[float]:
     """The seconds that a job's text names, or None where it names none."""
     if not text.strip():
         return None
-    if tomllib is None:
-        raise BadTime("timeouts aren't read, since this Python has neither tomllib nor tomli")
     try:
-        table = tomllib.loads(text)
-    except (ValueError, RecursionError) as fault:
+        table = toml_text.tree_of(text)
+    except toml_text.NotToml as fault:
         raise BadTime(f"the job's text can't be read for its timeouts ({fault})") from fault
     if "timeouts" not in table:
         return None

@@ -17,7 +17,7 @@ from fizgruk import holding
 from fizgruk.client import Client
 from fizgruk.errors import FizgrukError, HoldLost
 from fizgruk.models import Board
-from fizgruk.watching import Interrupt, Watch
+from fizgruk.watching import BlockWatch, Interrupt
 
 # Signals that end a process without a word, and here end the session as Ctrl-C does.
 SIGNALS = (signal.SIGTERM, signal.SIGHUP)
@@ -97,7 +97,7 @@ class Guard:
     """Lets the tests that ask for the session's board fail with HoldLost once it is lost. Another
     test isn't interrupted, and neither is a teardown."""
 
-    def __init__(self, watch: Watch) -> None:
+    def __init__(self, watch: BlockWatch) -> None:
         self.watch = watch
         self.watch.interrupts = False
         self.told: Optional[pytest.Item] = None
@@ -146,7 +146,7 @@ class Guard:
 class Gate:
     """Lets no test begin that asks for the session's board once that is lost."""
 
-    def __init__(self, watch: Watch) -> None:
+    def __init__(self, watch: BlockWatch) -> None:
         self.watch = watch
 
     @first

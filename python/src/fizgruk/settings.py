@@ -1,27 +1,37 @@
-"""Where the desk is and who asks: what is given, else the environment, else desk.ini, as the
-command `desk` has it; and ~/.netrc."""
+"""Where the desk is and who asks: what is given, else the environment, else the files of settings,
+and ~/.netrc."""
 import configparser
 import dataclasses
 import difflib
 import getpass
 import netrc
 import os
-import re
 import stat
 import urllib.parse
-from typing import Dict, Mapping, Optional, Sequence, Tuple
+from typing import Any, Callable, Dict, Mapping, Optional, Sequence, Tuple
 
 from fizgruk.errors import BadSettings
+from fizgruk.words import NAMES
 
-SYSTEM_FILE = "/etc/farm/desk.ini"
+SYSTEM_FILE, OWN_FILE = "/etc/farm/desk.ini", "~/.config/farm/desk.ini"
 SERVER = "http://127.0.0.1:880"
-SECTION, ENVIRONMENT = "desk", "DESK_"
-WORDS = ("server", "user", "password_file", "ca_file", "timeout")
-# What the section may have besides, which is the command's alone.
-OF_COMMAND = ("history", "access")
-NO_LOGIN = "a server's address has no user and no password in it: user and password_file"
+NO_LOGIN = "a server's address has no user and no password in it: they are settings of their own"
 LOOPBACK = ("127.0.0.1", "localhost", "::1")
 SECONDS = "30"
+WORDS = ("server", "user", "password_file", "ca_file", "timeout")
+OF_DESK = ("history", "access")
+OF_DISPATCH = (
+    "limit", "most", "retry", "clock", "keep_logs", "cage", "log_limit", "folder_limit",
+    "memory_limit", "process_limit", "serves",
+)
+# The sections of a file, each with its settings.
+SECTIONS = {
+    "desk": (*WORDS, *OF_DESK),
+    "dispatch": (*WORDS, *OF_DISPATCH),
+    "watch": WORDS,
+}
+BadWords = Callable[[str], None]  # raises that a setting is misspelt
+Given = Mapping[str, Any]  # what goes before all else; `config` names the file of settings
 
 
 @dataclasses.dataclass(frozen=True)
@@ -35,30 +45,97 @@ class Settings:
     timeout: float
 
 
-def read_settings(given: Mapping[str, Optional[str]]) -> Settings:
-    """The settings by what is given: each of WORDS, and `config`, the file of settings."""
-    around = _environment()
-    files = _files_read(given.get("config") or around.get("config"))
-    found = {it: given.get(it) or around.get(it) or files.get(it) for it in WORDS}
+def refuse(text: str) -> None:
+    raise BadSettings(text)
+
+
+def read_settings(
+    given: Given, section: str = "desk", user: Optional[str] = None, bad_words: BadWords = refuse
+) -> Settings:
+    """The settings of calls. `user` is who asks where nothing names one; without it, the name in
+    ~/.netrc or of the login."""
+    found = values_of(given, section, bad_words)
     server = found["server"] or SERVER
     address = address_of(server)
     login, password = _password_of(found["password_file"], address.hostname or "")
-    user = found["user"] or login or getpass.getuser()
-    if not re.fullmatch("[A-Za-z0-9_.-]{1,48}", user):
-        raise BadSettings(f"{user!r} is no name of a user")
-    if login is not None and login != user:
+    asks = found["user"] or user or login or getpass.getuser()
+    if not NAMES.fullmatch(asks):
+        raise BadSettings(f"{asks!r} is no name of a user")
+    if login is not None and login != asks:
         password = None
     if password is not None and address.scheme == "http" and address.hostname not in LOOPBACK:
         raise BadSettings(f"a password isn't sent to {server}, which has no TLS")
     ca_file = os.path.expanduser(found["ca_file"]) if found["ca_file"] else None
-    return Settings(server, user, password, ca_file, _seconds(found["timeout"] or SECONDS))
+    return Settings(server, asks, password, ca_file, _seconds(found["timeout"] or SECONDS))
 
 
-def access_of(given: Mapping[str, Optional[str]]) -> Optional[str]:
+def values_of(given: Given, section: str, bad_words: BadWords) -> Dict[str, Optional[str]]:
+    """What is said for each setting of a section: what is given goes before the environment
+    (SECTION_SERVER), and files last. `bad_words` tells of a setting that there isn't."""
+    words = SECTIONS[section]
+    around = _environment_of(section, words, bad_words)
+    files = _files_read(section, given.get("config") or around.get("config"), bad_words)
+    return {word: given.get(word) or around.get(word) or files.get(word) for word in words}
+
+
+def _environment_of(section: str, words: Sequence[str], bad_words: BadWords) -> Dict[str, str]:
+    """The settings in the environment."""
+    head = f"{section.upper()}_"
+    known = [word.upper() for word in (*words, "config")]
+    found = {}
+    for name in sorted(it for it in os.environ if it.startswith(head)):
+        word = name[len(head) :]
+        if word not in known:
+            bad_words(f"{name} in the environment is no setting: {meant(word, known, head)}")
+        found[word.lower()] = os.environ[name]
+    return found
+
+
+def _files_read(section: str, named: Optional[str], bad_words: BadWords) -> Dict[str, str]:
+    """The section of the named file, or of the user's file over the system's."""
+    own = os.environ.get("XDG_CONFIG_HOME") or os.path.expanduser("~/.config")
+    files = [named] if named else [SYSTEM_FILE, os.path.join(own, "farm", "desk.ini")]
+    found: Dict[str, str] = {}
+    for file in files:
+        read = configparser.ConfigParser(interpolation=None)
+        try:
+            done = read.read(file, encoding="utf-8")
+        except (configparser.Error, OSError, UnicodeDecodeError) as fault:
+            raise BadSettings(f"settings: {' '.join(str(fault).split())}") from fault
+        if named and not done:
+            raise BadSettings(f"{named} can't be read")
+        found.update(_section_of(file, read, section, bad_words))
+    return found
+
+
+def _section_of(
+    file: str, read: configparser.ConfigParser, section: str, bad_words: BadWords
+) -> Dict[str, str]:
+    """The settings of one file's section."""
+    for name in read.sections():
+        if name not in SECTIONS:
+            known = [f"[{it}]" for it in SECTIONS]
+            bad_words(f"{file}: [{name}] is no section: {meant(f'[{name}]', known)}")
+    found = dict(read[section]) if read.has_section(section) else {}
+    for word in found:
+        if word not in SECTIONS[section]:
+            bad_words(
+                f"{file}: {word} in [{section}] is no setting: {meant(word, SECTIONS[section])}"
+            )
+    return found
+
+
+def meant(word: str, known: Sequence[str], head: str = "") -> str:
+    """What a misspelt word may mean. `head` stands before each in what is told."""
+    near = difflib.get_close_matches(word, known, 1)
+    if near:
+        return f"is {head}{near[0]} meant?"
+    return f"there are {', '.join(head + it for it in known)}"
+
+
+def access_of(given: Given) -> Optional[str]:
     """Where ssh(1) goes for boards, if that is said."""
-    around = _environment()
-    files = _files_read(given.get("config") or around.get("config"))
-    return given.get("access") or around.get("access") or files.get("access")
+    return values_of(given, "desk", refuse)["access"]
 
 
 def address_of(server: str) -> urllib.parse.SplitResult:
@@ -73,44 +150,6 @@ def address_of(server: str) -> urllib.parse.SplitResult:
     except ValueError:
         pass
     raise BadSettings(f"{server} is no address of a server, as {SERVER} is one")
-
-
-def _environment() -> Dict[str, str]:
-    """The settings in the environment."""
-    known = [f"{ENVIRONMENT}{it.upper()}" for it in (*WORDS, *OF_COMMAND, "config")]
-    found = {}
-    for name in sorted(it for it in os.environ if it.startswith(ENVIRONMENT)):
-        if name not in known:
-            meant = _meant(name, known)
-            raise BadSettings(f"{name} in the environment is no setting: {meant}")
-        found[name[len(ENVIRONMENT) :].lower()] = os.environ[name]
-    return found
-
-
-def _files_read(named: Optional[str]) -> Dict[str, str]:
-    """The section `desk` of the named file, or of the user's file over the system's; the other
-    sections are those of other tools."""
-    own = os.environ.get("XDG_CONFIG_HOME") or os.path.expanduser("~/.config")
-    found: Dict[str, str] = {}
-    for file in [named] if named else [SYSTEM_FILE, os.path.join(own, "farm", "desk.ini")]:
-        read = configparser.ConfigParser(interpolation=None)
-        try:
-            done = read.read(file, encoding="utf-8")
-        except (configparser.Error, OSError, UnicodeDecodeError) as fault:
-            raise BadSettings(f"settings: {' '.join(str(fault).split())}") from fault
-        if named and not done:
-            raise BadSettings(f"{named} can't be read")
-        for word, text in read.items(SECTION) if read.has_section(SECTION) else []:
-            if word not in (*WORDS, *OF_COMMAND):
-                raise BadSettings(f"{file}: {word} is no setting: {_meant(word, WORDS)}")
-            found[word] = text
-    return found
-
-
-def _meant(word: str, known: Sequence[str]) -> str:
-    """What a misspelt word may mean."""
-    near = difflib.get_close_matches(word, known, 1)
-    return f"is {near[0]} meant?" if near else f"there are {', '.join(known)}"
 
 
 def _password_of(file: Optional[str], host: str) -> Tuple[Optional[str], Optional[str]]:

@@ -1,20 +1,15 @@
-"""Waiting: for a reservation's board, or for the end of a job; and why a board doesn't come."""
+"""Waiting: for a reservation's board, or for the end of a job; and why it doesn't come."""
 import time
-from typing import TYPE_CHECKING, Callable, Dict, List, Optional, Sequence
+from typing import Callable, Dict, List, Optional, Sequence, Set, TypeVar
 
+from fizgruk import calls, wants
+from fizgruk.calls import Desk, Row
 from fizgruk.errors import Code, Refused, ReservationEnded, TimedOut, Unreachable
-from fizgruk.models import BoardView, JobView
-
-if TYPE_CHECKING:
-    from fizgruk.client import Client
 
 # A reservation that isn't refreshed lives for sixty seconds.
 LEASE, REFRESH = 60.0, 20.0
-# Boards that nobody gets, as they are told.
-OUT = {"Bad": "Bad", "Maintenance": "in Maintenance", "Retired": "Retired"}
 ENDED = ("expired", "canceled")
-MOST_NAMED = 4
-
+Found = TypeVar("Found")
 Tell = Callable[[str], None]
 
 
@@ -22,22 +17,44 @@ class Wait:
     """What a wait asks the desk, look after look, and what it tells where that changes."""
 
     def __init__(
-        self, client: "Client", about: str, timeout: Optional[float], every: float, tell: Tell
+        self, desk: Desk, about: str, timeout: Optional[float], every: float, tell: Tell
     ) -> None:
         """`about` is what is waited for, as it is told where the time is over."""
-        self.client = client.of_patience(0)
+        self.desk = desk.of_patience(0)
         self.about = about
         self.timeout = timeout
-        self.every = every
+        self.every = min(every, REFRESH)
         self.tell = tell
         self.begun = time.monotonic()
         self.said = ""
+        self.checked: Optional[Set[str]] = None
         self.owners: Dict[str, str] = {}
 
     def say(self, text: str) -> None:
         if text != self.said:
             self.said = text
             self.tell(text)
+
+    def note_own(self) -> None:
+        """A command of the wait's own was accepted."""
+
+    def note_met(self, is_met: bool) -> None:
+        """Whether what waits is met by free boards."""
+
+    def note_look(self) -> None:
+        """A look was answered, and what is waited for isn't there yet."""
+
+    def until_there(self, look: Callable[[], Optional[Found]]) -> Found:
+        """What `look` finds, which is asked again and again until it finds something."""
+        while True:
+            try:
+                found = look()
+                if found is not None:
+                    return found
+                self.note_look()
+            except Unreachable as fault:
+                self.say(f"no answer from the desk: {fault.trouble}")
+            self.pause()
 
     def pause(self) -> None:
         """Waits until the next look, or tells that the time is over."""
@@ -48,92 +65,106 @@ class Wait:
         time.sleep(max(0.0, min(self.every, left)))
 
     def place(self, kind: str, number: int) -> str:
-        """Where a claim stands in the queue, or nothing where it isn't there."""
-        queue = self.client.queue()
+        """Where a claim stands, as `place 2 of 5 in the queue`, or nothing where it isn't there."""
+        queue = calls.rows_of(self.desk, "queue")
         for place, claim in enumerate(queue, 1):
-            if (claim.kind, claim.number) == (kind, number):
+            if (claim["kind"], claim["number"]) == (kind, number):
                 return f"place {place} of {len(queue)} in the queue"
         return ""
 
-    def holder(self, board: BoardView) -> str:
-        """Who holds a board, and whose that is, which is asked for once."""
-        kind, _, number = board.holder.partition(" ")
-        if board.holder not in self.owners and kind == "job":
-            self.owners[board.holder] = self.client.job(int(number)).owner
-        elif board.holder not in self.owners:
-            for it in self.client.reservations():
-                self.owners[f"reservation {it.number}"] = it.owner
-        return f"{board.holder} of {self.owners.get(board.holder, 'nobody')}"
+    def lab(self) -> wants.Lab:
+        """The boards as they are now."""
+        if self.checked is None:
+            self.checked = wants.checked_types(self.desk)
+        return wants.Lab(self.desk, self.checked, self.owners)
+
+    def reason(self, lab: wants.Lab, wanted: List[wants.Want]) -> str:
+        """Why these wants wait, behind a colon, or nothing."""
+        self.note_met(lab.is_met(wanted))
+        why = lab.reason(wanted)
+        return f": {why}" if why else ""
 
 
-def wait_for_board(wait: Wait, number: int, tags: Sequence[str]) -> BoardView:
-    """Waits until a reservation of these tags has a board, and refreshes it meanwhile."""
+def wait_for_board(wait: Wait, number: int, tags: Optional[Sequence[str]]) -> Row:
+    """Waits until a reservation has a board, and refreshes it meanwhile. Gives the board's view.
+    `tags` are those that it asks for, where they are known."""
     refreshed = time.monotonic()
-    while True:
-        try:
-            if time.monotonic() - refreshed >= REFRESH:
-                _refresh(wait.client, number)
-                refreshed = time.monotonic()
-            board = _board_or_reason(wait, number, tags)
-            if board is not None:
-                return board
-        except Unreachable as fault:
-            wait.say(f"no answer from the desk: {fault}")
-        wait.pause()
+    want = None if tags is None else wants.Want("", tuple(tags))
+
+    def look() -> Optional[Row]:
+        nonlocal refreshed, want
+        if time.monotonic() - refreshed >= REFRESH:
+            with_end_told(number, lambda: wait.desk.nudge(f"/reservations/{number}/refresh"))
+            wait.note_own()
+            refreshed = time.monotonic()
+        # (the boards are shown after the queue: a pass between the two gives it its board)
+        place = wait.place("reservation", number)
+        lab = wait.lab()
+        board = lab.held_by(f"reservation {number}")
+        if board:
+            return board
+        if not place:
+            wait.say(f"reservation {number} is {state_of(wait.desk, number)}")
+            return None
+        want = want or wants.want_of_reservation(row_of(wait.desk, number))
+        wait.say(f"reservation {number} is waiting, {place}{wait.reason(lab, [want])}")
+        return None
+
+    return wait.until_there(look)
 
 
-def _refresh(client: "Client", number: int) -> None:
+def with_end_told(number: int, command: Callable[[], object]) -> None:
+    """Gives a command to a reservation. One that has ended meanwhile is told so."""
     try:
-        client.refresh(number)
+        command()
     except Refused as refusal:
-        if refusal.code in (Code.RESERVATION_EXPIRED, Code.WRONG_RESERVATION_STATE):
+        if refusal.code == Code.RESERVATION_EXPIRED:
+            raise ReservationEnded(f"reservation {number} has expired") from refusal
+        if refusal.code == Code.WRONG_RESERVATION_STATE:
             raise ReservationEnded(f"reservation {number} has ended") from refusal
         raise
 
 
-def _board_or_reason(wait: Wait, number: int, tags: Sequence[str]) -> Optional[BoardView]:
-    """The board that a reservation has, or None, where it is said why there is none."""
-    place = wait.place("reservation", number)
-    boards = wait.client.boards()
-    for it in boards:
-        if it.holder == f"reservation {number}":
-            return it
-    if place:
-        why = reason(wait, [it for it in boards if it.fits(*tags)])
-        wait.say(f"reservation {number} is waiting, {place}{why and ': '}{why}")
-        return None
-    # (asked for at a reservation's end alone, since the view has all that ever were)
-    states = [it.state for it in wait.client.reservations() if it.number == number]
-    if not states or states[0] in ENDED:
-        raise ReservationEnded(f"reservation {number} is {states[0] if states else 'unknown'}")
-    return None
+def row_of(desk: Desk, number: int) -> Row:
+    """The view of a reservation."""
+    rows = calls.rows_of(desk, "reservations")
+    row = next((it for it in rows if it["number"] == number), None)
+    if row is None:
+        raise ReservationEnded(f"reservation {number} is unknown")
+    return row
 
 
-def reason(wait: Wait, boards: List[BoardView]) -> str:
-    """Why none of these boards, which fit, is free; nothing where one may be."""
-    if not boards:
-        return "no board fits"
-    out = [it for it in boards if it.health in OUT]
-    held = [it for it in boards if it.health not in OUT and it.holder != "none"]
-    if len(out) + len(held) < len(boards):
-        return ""
-    named = [f"{it.name} is held by {wait.holder(it)}" for it in held[:MOST_NAMED]]
-    named += [f"{it.name} is {OUT[it.health]}" for it in out]
-    more = len(boards) - MOST_NAMED
-    return ", ".join(named[:MOST_NAMED] + ([f"{more} more"] if more > 0 else []))
+def state_of(desk: Desk, number: int) -> str:
+    """The state of a reservation that has neither a place in the queue nor a board, where it hasn't
+    ended."""
+    state = str(row_of(desk, number)["state"])
+    if state in ENDED:
+        raise ReservationEnded(f"reservation {number} is {state}")
+    return state
 
 
-def wait_for_group(wait: Wait, number: int) -> List[JobView]:
-    """Waits until all jobs of a group have ended, and gives them."""
-    while True:
-        try:
-            members = wait.client.group(number)
-            left = [it for it in members if it.state != "Finished"]
-            if not left:
-                return members
-            waits = left[0].state in ("Submitted", "Scheduling")
-            place = wait.place("group", left[0].group) if waits else ""
-            wait.say(f"job {number} is {left[0].state}{place and ', '}{place}")
-        except Unreachable as fault:
-            wait.say(f"no answer from the desk: {fault}")
-        wait.pause()
+def wait_for_group(wait: Wait, number: int) -> List[Row]:
+    """Waits until all members of a job's group have ended, and gives their views."""
+
+    def look() -> Optional[List[Row]]:
+        members = calls.members_of(wait.desk, number)
+        waits = [it for it in members if it["state"] != "Finished"]
+        if waits:
+            wait.say(f"job {number} is {state_and_place(wait, waits)}")
+        return members if not waits else None
+
+    return wait.until_there(look)
+
+
+def state_and_place(wait: Wait, members: List[Row]) -> str:
+    """The state of the first of these members, where its group stands, and why it waits."""
+    state = str(members[0]["state"])
+    if state not in ("Submitted", "Scheduling"):
+        return state
+    place = wait.place("group", members[0]["group"])
+    if not place:
+        return state
+    lab = wait.lab()
+    if len(members) == 1 and lab.held_by(f"job {members[0]['number']}"):
+        return f"{state}, {place}"  # it got its board after the queue was shown
+    return f"{state}, {place}{wait.reason(lab, [wants.want_of_job(it) for it in members])}"

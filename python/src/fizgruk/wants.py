@@ -4,6 +4,7 @@ import time
 from typing import Any, Callable, Dict, List, NamedTuple, Optional, Set, Tuple
 
 from fizgruk import calls
+from fizgruk.errors import Refused, Unreachable
 
 # The healths of boards that nobody gets, as they are told.
 OUT = {"Retired": "Retired", "Bad": "Bad", "Maintenance": "in Maintenance"}
@@ -159,11 +160,11 @@ def why_none(desk: calls.Looker, wants: List[Want]) -> str:
     return _lacking_tags(short[0], boards)
 
 
-def told(desk: calls.Looker, refusal: calls.Refused, wants: List[Want]) -> calls.Refused:
+def told(desk: calls.Looker, refusal: Refused, wants: List[Want]) -> Refused:
     """A refusal of wants (22), and why, as far as the desk says it."""
     try:
         why = why_none(desk, wants)
-    except (calls.NoAnswer, calls.Refused):
+    except (Unreachable, Refused):
         why = ""
     return refusal.about(why) if why else refusal
 

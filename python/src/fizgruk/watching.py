@@ -1,20 +1,13 @@
-"""A board that is lost while it is held: a thread looks at the hold, and interrupts the main thread's
-block.
-
-The interrupt is SIGURG, to which a program does nothing by itself, so that one that comes late does
-no harm, and Ctrl-C stays the user's own. Its handler raises a kind of KeyboardInterrupt, which a block
-doesn't take for one of its own errors, and which `Hold` turns into HoldLost.
-"""
+"""A board that is lost while it is held: a thread looks at the hold."""
 import logging
 import signal
 import threading
 from types import FrameType
-from typing import TYPE_CHECKING, Any, List, Optional
+from typing import Any, List, Optional
 
+from fizgruk import calls
+from fizgruk.calls import Desk
 from fizgruk.errors import FizgrukError
-
-if TYPE_CHECKING:
-    from fizgruk.client import Client
 
 LOG = logging.getLogger("fizgruk")
 EVERY = 2.0  # seconds between two looks
@@ -23,12 +16,8 @@ SIGNAL: Optional[int] = getattr(signal, "SIGURG", None)  # Windows has none
 NEVER_IN = ("fizgruk.holding", "fizgruk.watching", "fizgruk.pytest_plugin")
 
 
-class Interrupt(KeyboardInterrupt):
-    """The block of a board that is lost is interrupted."""
-
-
 class Watch:
-    """Looks whether a reservation still holds its board.
+    """Looks whether a reservation still holds its board, until it doesn't.
 
     A look is one view of the boards, of which a farm has 256 at most (42 kB, some 10 ms), over
     a connection of its own, which no other thread uses; that of the reservations, which has all that
@@ -36,74 +25,103 @@ class Watch:
     is away no hold changes.
     """
 
-    def __init__(self, client: "Client", board: str, number: int) -> None:
-        self._client = client.alone()
+    def __init__(self, desk: Desk, board: str, number: int) -> None:
+        self._desk = desk.alone()
         self._board = board
         self._number = number
         self._is_over = threading.Event()
         self.lost = ""
-        self.interrupts = True  # whether the block may be interrupted just now
-        self.is_told = False  # whether it was
+
+    def begin(self) -> None:
+        """Begins to look."""
+        threading.Thread(target=self._look_on, name="fizgruk", daemon=True).start()
+
+    def end(self) -> None:
+        """Ends it: nobody is woken from here on."""
+        self._is_over.set()
+
+    def note(self, lost: str) -> None:
+        """Notes that the board is lost, where it is."""
+        self.lost = lost
+
+    def wake(self) -> bool:
+        """Wakes who waits for a loss. Returns whether that is to be done again."""
+        return False
+
+    def _look_on(self) -> None:
+        if hasattr(signal, "pthread_sigmask"):  # the main thread is to have them
+            signal.pthread_sigmask(signal.SIG_BLOCK, signal.valid_signals())
+        while not self._is_over.wait(EVERY):
+            if not self.lost:
+                self.note(self._look())
+            if self.lost and not self.wake():
+                break
+        self._desk.close()
+
+    def _look(self) -> str:
+        try:
+            boards = calls.rows_of(self._desk, "boards")
+        except FizgrukError:
+            return ""
+        held = (self._board, f"reservation {self._number}")
+        return "" if any((it["name"], it["holder"]) == held for it in boards) else self.text()
+
+    def text(self) -> str:
+        """That the board is lost, and how, as far as the desk says it."""
+        how = "has ended"
+        try:
+            rows = calls.rows_of(self._desk, "reservations")
+            states = [it["state"] for it in rows if it["number"] == self._number]
+            how = f"is {states[0]}" if states else "is unknown"
+        except FizgrukError:
+            pass
+        return f"board {self._board} is lost: reservation {self._number} {how}"
+
+
+# ---- a block that is interrupted
+
+
+class Interrupt(KeyboardInterrupt):
+    """The block of a board that is lost is interrupted."""
+
+
+class BlockWatch(Watch):
+    """Interrupts the main thread's block at a loss, again and again until it is told.
+
+    The interrupt is SIGURG, to which a program does nothing by itself, so that one that comes late
+    does no harm, and Ctrl-C stays the user's own. Its handler raises a kind of KeyboardInterrupt,
+    which a block doesn't take for one of its own errors, and which `Hold` turns into HoldLost.
+    """
+
+    interrupts = True  # whether the block may be interrupted just now
+    is_told = False  # whether it was
 
     def begin(self) -> None:
         """Begins to look. The block is interrupted where it is the main thread's, and the program
         has no use of its own for the signal."""
         if threading.current_thread() is threading.main_thread() and _handles_signal():
             WATCHED.append(self)
-        threading.Thread(target=self._look_on, name="fizgruk", daemon=True).start()
+        super().begin()
 
     def end(self) -> None:
-        """Ends it: nothing is interrupted from here on."""
         if self in WATCHED:
             WATCHED.remove(self)
-        self._is_over.set()
-
-    def _look_on(self) -> None:
-        if hasattr(signal, "pthread_sigmask"):  # the main thread is to have them
-            signal.pthread_sigmask(signal.SIG_BLOCK, signal.valid_signals())
-        while not self.is_told and not self._is_over.wait(EVERY):
-            if not self.lost:
-                self.note(self._look())
-            if self.lost and not self._interrupt():
-                break
-        self._client.close()
+        super().end()
 
     def note(self, lost: str) -> None:
-        """Notes and logs that the board is lost, where it is."""
         if lost:
             LOG.error("%s", lost)
-            self.lost = lost
+        super().note(lost)
 
-    def _look(self) -> str:
-        try:
-            boards = self._client.boards(f"name={self._board}")
-        except FizgrukError:
-            return ""
-        if any(it.holder == f"reservation {self._number}" for it in boards):
-            return ""
-        return self.text(self._client)
-
-    def text(self, client: "Client") -> str:
-        """That the board is lost, and how, as far as the desk says it."""
-        how = "has ended"
-        try:
-            states = [it.state for it in client.reservations() if it.number == self._number]
-            how = f"is {states[0]}" if states else "is unknown"
-        except FizgrukError:
-            pass
-        return f"board {self._board} is lost: reservation {self._number} {how}"
-
-    def _interrupt(self) -> bool:
-        """Interrupts the main thread, again and again until it is told. Returns whether this can be
-        done."""
+    def wake(self) -> bool:
         main = threading.main_thread().ident
-        if self not in WATCHED or SIGNAL is None or main is None:
+        if self.is_told or self not in WATCHED or SIGNAL is None or main is None:
             return False
         signal.pthread_kill(main, SIGNAL)
         return True
 
 
-WATCHED: List[Watch] = []
+WATCHED: List[BlockWatch] = []
 
 
 def _handles_signal() -> bool:

@@ -1,1 +1,4 @@
 """desk: the desk of a board farm, from a terminal or a script."""
+from fizgruk._tools.telling import Teller
+
+tell = Teller("desk")

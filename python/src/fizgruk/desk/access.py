@@ -5,7 +5,7 @@ import sys
 from typing import Callable, List, Sequence, Tuple
 
 from fizgruk import calls, ways
-from fizgruk._tools import settings
+from fizgruk._tools import asking
 from fizgruk._tools.parsers import Parser
 from fizgruk.desk import holding
 
@@ -87,7 +87,7 @@ def show_ways(desk: calls.Desk, options: argparse.Namespace) -> int:
 
 
 def destination_of(desk: calls.Desk, options: argparse.Namespace) -> str:
-    return ways.destination(settings.values_of("desk", options)["access"], desk.server)
+    return ways.destination(asking.values_of("desk", options)["access"], desk.server)
 
 
 def become(words: List[str]) -> int:

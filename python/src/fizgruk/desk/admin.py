@@ -6,7 +6,8 @@ from typing import Any, Callable, Dict, List
 from fizgruk import calls
 from fizgruk._tools.parsers import Parser, one_of
 from fizgruk.bounds import LONGEST_EVERY
-from fizgruk.desk import lab_import, views
+from fizgruk.desk import lab_import, tell, views
+from fizgruk.errors import Code, Refused
 
 ENDED, REFUSED = 1, 3
 RETIRED = "Retired"
@@ -58,16 +59,16 @@ def frequency(text: str) -> int:
 def set_health(desk: calls.Desk, options: argparse.Namespace) -> int:
     """Sets the health of one board after another; one that is refused keeps none of the others."""
     if options.health == RETIRED and not options.yes and not is_confirmed(options.boards):
-        print("desk: nothing is done", file=sys.stderr, flush=True)
+        tell("nothing is done")
         return ENDED
     status = 0
     for board in options.boards:
         try:
             give(desk, options, f"/boards/{calls.part(board)}/health", {"health": options.health})
-        except calls.Refused as refusal:
-            if refusal.status == calls.NOT_LET_IN or refusal.code == calls.FORBIDDEN:
+        except Refused as refusal:
+            if refusal.status == calls.NOT_LET_IN or refusal.code == Code.FORBIDDEN:
                 raise
-            print(f"desk: board {board}: refused: {refusal}", file=sys.stderr, flush=True)
+            tell(f"board {board}: refused: {refusal}")
             status = REFUSED
     return status
 
@@ -99,8 +100,8 @@ def add_board(desk: calls.Desk, options: argparse.Namespace) -> int:
     body = {"name": options.name, "type": options.type, "tags": options.tags}
     try:
         return give(desk, options, "/boards", body)
-    except calls.Refused as refusal:
-        raise refusal.about(options.type) if refusal.code == calls.NO_TYPE else refusal
+    except Refused as refusal:
+        raise refusal.about(options.type) if refusal.code == Code.NO_SUCH_TYPE else refusal
 
 
 def give(desk: calls.Desk, options: argparse.Namespace, path: str, body: Dict[str, Any]) -> int:

@@ -1,12 +1,11 @@
 """The queue as it is shown: what waits, for which types, under which name, and for how long."""
 import argparse
-import sys
 import time
 from typing import Any, Dict, List, Tuple
 
-from fizgruk import calls, history, submissions, wants
+from fizgruk import calls, submissions, wants
 from fizgruk._tools import tables
-from fizgruk.desk import past_jobs, views
+from fizgruk.desk import past_jobs, tell, views
 
 LAST = 50  # claims that are shown where nothing else is asked for
 Row = Dict[str, Any]
@@ -27,13 +26,13 @@ def show_queue(desk: calls.Desk, options: argparse.Namespace) -> int:
         rows = [it for place, it in enumerate(said["queue"], 1) if place in places]
         views.print_json({**said, "queue": rows})
         return 0
-    moments = history.moments_of(desk, options) if found else []
+    moments = views.moments_of(desk, options) if found else []
     notes = wants.notes_of(looker, found)
     rows = [row_of(looker, it, moments, notes.get(it["number"], "")) for it in found]
     has_notes = any(it["note"] for it in rows)
     views.show(options, said, rows, tables.QUEUE + (tables.NOTE if has_notes else []))
     if are_more:
-        print(f"desk: more wait than these {most}: --limit", file=sys.stderr, flush=True)
+        tell(f"more wait than these {most}: --limit")
     return 0
 
 

@@ -1,20 +1,14 @@
 """The farm's clock while a client's command is done."""
-import sys
 import time
 from typing import Any, Callable, Dict, Optional, Set
 
 from fizgruk import calls, clocks, limits
+from fizgruk.desk import tell
+from fizgruk.errors import Refused, Unreachable
 
 QUIET = 30  # seconds without a pass, which comes every few seconds, that aren't told yet
 EVERY = 5  # seconds between a client's looks
 LONGEST_LOOK = 5.0
-
-
-def tell(text: str) -> None:
-    try:
-        print(f"desk: {text}", file=sys.stderr, flush=True)
-    except OSError:
-        pass  # nobody is there to be told
 
 
 class Watch:
@@ -57,9 +51,10 @@ class Watch:
         self.due = time.monotonic() + EVERY
         try:
             status = self.desk.look("/status")
-        except (calls.NoAnswer, calls.Refused):
+        except (Unreachable, Refused):
             return
-        for about, text in (("ahead", clocks.ahead(status, clocks.NO_END)), ("quiet", self._quiet(status))):
+        ahead, quiet = clocks.ahead(status, clocks.NO_END), self._quiet(status)
+        for about, text in (("ahead", ahead), ("quiet", quiet)):
             if text and about not in self.told:
                 self.told.add(about)
                 teller(text)

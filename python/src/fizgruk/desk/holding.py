@@ -1,87 +1,32 @@
-"""A reservation that is given back whatever happens, and the command that runs while it is held."""
+"""The command that runs with a board, which is given back whatever happens."""
 import argparse
 import os
 import shutil
 import signal
 import subprocess
 import time
-from typing import Any, Dict, List, Optional, Sequence, Tuple, Union
+from typing import Sequence, Tuple
 
-from fizgruk import calls, wants
+from fizgruk import calls
 from fizgruk._tools.interrupts import SIGNALS, Interrupted, check
-from fizgruk.desk import clocks, loss, waiting
+from fizgruk.desk import loss, tell, waiting
+from fizgruk.errors import FizgrukError, NotGivenBack
+from fizgruk.holding import Reservation
+from fizgruk.waiting import wait_for_board
 
 OF_ITSELF, NOT_RUN, NOT_FOUND = 125, 126, 127
-GIVES_UP = 60
 # Signals that keys of a terminal stand for, and the code of those that the system sends.
 KEYS, SI_KERNEL = (signal.SIGINT, signal.SIGQUIT), 0x80
-# What a reservation that has ended, and so holds nothing, is refused for.
-ENDED = (calls.EXPIRED, calls.WRONG_RESERVATION_STATE, calls.NO_RESERVATION)
 
 
-class Reservation:
-    """A reservation of one's own, from its asking to its end."""
-
-    def __init__(
-        self, desk: calls.Desk, tags: Optional[List[str]], priority: Union[int, str, None]
-    ):
-        self.desk = desk
-        self.tags = tags
-        self.body: Dict[str, Any] = {"tags": tags}
-        if priority is not None:
-            self.body["priority"] = priority
-        self.key = calls.fresh_key()
-        self.number: Optional[int] = None
-        self.board = ""  # what it has acquired
-        self.is_lost = False  # whether it had ended before it was given back
-
-    def ask(self) -> int:
-        """Reserves. Asked again, it is the same reservation."""
-        try:
-            number = int(self.desk.tell("/reservations", self.body, self.key)["number"])
-        except calls.Refused as refusal:
-            if refusal.code == calls.NO_BOARDS and self.tags is not None:
-                raise wants.told(self.desk, refusal, [wants.Want("", tuple(self.tags))])
-            raise
-        self.number = number
-        return number
-
-    def acquire(self, board: str) -> None:
-        """Makes the board that it was given its owner's."""
-        try:
-            self.desk.tell(f"/reservations/{self.number}/acquire", key=calls.fresh_key())
-            self.board = board
-        except calls.Refused as refusal:
-            if refusal.code == calls.EXPIRED:
-                raise waiting.Gone(f"reservation {self.number} has expired") from refusal
-            raise
-
-    def give_back(self) -> bool:
-        """Cancels the reservation, so that its board is free, and tries so for a minute. Returns
-        whether it is given back; what isn't is told."""
-        until = time.monotonic() + (GIVES_UP if self.number else 0)
-        key = calls.fresh_key()
-        while True:
-            try:
-                number = self.number or self.ask()
-                self.desk.tell(f"/reservations/{number}/cancel", key=key)
-                return True
-            except calls.Refused as refusal:
-                if refusal.code in ENDED:
-                    self.is_lost = bool(self.board)
-                    return True
-                fault: Exception = refusal
-            except calls.NoAnswer as silence:
-                fault = silence
-            if isinstance(fault, calls.Refused) or time.monotonic() > until:
-                clocks.tell(f"{fault}: {self._left()}")
-                return False
-            time.sleep(1)
-
-    def _left(self) -> str:
-        if self.number is None:
-            return "a reservation may be left, which ends by itself within two minutes"
-        return f"reservation {self.number} is left: desk cancel-reservation {self.number}"
+def is_given_back(reservation: Reservation) -> bool:
+    """Gives a reservation back. What is left is told."""
+    try:
+        reservation.give_back()
+        return True
+    except NotGivenBack as left:
+        tell(str(left))
+        return False
 
 
 def run_with_board(desk: calls.Desk, options: argparse.Namespace) -> int:
@@ -89,7 +34,7 @@ def run_with_board(desk: calls.Desk, options: argparse.Namespace) -> int:
     exit status."""
     status, fault = fault_of(options.words[0])
     if status:
-        clocks.tell(f"{options.words[0]}: {fault}")
+        tell(f"{options.words[0]}: {fault}")
         return status
     reservation = Reservation(desk, options.tags, options.priority)
     try:
@@ -103,13 +48,13 @@ def run_with_board(desk: calls.Desk, options: argparse.Namespace) -> int:
         # Whatever it was, the board isn't kept.
         signal.pthread_sigmask(signal.SIG_BLOCK, SIGNALS)
         if reservation.number is not None:
-            reservation.give_back()
+            is_given_back(reservation)
         raise
-    if asked and not reservation.give_back():
+    if asked and not is_given_back(reservation):
         return OF_ITSELF
     if reservation.is_lost and status != OF_ITSELF:
         how = f"reservation {reservation.number} had ended before the command"
-        clocks.tell(f"board {reservation.board} is lost: {how}")
+        tell(f"board {reservation.board} is lost: {how}")
         return OF_ITSELF
     return status
 
@@ -129,16 +74,17 @@ def ran_with(reservation: Reservation, options: argparse.Namespace) -> int:
         options.clock.look()
         number = reservation.ask()
         options.clock.note_own()
-        board = waiting.wait_for_board(reservation.desk, number, reservation.tags, options)
+        with waiting.Wait(reservation.desk, options.clock, options.every) as wait:
+            board = wait_for_board(wait, number, reservation.tags)
         reservation.acquire(board["name"])
         check()
         return run(reservation.desk, options.words, board, number)
-    except (calls.Refused, calls.NoAnswer, waiting.Gone) as fault:
-        clocks.tell(f"{fault}")
+    except FizgrukError as fault:
+        tell(str(fault))
         return OF_ITSELF
 
 
-def run(desk: calls.Desk, words: Sequence[str], board: Dict[str, Any], number: int) -> int:
+def run(desk: calls.Desk, words: Sequence[str], board: calls.Row, number: int) -> int:
     """Runs a command, and hands signals on to it; where its board is lost, it is ended. Returns its
     exit status, 128 and the number for a signal.
 
@@ -163,14 +109,14 @@ def run(desk: calls.Desk, words: Sequence[str], board: Dict[str, Any], number: i
     try:
         child = subprocess.Popen(words, env=environment, preexec_fn=unblock)
     except (OSError, subprocess.SubprocessError) as fault:
-        clocks.tell(f"{fault}")
+        tell(f"{fault}")
         return NOT_RUN
     watch = loss.Watch(desk, board["name"], number)
-    watch.start()
+    watch.begin()
     wait_for_end(child, watch)
     watch.end()
     if watch.lost:
-        clocks.tell(f"{watch.lost}: the command is ended")
+        tell(f"{watch.lost}: the command is ended")
         end(child)
         return OF_ITSELF
     return child.returncode if child.returncode >= 0 else 128 - child.returncode

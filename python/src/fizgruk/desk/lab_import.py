@@ -6,7 +6,8 @@ from typing import Any, Dict, List, NamedTuple, Sequence, Set, Tuple
 
 from fizgruk import calls, toml_text, words
 from fizgruk.bounds import LONGEST_EVERY, LONGEST_LAB_FILE
-from fizgruk.desk import views
+from fizgruk.desk import tell, views
+from fizgruk.errors import Code, Refused
 from fizgruk.words import BadFile
 
 CHECKS = ("none", "hours", "jobs")
@@ -130,7 +131,7 @@ def import_lab(desk: calls.Desk, options: argparse.Namespace) -> int:
     for each in additions:
         try:
             desk.tell(f"/{each.section}", each.body, each.key())
-        except calls.Refused as refusal:
+        except Refused as refusal:
             line = toml_text.line_of(text, (each.section, each.name))
             before = f"before it: accepted {accepted}, kept {kept}"
             return told(options.file, f"line {line}: {each.told()}: {why(refusal, each)}; {before}")
@@ -146,7 +147,7 @@ def import_lab(desk: calls.Desk, options: argparse.Namespace) -> int:
 
 
 def told(file: str, text: str) -> int:
-    print(f"desk: {file}: {text}", file=sys.stderr, flush=True)
+    tell(f"{file}: {text}")
     return REFUSED
 
 
@@ -165,8 +166,8 @@ def names_at(desk: calls.Desk) -> Set[Tuple[str, str]]:
     }
 
 
-def why(refusal: calls.Refused, each: Addition) -> str:
-    if refusal.code == calls.NO_TYPE:
+def why(refusal: Refused, each: Addition) -> str:
+    if refusal.code == Code.NO_SUCH_TYPE:
         return f"{refusal}: {each.body['type']}"
     if refusal.code in (TYPE_EXISTS, BOARD_EXISTS):
         return f"{refusal}, and no import added it"

@@ -6,67 +6,22 @@ import threading
 import time
 from typing import Any, Dict, Set, Tuple
 
-from fizgruk import calls
+from fizgruk import watching
 
-EVERY = 2.0  # seconds between two looks at a hold
 GRACE = 10.0  # seconds between SIGTERM and SIGKILL
 LEAVES = 5.0  # seconds after which what doesn't end by that is left, as another user's process
 PAUSE = 0.1
 Process = Tuple[int, str]  # a process's number, and when it began
 
 
-class Watch:
-    """Looks, in a thread of its own, whether a reservation still holds its board, and wakes the
-    main thread by SIGCHLD, which that waits for, once it doesn't.
+class Watch(watching.Watch):
+    """Wakes the main thread by SIGCHLD, which that waits for, once the board is lost."""
 
-    A look is one view of the boards, of which a farm has 256 at most (42 kB, some 10 ms); that of
-    the reservations, which has all that ever were, is asked for once, at a loss. A look that isn't
-    answered finds nothing: while the desk is away no hold changes. Each call has a connection of
-    its own, so that the threads share none.
-    """
-
-    def __init__(self, desk: calls.Desk, board: str, number: int):
-        self.desk = desk.of_patience(0)
-        self.board = board
-        self.number = number
-        self.lost = ""
-        self.is_over = threading.Event()
-
-    def start(self) -> None:
-        """Begins to look. (The thread has the signal mask of the one that starts it.)"""
-        threading.Thread(target=self._look_on, daemon=True).start()
-
-    def end(self) -> None:
-        self.is_over.set()
-
-    def _look_on(self) -> None:
+    def wake(self) -> bool:
         main = threading.main_thread().ident
-        while not self.lost and not self.is_over.wait(EVERY):
-            self.lost = loss_of(self.desk, self.board, self.number)
-            if self.lost and main is not None:
-                signal.pthread_kill(main, signal.SIGCHLD)
-
-
-def loss_of(desk: calls.Desk, board: str, number: int) -> str:
-    """That a reservation doesn't hold this board any more; nothing where it does, or nobody can
-    tell."""
-    try:
-        boards = desk.look("/boards")["boards"]
-    except (calls.NoAnswer, calls.Refused):
-        return ""
-    if any((it["name"], it["holder"]) == (board, f"reservation {number}") for it in boards):
-        return ""
-    return f"board {board} is lost: reservation {number} {how_it_ended(desk, number)}"
-
-
-def how_it_ended(desk: calls.Desk, number: int) -> str:
-    """How a reservation ended, as far as the desk says it."""
-    try:
-        rows = desk.look("/reservations")["reservations"]
-    except (calls.NoAnswer, calls.Refused):
-        return "has ended"
-    states = [str(it["state"]) for it in rows if it["number"] == number]
-    return f"is {states[0]}" if states else "is unknown"
+        if main is not None:
+            signal.pthread_kill(main, signal.SIGCHLD)
+        return False
 
 
 # ---- the end of a command

@@ -4,10 +4,26 @@ import os
 import sys
 from typing import Any, Callable, Dict, Optional, Sequence, TextIO, Tuple, Union
 
-from fizgruk import calls, job_file
-from fizgruk._tools import interrupts, parsers, settings, terminal
+from fizgruk import calls, job_file, settings, wants
+from fizgruk._tools import asking, interrupts, parsers, terminal
 from fizgruk._tools.parsers import Parser, one_of
-from fizgruk.desk import access, admin, claims, clocks, holding, past_jobs, texts, usage, views, waiting
+from fizgruk.desk import (
+    access,
+    admin,
+    claims,
+    clocks,
+    completion,
+    holding,
+    past_jobs,
+    tell,
+    texts,
+    usage,
+    views,
+    waiting,
+)
+from fizgruk.errors import BadSettings, Code, Refused, ReservationEnded, Unreachable
+from fizgruk.holding import Reservation
+from fizgruk.waiting import row_of, wait_for_board, wait_for_group
 
 Command = Callable[..., Parser]  # adds a command by its name and what does it
 
@@ -49,7 +65,7 @@ def after_help(end: BaseException) -> int:
         return status if isinstance(status, int) else 0
     except OSError as fault:
         let_go(sys.stdout)
-        return 0 if isinstance(fault, BrokenPipeError) else told(FAULT, str(fault))
+        return 0 if isinstance(fault, BrokenPipeError) else tell.told(FAULT, str(fault))
 
 
 def status_of(options: argparse.Namespace) -> int:
@@ -57,7 +73,7 @@ def status_of(options: argparse.Namespace) -> int:
     fault_status = holding.OF_ITSELF if options.does is holding.run_with_board else FAULT
     where = Where()
     try:
-        desk = calls.Desk(settings.read_settings("desk", options, options.asks_as), PATIENCE)
+        desk = calls.Desk(asking.settings_of("desk", options, options.asks_as), PATIENCE)
         where.server = desk.server
         desk.tell_where = where.tell
         desk.tell_trouble = Trouble(desk).tell
@@ -67,19 +83,19 @@ def status_of(options: argparse.Namespace) -> int:
             options.clock.look()
         print(end="", flush=True)
         return status
-    except calls.Refused as refusal:
+    except Refused as refusal:
         where.tell()
-        return told(REFUSED, f"refused: {refusal}")
-    except waiting.Gone as end:
-        return told(ENDED, str(end))
-    except calls.NoAnswer as fault:
-        return told(fault_status, f"no answer from the desk at {where.server}: {fault}")
+        return tell.told(REFUSED, f"refused: {refusal}")
+    except ReservationEnded as end:
+        return tell.told(ENDED, str(end))
+    except Unreachable as fault:
+        return tell.told(fault_status, f"no answer from the desk at {fault}")
     except BrokenPipeError:
         let_go(sys.stdout)
         return 0 if options.does in VIEWS else fault_status
-    except (settings.BadSettings, OSError) as fault:
+    except (BadSettings, OSError) as fault:
         let_go(sys.stdout)
-        return told(fault_status, str(fault))
+        return tell.told(fault_status, str(fault))
 
 
 def let_go(stream: Optional[TextIO]) -> None:
@@ -105,7 +121,7 @@ class Where:
         is_seen = sys.stderr is not None and sys.stderr.isatty()
         if is_seen and not self.is_told and self.server != settings.SERVER:
             self.is_told = True
-            told(0, f"the desk is at {self.server}")
+            tell(f"the desk is at {self.server}")
 
 
 class Trouble:
@@ -118,15 +134,7 @@ class Trouble:
     def tell(self, trouble: str) -> None:
         if not self.is_told:
             self.is_told = True
-            told(FAULT, f"waiting for the desk at {self.server}: {trouble}")
-
-
-def told(status: int, text: str) -> int:
-    try:
-        print(f"desk: {text}", file=sys.stderr, flush=True)
-    except OSError:
-        pass  # nobody is there to be told
-    return status
+            tell(f"waiting for the desk at {self.server}: {trouble}")
 
 
 # ---- words
@@ -138,6 +146,7 @@ def options_of(words: Sequence[str]) -> argparse.Namespace:
     if "--" in words and "with" in words[: words.index("--")]:
         words, command = words[: words.index("--")], words[words.index("--") + 1 :]
     parser = parser_of()
+    completion.offer(parser)
     options = parser.parse_args(words)
     if options.does is holding.run_with_board:
         if not command:
@@ -148,7 +157,7 @@ def options_of(words: Sequence[str]) -> argparse.Namespace:
 
 def parser_of() -> Parser:
     parser = parsers.parser_of("desk", texts.ABOUT, texts.STATUSES)
-    group = settings.add_options(
+    group = asking.add_options(
         parser,
         "desk",
         "without it, admin for an admin's commands, else the user of the server in ~/.netrc, or of "
@@ -330,7 +339,7 @@ def submit_job(desk: calls.Desk, options: argparse.Namespace) -> int:
 def resubmit_job(desk: calls.Desk, options: argparse.Namespace) -> int:
     text = past_jobs.text_of(desk, options.number)
     if text is None:
-        return told(REFUSED, f"job {options.number} is a health check, which has no text")
+        return tell.told(REFUSED, f"job {options.number} is a health check, which has no text")
     return submit_text(desk, options, text)
 
 
@@ -338,12 +347,12 @@ def submit_text(desk: calls.Desk, options: argparse.Namespace, text: bytes) -> i
     """Submits a job file, prints its number, and waits for its end where that is asked for."""
     fault = job_file.limit_fault_of(text)
     if fault:
-        return told(REFUSED, f"nothing is submitted: {fault}")
+        return tell.told(REFUSED, f"nothing is submitted: {fault}")
     if options.wait:
         options.clock.look()
     try:
         said = desk.tell("/jobs", text, calls.fresh_key())
-    except calls.Refused as refusal:
+    except Refused as refusal:
         raise job_file.why_refused(desk, refusal, text)
     options.clock.note_own()
     print_number(options, said)
@@ -353,8 +362,8 @@ def submit_text(desk: calls.Desk, options: argparse.Namespace, text: bytes) -> i
 def cancel_job(desk: calls.Desk, options: argparse.Namespace) -> int:
     try:
         said = desk.tell(f"/jobs/{options.number}/cancel", key=calls.fresh_key())
-    except calls.Refused as refusal:
-        if refusal.code != calls.WRONG_JOB_STATE:
+    except Refused as refusal:
+        if refusal.code != Code.WRONG_JOB_STATE:
             raise
         job = desk.look(f"/jobs/{options.number}")
         how = f" ({job['result']})" if job["result"] else ""
@@ -375,9 +384,10 @@ def await_end(desk: calls.Desk, options: argparse.Namespace, job: int) -> int:
     """Waits for a job's end, and prints how it ended. The status says whether all members are
     Complete."""
     try:
-        members = waiting.wait_for_end(desk, job, options)
+        with waiting.Wait(desk, options.clock, options.every) as wait:
+            members = wait_for_group(wait, job)
     except interrupts.Interrupted as end:
-        return told(end.status, f"job {job} goes on; desk cancel {job} ends it")
+        return tell.told(end.status, f"job {job} goes on; desk cancel {job} ends it")
     if options.json:
         views.print_json({"jobs": members})
     else:
@@ -397,7 +407,7 @@ VIEWS: Tuple[Callable[..., int], ...] = (
 
 
 def reserve_board(desk: calls.Desk, options: argparse.Namespace) -> int:
-    reservation = holding.Reservation(desk, options.tags, options.priority)
+    reservation = Reservation(desk, options.tags, options.priority)
     if not (options.wait or options.acquire):
         print_number(options, {"number": reservation.ask()})
         return 0
@@ -408,15 +418,16 @@ def reserve_board(desk: calls.Desk, options: argparse.Namespace) -> int:
         print_number(options, {"number": number})
         return await_board(reservation, number, options)
     except interrupts.Interrupted as it:
-        reservation.give_back()
+        holding.is_given_back(reservation)
         return it.status
 
 
 def await_board(
-    reservation: holding.Reservation, number: int, options: argparse.Namespace
+    reservation: Reservation, number: int, options: argparse.Namespace
 ) -> int:
     """Waits for a reservation's board, acquires it where that is asked for, and prints it."""
-    board = waiting.wait_for_board(reservation.desk, number, reservation.tags, options)
+    with waiting.Wait(reservation.desk, options.clock, options.every) as wait:
+        board = wait_for_board(wait, number, reservation.tags)
     if options.acquire:
         reservation.acquire(board["name"])
     if options.json:
@@ -431,14 +442,14 @@ def wait_for(desk: calls.Desk, options: argparse.Namespace) -> int:
     options.clock.look()
     try:
         desk.look(f"/jobs/{options.number}")
-    except calls.Refused as refusal:
-        if refusal.code != calls.NO_JOB:
+    except Refused as refusal:
+        if refusal.code != Code.NO_SUCH_JOB:
             raise
     else:
         return await_end(desk, options, options.number)
     desk.nudge(f"/reservations/{options.number}/refresh")
     options.clock.note_own()
-    reservation = holding.Reservation(desk, None, None)
+    reservation = Reservation(desk, None, None)
     reservation.number = options.number
     options.acquire = False
     return await_board(reservation, options.number, options)
@@ -452,14 +463,14 @@ def change_reservation(desk: calls.Desk, options: argparse.Namespace) -> int:
         said = desk.nudge(path) if options.action == "refresh" else desk.tell(
             path, key=calls.fresh_key()
         )
-    except calls.Refused as refusal:
-        if refusal.code != calls.WRONG_RESERVATION_STATE:
+    except Refused as refusal:
+        if refusal.code != Code.WRONG_RESERVATION_STATE:
             raise
-        state = waiting.row_of(desk, options.number)["state"]
+        state = row_of(desk, options.number)["state"]
         raise refusal.about(f"reservation {options.number} is {state}")
     if options.json:
         views.print_json(said)
     elif options.action == "acquire":
-        board = waiting.board_of(desk, options.number)
+        board = wants.Lab(desk, set(), {}).held_by(f"reservation {options.number}")
         print(board["name"] if board else "-")
     return 0

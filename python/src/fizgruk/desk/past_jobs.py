@@ -7,7 +7,8 @@ from typing import Any, Dict, Iterable, List, Optional, Set
 
 from fizgruk import calls, history, records, toml_text, wants
 from fizgruk._tools import interrupts, tables, terminal
-from fizgruk.desk import views
+from fizgruk.desk import tell, views
+from fizgruk.errors import Code, Refused, Unreachable
 
 REFUSED = 3
 LAST = 50
@@ -23,12 +24,12 @@ def list_jobs(desk: calls.Desk, options: argparse.Namespace) -> int:
     """Shows the jobs that haven't ended, and the last ones that have."""
     now = open_jobs(desk, desk.user if options.mine else None)
     try:
-        past = history.history_of(desk, options)
+        past = views.history_of(desk, options)
         ended = last_jobs(past, desk.user if options.mine else None, options.last or LAST)
-    except calls.Refused as refusal:
+    except Refused as refusal:
         if refusal.status != calls.NOT_FOUND:
             raise
-        print(f"desk: only open jobs are shown: {refusal}", file=sys.stderr, flush=True)
+        tell(f"only open jobs are shown: {refusal}")
         ended = []
     if options.json:
         views.print_json({"ended": ended, "open": now})
@@ -60,8 +61,8 @@ def view_of(desk: calls.Desk, number: int) -> Dict[str, Any]:
     """A job's view, or nothing where there is no such job."""
     try:
         return desk.look(f"/jobs/{number}")
-    except calls.Refused as refusal:
-        if refusal.code != calls.NO_JOB:
+    except Refused as refusal:
+        if refusal.code != Code.NO_SUCH_JOB:
             raise
         return {}
 
@@ -157,17 +158,17 @@ def lines_of(
     """The lines that the history has of jobs that ended, by their numbers; where there is none,
     that is told."""
     try:
-        past = history.history_of(desk, options)
+        past = views.history_of(desk, options)
         newest = reversed(past.newest())
         found = {it["job"]: it for it in newest if it["job"] in numbers}
         if found.keys() != numbers:
             rows = past.rows(TAIL)
             found = {it["job"]: it for it in rows if it["kind"] == "job" and it["job"] in numbers}
         return found
-    except calls.Refused as refusal:
+    except Refused as refusal:
         if refusal.status != calls.NOT_FOUND:
             raise
-        print(f"desk: times and reasons aren't shown: {refusal}", file=sys.stderr, flush=True)
+        tell(f"times and reasons aren't shown: {refusal}")
         return {}
 
 
@@ -176,11 +177,11 @@ def lines_of(
 
 def show_history(desk: calls.Desk, options: argparse.Namespace) -> int:
     """Shows what became of a board, the newest first: its jobs, and how its health changed."""
-    past = history.history_of(desk, options)
+    past = views.history_of(desk, options)
     rows = [it for it in past.rows() if options.board in boards_of(it)][::-1]
     rows = rows[: options.last or LAST]
     if not rows and options.board not in names_of(desk.look("/boards")["boards"]):
-        print(f"desk: there is no board {options.board}", file=sys.stderr, flush=True)
+        tell(f"there is no board {options.board}")
         return REFUSED
     return views.show(options, {"history": rows}, rows, BOARD_COLUMNS)
 
@@ -219,7 +220,7 @@ BOARD_COLUMNS = [
 
 def show_log(desk: calls.Desk, options: argparse.Namespace) -> int:
     """Prints a job's log; with --follow all that is added to it until the job has ended."""
-    log = Log(history.history_of(desk, options), options.number, options.raw)
+    log = Log(views.history_of(desk, options), options.number, options.raw)
     if not options.follow:
         return 0 if log.print_more() else log.tell_none(desk)
     is_open = is_to_come(desk, options.number)  # what is asked first has to be answered
@@ -234,8 +235,8 @@ def show_log(desk: calls.Desk, options: argparse.Namespace) -> int:
             interrupts.check()
             time.sleep(options.every)
             is_open = is_to_come(desk, options.number)
-        except calls.NoAnswer as fault:
-            log.tell_once(f"no answer from the desk, which is asked again: {fault}")
+        except Unreachable as fault:
+            log.tell_once(f"no answer from the desk, which is asked again: {fault.trouble}")
             time.sleep(options.every)
 
 
@@ -285,7 +286,7 @@ class Log:
     def tell_once(self, text: str) -> None:
         if text not in self.told:
             self.told.add(text)
-            print(f"desk: {text}", file=sys.stderr, flush=True)
+            tell(f"{text}")
 
 
 def why_no_log(desk: calls.Desk, number: int) -> str:

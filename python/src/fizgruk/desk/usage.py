@@ -6,7 +6,7 @@ import re
 import time
 from typing import Any, Counter, Dict, List, Optional
 
-from fizgruk import calls, history
+from fizgruk import calls
 from fizgruk._tools import tables
 from fizgruk.desk import views
 
@@ -53,7 +53,7 @@ def show_usage(desk: calls.Desk, options: argparse.Namespace) -> int:
     """Shows who used, or what was used, since a moment; the most hours first."""
     since = options.since
     uses: Dict[str, Use] = collections.defaultdict(Use)
-    for row in history.history_of(desk, options).rows():
+    for row in views.history_of(desk, options).rows():
         if row["kind"] == "job" and row["ended"] >= since:
             if options.by == "board":
                 for board in row["boards"]:

@@ -1,11 +1,13 @@
 """The desk's views, as lines of text or as JSON."""
 import argparse
 import json
-import sys
+import os
 from typing import Any, Dict, List, Sequence, Tuple
 
-from fizgruk import calls, wants
-from fizgruk._tools import tables
+from fizgruk import calls, history, submissions, wants
+from fizgruk._tools import asking, tables
+from fizgruk.desk import tell
+from fizgruk.errors import BadSettings, Code, Refused
 
 REFUSED = 3
 
@@ -52,10 +54,27 @@ def jobs_of(desk: calls.Desk, numbers: Sequence[int]) -> Tuple[List[Dict[str, An
     for number in numbers:
         try:
             rows.append(desk.look(f"/jobs/{number}"))
-        except calls.Refused as refusal:
-            if refusal.code != calls.NO_JOB:
+        except Refused as refusal:
+            if refusal.code != Code.NO_SUCH_JOB:
                 raise
             desk.tell_where()
-            print(f"desk: job {number}: refused: {refusal}", file=sys.stderr, flush=True)
+            tell(f"job {number}: refused: {refusal}")
             status = REFUSED
     return rows, status
+
+
+# ---- the history
+
+
+def history_of(desk: calls.Desk, options: argparse.Namespace) -> history.Past:
+    """The history of a desk: the folder's that the settings name, or the one that is served."""
+    place = asking.values_of("desk", options)["history"]
+    return history.Kept(os.path.expanduser(place)) if place else history.Served(desk)
+
+
+def moments_of(desk: calls.Desk, options: argparse.Namespace) -> submissions.Looks:
+    """When the last numbers were given, as far as it is known."""
+    try:
+        return history_of(desk, options).moments()
+    except BadSettings:
+        return []  # it has no history
