@@ -24,7 +24,7 @@ for deb in $built; do
         [ ! -e "$folder/$name/$script" ] || sh -n "$folder/$name/$script" || fail "$name's $script is no script"
     done
 done
-[ "$(echo "$built" | wc -l)" = 4 ] || fail "it builds $built"
+[ "$(echo "$built" | wc -l)" = 5 ] || fail "it builds $built"
 
 # ---- what each package has and needs
 field() { dpkg-deb -f "$folder"/"$1"_*.deb "$2"; }
@@ -49,6 +49,34 @@ for name in 'fizgruk-desk (= ' 'python3-fizgruk (= ' 'python3:any' nftables; do
     field fizgruk-farm Depends | grep -q "$name" || fail "fizgruk-farm doesn't depend on $name"
 done
 field fizgruk-desk Depends | grep -q 'python3-fizgruk (= ' || fail "the client doesn't depend on the library"
+
+# ---- the way to boards is a package of its own, which starts nothing, and whose configuration sshd takes
+for file in usr/bin/farm-access usr/share/fizgruk/farm_access/main.py etc/farm/access.toml etc/farm/farm-access-sshd.conf \
+    lib/systemd/system/farm-access-sshd.service lib/systemd/system/farm-access-guard.service usr/share/man/man8/farm-access.8.gz; do
+    grep -qx "./$file" "$folder/fizgruk-access/files" || fail "fizgruk-access has no $file"
+done
+! grep farm-access "$folder/fizgruk-farm/files" || fail "fizgruk-farm has the way to boards"
+for name in 'fizgruk-farm (>= ' openssh-server; do
+    field fizgruk-access Depends | grep -q "$name" || fail "fizgruk-access doesn't depend on $name"
+done
+for unit in farm-access-sshd farm-access-guard; do
+    grep -q "debian-installed '$unit.service'" "$folder/fizgruk-access/postinst" || fail "$unit is enabled before it is set up"
+done
+! grep 'deb-systemd-invoke.* start' "$folder/fizgruk-access/postinst" || fail "fizgruk-access begins before it is set up"
+if command -v sshd > /dev/null || [ -x /usr/sbin/sshd ]; then
+    ssh-keygen -q -t ed25519 -N '' -f "$folder/ssh_host_ed25519_key"
+    sed "s,/var/lib/farm-access,$folder," "$tree/etc/farm/farm-access-sshd.conf" > "$folder/sshd.conf"
+    as=
+    if [ "$(id -u)" = 0 ]; then
+        chmod 755 "$folder"
+        chown nobody "$folder/ssh_host_ed25519_key"
+        as='setpriv --reuid nobody --regid nogroup --clear-groups'
+    fi
+    # shellcheck disable=SC2086 # (it is a command)
+    $as /usr/sbin/sshd -t -f "$folder/sshd.conf" || fail "sshd doesn't take its configuration"
+else
+    left_out 'the configuration of sshd' 'there is no openssh-server'
+fi
 
 # ---- the Python package stands alone, and is the one that docs/PYTHON.md installs
 [ "$(field python3-fizgruk Architecture)" = all ] || fail "the Python package's architecture"
@@ -111,7 +139,7 @@ grep -q 'root /var/lib/farm-dispatch;' "$tree/etc/nginx/sites-available/farm" ||
 if grep -rn /usr/local "$tree/lib" "$tree/etc"; then fail "names of an installation by hand"; fi
 if command -v systemd-analyze > /dev/null; then
     cp "$tree"/lib/systemd/system/*.timer "$folder"
-    for unit in farm farm-port farm-dispatch farm-watch farm-backup farm-metrics; do
+    for unit in farm farm-port farm-dispatch farm-watch farm-backup farm-metrics farm-access-sshd farm-access-guard; do
         sed "s,/usr/bin/,$tree/usr/bin/,; s,/etc/farm,$tree/etc/farm,g" "$tree/lib/systemd/system/$unit.service" > "$folder/$unit.service"
     done
     systemd-analyze --man=no verify "$folder"/*.service "$folder"/*.timer > "$folder/said" 2>&1 || :

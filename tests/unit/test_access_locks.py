@@ -29,8 +29,8 @@ time.sleep(600)
 class Taker:
     """Who wants a board, in a test."""
 
-    def __init__(self, held: bool = True, ready: bool = True):
-        self.held, self.ready, self.own_file = held, ready, ""
+    def __init__(self, held: bool = True, ready: bool = True, sees: bool = True):
+        self.held, self.ready, self.own_file, self.sees = held, ready, "", sees
         self.ran: List[str] = []
         self.waits = 0
 
@@ -104,6 +104,15 @@ def test_the_dead_of_a_hold_before_are_cleaned_up_and_written_down(folder: str) 
     assert not os.path.exists(file)
     row = json.loads(pathlib.Path(folder, "log").read_text())
     assert (row["person"], row["how"]) == ("ann", "was killed")
+
+
+def test_who_doesn_t_see_the_dead_waits_for_the_guard(folder: str) -> None:
+    """In a namespace of its own it would take what lives for gone."""
+    file = session_file(folder, "reservation 1")
+    assert not lock_of(folder).take("job 2", Taker(sees=False))
+    assert os.path.exists(file)
+    assert sessions.evict(sessions.all_in(folder), "", os.devnull)
+    assert lock_of(folder).take("job 2", Taker(sees=False))
 
 
 def test_a_session_lives_as_long_as_its_file_is_locked(folder: str) -> None:

@@ -20,6 +20,7 @@ class Taker(Protocol):
     between two parties."""
 
     own_file: str
+    sees: bool  # the processes of others; who doesn't leaves them to the guard
 
     def is_mine(self, at_once: bool = False) -> bool:
         ...
@@ -57,7 +58,8 @@ class BoardLock:
             fcntl.flock(self.opened, fcntl.LOCK_UN)
             if time.monotonic() > since + GRACE:
                 others = self.others(hold)
-                if taker.is_mine(at_once=True):  # asked after they were listed: none began since
+                # (asked after they were listed: none of them began since)
+                if taker.sees and taker.is_mine(at_once=True):
                     sessions.evict(others, taker.own_file, self.log)
             taker.wait(time.monotonic() - since)
         return False
@@ -76,7 +78,7 @@ class BoardLock:
         """Cleans up behind the hold before, under the lock alone. Returns whether the board is
         ready. Who lives and hasn't the lock has begun nothing, so only the dead left something."""
         dead = [it for it in self.others(hold) if not sessions.lives(it)]
-        if not sessions.evict(dead, taker.own_file, self.log):
+        if dead and not (taker.sees and sessions.evict(dead, taker.own_file, self.log)):
             return False
         return self.hold() in ("", hold) or taker.after(self.board)
 

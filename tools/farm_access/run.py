@@ -36,7 +36,8 @@ def run(site: Site, words: Sequence[str]) -> int:
     folder = os.environ.get("FARM_FOLDER", "") if not words[:cut] else ""
     session = session_of(holds, os.environ.get("FARM_OWNER", ""), "run", folder)
     mark = mark_of(folder) if folder else ""
-    work = Work(site, Lookout(site), session, PATIENCE)
+    # (in a namespace others' processes aren't seen, and seem to be gone)
+    work = Work(site, Lookout(site), session, PATIENCE, sees=not mark.startswith("pidns:"))
     if mark:
         work.own.mark(mark)
     work.begin()

@@ -49,11 +49,16 @@ def session_of(holds: Dict[str, str], person: str, way: str, folder: str = "") -
 class Work:
     """A session, from before it waits for its boards to its end, which ends the process."""
 
-    def __init__(self, site: Site, lookout: Lookout, session: Session, patience: float = 1e9):
-        """`patience` is for how many seconds it waits for its boards."""
+    def __init__(
+        self, site: Site, lookout: Lookout, session: Session, patience: float = 1e9,
+        sees: bool = True,
+    ):
+        """`patience` is for how many seconds it waits for its boards; `sees` says whether it sees
+        the processes of other sessions."""
         for number in (signal.SIGINT, signal.SIGQUIT, signal.SIGPIPE):
             signal.signal(number, signal.SIG_IGN)
         self.site, self.lookout, self.session, self.patience = site, lookout, session, patience
+        self.sees = sees
         self.looked, self.is_held, self.has_told = -LOOKS, False, False
         self.child: Optional[int] = None
         self.told_to_end = 0

@@ -1,0 +1,116 @@
+"""Jobs of farm-dispatch go to their boards by the same locks as people, and leave nothing behind."""
+from __future__ import annotations
+
+import os
+import signal
+import time
+from typing import Any, Iterator
+
+import access_lab
+import pytest
+from access_lab import PYTHON, Lab, until
+from served import TOOLS, Farm
+
+pytestmark = [pytest.mark.xdist_group("access"), pytest.mark.slow(60)]
+# Runs the line `run` of a job's text.
+RUNS = """\
+#!/bin/sh
+eval "$(sed -n "s/^run = '\\(.*\\)'$/\\1/p" "$FARM_JOB_FILE")"
+"""
+
+
+@pytest.fixture(scope="module")
+def lab(program: str, tmp_path_factory: pytest.TempPathFactory) -> Iterator[Lab]:
+    def farm(boards: Any) -> Farm:
+        return Farm(program, str(tmp_path_factory.mktemp("farm")), boards)
+
+    made = access_lab.make(farm, after="echo {board} >> PLACE/after")
+    made.write("run-job", RUNS)
+    os.chmod(made.path("run-job"), 0o755)
+    words = [PYTHON, os.path.join(TOOLS, "farm-dispatch"), "--folder", made.path("dispatch"), "--every", "0.3"]
+    made.start("dispatch", "env", f"DISPATCH_SERVER={made.farm.server}", "DISPATCH_CLOCK=any", *words,
+               *made.access.split(), "run", "--", made.path("run-job"))
+    yield made
+    made.end()
+
+
+def ended(lab: Lab, number: int) -> str:
+    until(lambda: lab.farm.job(number)["state"] == "Finished", 60)
+    return str(lab.farm.job(number)["result"])
+
+
+def submit(lab: Lab, run: str, board: str = "b2") -> int:
+    return lab.farm.submit(run, more=f"tags = [\"name={board}\"]\n")
+
+
+def log_of(lab: Lab, number: int) -> str:
+    with open(lab.path("dispatch", "jobs", str(number), "log"), encoding="utf-8", errors="replace") as file:
+        return file.read()
+
+
+def test_a_job_has_its_board_s_lock_and_its_own_environment(lab: Lab) -> None:
+    number = submit(lab, 'echo "$FARM_JOB $FARM_BOARD"; exit 3')
+    assert ended(lab, number) == "Incomplete"
+    assert f"{number} b2" in log_of(lab, number).splitlines()
+    with open(lab.path("run", "b2.lock"), encoding="utf-8") as file:
+        assert file.read().strip() in (f"job {number}", "")
+
+
+def test_what_a_job_leaves_is_gone_before_the_next_one_s_first_byte(lab: Lab) -> None:
+    nasty = f"{PYTHON} {access_lab.HERE}/access_nasty.py {lab.path('b2.tty')} JOBS 0.01"
+    number = submit(lab, f"{nasty} & sleep 1")
+    assert ended(lab, number) == "Complete"
+    before = lab.text("b2")
+    assert b"JOBS" in before
+    held = lab.reserve("ann", "b2")
+    line = lab.begin("ann", "b2", "nasty", "ann", "0.01")
+    until(lambda: lab.text("b2").endswith(b"ann"))
+    said = lab.text("b2")[len(before):]
+    line.kill()
+    lab.cancel("ann", held)
+    assert said and not said.strip(b"an")
+
+
+def test_a_job_waits_until_what_a_person_left_is_gone(lab: Lab) -> None:
+    """It is in a namespace, so that is the guard's work."""
+    until(lambda: not lab.sessions() and not lab.nasty())
+    held = lab.reserve("ann", "b2")
+    lab.begin("ann", "b2", "nasty", "left", "0.01")
+    until(lambda: lab.text("b2").endswith(b"left"))
+    lab.parts["guard"].send_signal(signal.SIGSTOP)
+    for it in lab.sessions():
+        access_lab.kill(lab.pid_of(it), signal.SIGSTOP)
+    lab.cancel("ann", held)
+    number = submit(lab, f"printf NEXT > {lab.path('b2.tty')}; sleep 1")
+    until(lambda: lab.farm.job(number)["state"] == "Running")
+    time.sleep(3)
+    is_out = b"NEXT" not in lab.text("b2")
+    lab.parts["guard"].send_signal(signal.SIGCONT)
+    assert is_out
+    assert ended(lab, number) == "Complete"
+    assert lab.text("b2").endswith(b"NEXT")
+    assert not lab.nasty()
+
+
+def test_after_runs_between_a_person_and_a_job(lab: Lab) -> None:
+    def count() -> int:
+        with open(lab.path("after"), encoding="utf-8") as file:
+            return file.read().count("b1")
+
+    assert ended(lab, submit(lab, "true", "b1")) == "Complete"
+    held = lab.reserve("ann", "b1")
+    assert lab.session("ann", "b1", "say", "x").output == b"x\n"
+    lab.cancel("ann", held)
+    until(lambda: count() >= 2)
+    before = count()
+    assert before == 2
+    assert ended(lab, submit(lab, "true", "b1")) == "Complete"
+    until(lambda: count() > before)
+    assert count() == before + 1
+
+
+def test_without_a_job_or_with_bad_words_nothing_runs(lab: Lab) -> None:
+    mark = lab.path("home", "ran")
+    for words in (["--", "touch", mark], ["job 1", "--", "touch", mark], ["job 1", "b1"], ["job 999", "b1", "--", "touch", mark]):
+        assert lab.try_words([*lab.access.split(), "run", *words]).status in (2, 6)
+    assert not os.path.exists(mark)
