@@ -204,6 +204,16 @@ def test_what_nginx_refuses_itself_is_told_in_json(site: Site, request_line: str
     assert b"nginx/" not in head and b"<html" not in body
 
 
+def test_a_lab_that_shuts_its_logs_serves_none(farm: Farm, make_site: Callable[..., Site]) -> None:
+    """As docs/SECURITY.md says it."""
+    site = make_site(farm, ("numbers|logs/[1-9][0-9]*)$ {", "numbers)$ {"))
+    os.makedirs(f"{site.folder}/dispatch/logs")
+    for name in ("logs/1", "history.json"):
+        with open(f"{site.folder}/dispatch/{name}", "w", encoding="utf-8") as file:
+            file.write("{}")
+    assert site.got("/logs/1")[0] == 404 and site.got("/history.json")[0] == 200
+
+
 # ---- whose page a command is from
 
 def origin(site: Site, text: str) -> List[str]:
