@@ -78,6 +78,8 @@ class Site:
             ("/usr/local/lib/farm-tools", TOOLS),
             ("/var/cache/farm-views", f"{self.folder}/views"),
             ("/var/lib/farm-dispatch", f"{self.folder}/dispatch"),
+            ("/var/log/nginx/access.log combined", f"{self.folder}/asked.log asked"),
+            ("/var/log/farm/audit.log", f"{self.folder}/audit.log"),
             *changes,
         ]:
             assert old in site, f"the example has no {old}"

@@ -22,7 +22,7 @@ pytestmark = pytest.mark.xdist_group("manual")  # one process asks for each help
 DOCS = os.path.join(TOP, "docs")
 COMMANDS = [
     "boards", "types", "queue", "reservations", "jobs", "submit", "cancel", "resubmit", "log", "history",
-    "usage", "reserve", "wait", "acquire", "release", "refresh", "extend", "cancel-reservation",
+    "audit", "usage", "reserve", "wait", "acquire", "release", "refresh", "extend", "cancel-reservation",
     "with", "console", "power", "ssh", "ways", "health", "tags", "add-type", "add-board", "import",
 ]
 # The tools and their commands.

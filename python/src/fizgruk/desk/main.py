@@ -10,6 +10,7 @@ from fizgruk._tools.parsers import Parser, one_of
 from fizgruk.desk import (
     access,
     admin,
+    audit,
     claims,
     clocks,
     completion,
@@ -237,6 +238,11 @@ def add_past(command: Command) -> None:
     past = command("history", past_jobs.show_history)
     past.add_argument("board", metavar="BOARD", help="The board's name.")
     add_last(past, "How many of the jobs and changes")
+    audited = command("audit", audit.show_audit)
+    audited.add_argument("board", metavar="BOARD", help="The board's name.")
+    add_last(audited, "How many commands")
+    about = f"The site's file of them, or one that was put aside and unpacked (default {audit.FILE})."
+    audited.add_argument("--file", metavar="FILE", help=about)
     used = command("usage", usage.show_usage)
     about = """\
 A span, as 30d, 12h, 90m or 2w, or a date, as 2026-11-30 (default %(default)s)."""
@@ -399,7 +405,7 @@ def await_end(desk: calls.Desk, options: argparse.Namespace, job: int) -> int:
 # What shows something, of which a reader may have enough, as `head`.
 VIEWS: Tuple[Callable[..., int], ...] = (
     views.show_boards, views.show_types, claims.show_queue, views.show_reservations, show_jobs,
-    past_jobs.show_log, past_jobs.show_history, usage.show_usage,
+    past_jobs.show_log, past_jobs.show_history, usage.show_usage, audit.show_audit,
 )
 
 

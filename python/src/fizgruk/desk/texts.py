@@ -82,6 +82,10 @@ that the desk keeps.""",
     "log": "Print what a job's command said, as it stands in its log.",
     "history": """\
 Show a board's jobs, and how its health changed and why, the newest first.""",
+    "audit": """\
+Show who did what with a board, the newest last: the commands that the site handed on and the desk \
+accepted, by their login, their address and their words. It reads a file of the site's machine, \
+which root and the group adm may read.""",
     "usage": """\
 Show what jobs used, how they ended and how long they waited. A line has how many jobs ended since \
 WHEN, and how; the hours for which they held boards since then; and how long they waited from \

@@ -1,0 +1,103 @@
+"""Who did what with a board: the lines that the site writes of each accepted command."""
+import argparse
+import collections
+import json
+import re
+from typing import Any, Callable, Deque, Dict, Iterator, List, Optional, Tuple
+
+from fizgruk import calls
+from fizgruk._tools import disk, tables
+from fizgruk.desk import views
+
+FILE = "/var/log/farm/audit.log"
+LAST = 50
+LONGEST = 262_144  # bytes of a line
+MOST_LOOKS = 2_000  # at jobs, which the desk is asked for one by one
+NUMBERED = re.compile(r"[A-Z]+ /(jobs|reservations)/([1-9][0-9]{0,8})/")
+COLUMNS: List[tables.Column] = [
+    ("AT", lambda it: it["at"]),
+    ("LOGIN", lambda it: it["login"]),
+    ("FROM", lambda it: it["from"]),
+    ("COMMAND", lambda it: tables.printable(it["command"])),
+    ("BODY", lambda it: tables.printable(it["body"])),
+]
+Row = Dict[str, Any]
+
+
+def show_audit(desk: calls.Desk, options: argparse.Namespace) -> int:
+    """Shows the last accepted commands that concern a board, the newest last."""
+    boards = Boards(desk)
+    found: Deque[Row] = collections.deque(maxlen=options.last or LAST)
+    for row in rows_in(options.file or FILE):
+        if is_about(row, options.board, boards.of):
+            found.append(row)
+    rows = list(found)
+    return views.show(options, {"audit": rows}, rows, COLUMNS)
+
+
+def rows_in(file: str) -> Iterator[Row]:
+    """The lines of a file of the site's; what is none of these is passed over."""
+    with open(disk.opened_file(file), "rb") as lines:
+        while True:
+            line = lines.readline(LONGEST)
+            if not line:
+                return
+            row = row_of(line)
+            if row is not None:
+                yield row
+
+
+def row_of(line: bytes) -> Optional[Row]:
+    try:
+        said = json.loads(line)
+    except (ValueError, RecursionError):
+        return None
+    names = ("at", "login", "from", "command", "body")
+    is_row = isinstance(said, dict) and all(isinstance(said.get(it), str) for it in names)
+    return said if is_row else None
+
+
+def is_about(row: Row, board: str, board_of: Callable[[str, int], str]) -> bool:
+    """Whether a command concerns a board: by its path, by its body, or by what it is a command to."""
+    if f"{row['command']}/".partition(" /boards/")[2].partition("/")[0] == board:
+        return True
+    numbered = NUMBERED.match(row["command"])
+    if numbered:
+        return board_of(numbered.group(1), int(numbered.group(2))) == board
+    return _names(row["body"], board)
+
+
+def _names(body: str, board: str) -> bool:
+    """Whether a body asks for a board, or adds it."""
+    try:
+        said = json.loads(body)
+    except (ValueError, RecursionError):
+        return False
+    if not isinstance(said, dict):
+        return False
+    tags = said.get("tags")
+    return said.get("name") == board or isinstance(tags, list) and f"name={board}" in tags
+
+
+class Boards:
+    """Which board a job or a reservation has or had, as the desk says."""
+
+    def __init__(self, desk: calls.Desk):
+        self.desk = desk
+        self.known: Dict[Tuple[str, int], str] = {}
+        self.has_reservations = False
+
+    def of(self, kind: str, number: int) -> str:
+        if kind == "reservations" and not self.has_reservations:
+            self.has_reservations = True
+            rows = self.desk.look("/reservations")["reservations"]
+            self.known.update({(kind, it["number"]): it["board"] for it in rows})
+        key = (kind, number)
+        if kind == "jobs" and key not in self.known and len(self.known) < MOST_LOOKS:
+            try:
+                self.known[key] = self.desk.look(f"/jobs/{number}")["board"]
+            except calls.Refused as refusal:
+                if refusal.code != calls.NO_JOB:
+                    raise
+                self.known[key] = ""  # another farm's
+        return self.known.get(key, "")

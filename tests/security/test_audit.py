@@ -1,0 +1,117 @@
+"""Who did what: the line that the site writes of each accepted command, and what `desk audit` shows of a board."""
+from __future__ import annotations
+
+import json
+import os
+import signal
+import subprocess
+import time
+from typing import Any, Callable, Dict, List
+
+import pytest
+
+from nginx_site import Site, write
+from served import TOP, Farm, read, wait_until
+from wants import wants
+
+RESERVE = '{"tags":["name=b1"]}'
+
+
+@pytest.fixture
+def farm(make_farm: Callable[..., Farm]) -> Farm:
+    return make_farm([("b1", "bbb", []), ("b2", "bbb", [])])
+
+
+@pytest.fixture
+def site(farm: Farm, make_site: Callable[..., Site]) -> Site:
+    return make_site(farm)
+
+
+def lines_of(site: Site, name: str = "audit.log") -> List[Dict[str, Any]]:
+    return [json.loads(it) for it in read(f"{site.folder}/{name}").splitlines()]
+
+
+def told(site: Site, *words: str, user: str = "ann") -> int:
+    return int(site.said(*words, user=user)[0])
+
+
+def test_each_accepted_command_has_a_line_and_nothing_else_has(site: Site) -> None:
+    began = time.time()
+    assert told(site, "-H", "x-key: k1", "-d", RESERVE, "/reservations") == 200
+    assert told(site, "-X", "POST", "/reservations/1/cancel") == 200
+    assert told(site, "-d", "job_name = 'x'\ndevice_type = 'bbb'\n# secret", "/jobs") == 200
+    for words in (
+        ["/queue"], ["-d", RESERVE, "/reservations/9/cancel"], ["-d", "{}", "/boards/b1/health"],
+        ["-H", "Origin: https://evil.example", "-d", RESERVE, "/reservations"],
+    ):
+        told(site, *words)
+    told(site, "-X", "POST", "/pass", user="dispatcher")
+    site.got("/reservations", "-u", "ann:guess", "-d", RESERVE, user="")
+    rows = lines_of(site)
+    assert [it["command"] for it in rows] == ["POST /reservations", "POST /reservations/1/cancel", "POST /jobs"]
+    assert [(it["login"], it["from"], it["status"]) for it in rows] == [("ann", "127.0.0.1", 200)] * 3
+    assert [(it["body"], it["key"]) for it in rows] == [(RESERVE, "k1"), ("", ""), ("", "")]
+    assert "secret" not in read(f"{site.folder}/audit.log")
+    at = time.mktime(time.strptime(rows[0]["at"][:19], "%Y-%m-%dT%H:%M:%S"))
+    assert began - 2 <= at <= time.time() + 2
+
+
+@pytest.mark.parametrize("body", [
+    '{"tags":["name=b1"],\n"x":"\\u0022"}', '{"tags":["name=b1"]}\r\n\t', '{"tags":["name=b1"],"é":"\\u0000"}',
+])
+def test_a_body_is_one_line_whatever_is_in_it(site: Site, body: str) -> None:
+    status = told(site, "--data-binary", body, "/reservations")
+    rows = lines_of(site)
+    assert [it["body"].encode() for it in rows] == [body.encode()] * (status == 200)
+
+
+def test_a_command_is_in_the_log_of_requests_too(site: Site) -> None:
+    told(site, "-d", RESERVE, "/reservations")
+    assert "POST /reservations" in site.asked_of_desk()
+
+
+def test_desk_audit_shows_what_concerns_a_board(farm: Farm, site: Site) -> None:
+    for words in (["-d", RESERVE, "/reservations"], ["-d", '{"tags":["name=b2"]}', "/reservations"]):
+        assert told(site, *words) == 200
+    farm.tell("dispatcher", "/pass")
+    for number in (1, 2):
+        assert told(site, "-X", "POST", f"/reservations/{number}/acquire") == 200
+    write(site.folder, "audit.log", read(f"{site.folder}/audit.log") + "no line\n[]\n" + "[" * 5000 + "\n", 0o644)
+    shown = site.desk("--json", "audit", "b1", "--file", f"{site.folder}/audit.log")
+    assert shown[0] == 0, shown
+    assert [it["command"] for it in json.loads(shown[1])["audit"]] == ["POST /reservations", "POST /reservations/1/acquire"]
+    lines = site.desk("audit", "b2", "--last", "1", "--file", f"{site.folder}/audit.log")[1].splitlines()
+    assert len(lines) == 2 and lines[1].split()[1:5] == ["ann", "127.0.0.1", "POST", "/reservations/2/acquire"]
+    os.mkfifo(f"{site.folder}/pipe")
+    assert site.desk("audit", "b1", "--file", f"{site.folder}/pipe")[0] == 4
+
+
+def test_what_an_admin_did_to_a_board_is_shown(farm: Farm) -> None:
+    from fizgruk.desk import audit
+
+    rows = [
+        {"command": "POST /boards/b1/health", "body": '{"health":"Bad"}'}, {"command": "POST /boards/b12/health", "body": ""},
+        {"command": "POST /boards", "body": '{"name":"b1","type":"bbb"}'}, {"command": "POST /boards/b1/tags", "body": "["},
+        {"command": "POST /types", "body": '{"name":"other"}'},
+    ]
+    assert [audit.is_about(it, "b1", lambda kind, number: "") for it in rows] == [True, False, True, True, False]
+    del farm
+
+
+def test_logrotate_puts_it_aside_and_loses_no_line(site: Site) -> None:
+    wants("logrotate")
+    text = read(os.path.join(TOP, "packaging", "debian", "fizgruk-farm.logrotate"))
+    text = text.replace("/var/log/farm/audit.log", f"{site.folder}/audit.log").replace("/run/nginx.pid", f"{site.folder}/nginx.pid")
+    rules = write(site.folder, "rotate", text.replace("create 0640 root adm", "create 0640 root root"), 0o644)
+    os.chmod(site.folder, 0o755)
+    for number in range(1, 4):
+        assert told(site, "-d", RESERVE, "/reservations") == 200
+        subprocess.run(["logrotate", "--force", "--state", f"{site.folder}/state", rules], check=True, capture_output=True)
+        wait_until("a new file", lambda: os.path.exists(f"{site.folder}/audit.log"))
+        time.sleep(0.3)
+        assert site.process.poll() is None and signal.SIGUSR1
+    assert told(site, "-d", RESERVE, "/reservations") == 200
+    kept = [f"{site.folder}/{it}" for it in os.listdir(site.folder) if it.startswith("audit.log")]
+    count = sum(len(subprocess.run(["zcat", "-f", it], check=True, capture_output=True).stdout.splitlines()) for it in kept)
+    assert count == 4 and len(kept) == 4
+    assert len(lines_of(site)) == 1
