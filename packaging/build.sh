@@ -1,15 +1,20 @@
 #!/bin/sh
 # Builds the Debian packages of a built program, and prints where they are, a line each.
 #     sh packaging/build.sh bin/farm bin
-# Says which programs that build packages aren't there, and ends with status 1 then.
+# Says what of it isn't there, and which of Debian's packages have it, and ends with status 1 then.
 set -eu
+if ! [ -x "$1" ]; then
+    echo "package: not built, since there is no program $1: 'make bin' builds it"
+    exit 1
+fi
 missing=
 for tool in dpkg-buildpackage dh dh_python3 po2debconf pybuild register-python-argcomplete strip; do
     command -v "$tool" > /dev/null || missing="$missing, no $tool"
 done
 /usr/bin/python3 -c 'import setuptools' 2> /dev/null || missing="$missing, no python3-setuptools"
 if [ -n "$missing" ]; then
-    echo "package: not built, since there is ${missing#, }"
+    wanted=$(sed -n 's/^\([a-z0-9-]*\) .* deb .*/\1/p' "$(dirname "$0")/../tests/gate/packages.txt" | tr '\n' ' ')
+    echo "package: not built, since there is ${missing#, }: apt install ${wanted}binutils python3-setuptools"
     exit 1
 fi
 program=$(realpath "$1")

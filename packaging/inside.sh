@@ -115,6 +115,11 @@ unit farm-dispatch disabled inactive 'an upgrade of a disabled unit'
 systemctl enable -q --now farm farm-dispatch
 upgrade
 unit farm-dispatch enabled active 'an upgrade of an enabled unit'
+systemctl enable -q --now farm-backup.timer
+upgrade
+unit farm-backup.timer enabled active 'an upgrade of an enabled timer'
+unit farm-metrics.timer disabled inactive 'an upgrade of a disabled timer'
+systemctl disable -q --now farm-backup.timer
 echo "package: an upgrade copies the farm, and leaves disabled what an admin disabled"
 
 # ---- the next farm, by the commands of USING.md

@@ -125,6 +125,43 @@ mv ../away/linked.db ../away/lost.db
 refuses "$store_fault" linked.db import once report serve init
 [ -s ../away/linked.db-wal ] || fail "$what: the log where it leads is gone"
 
+what='a file that sqlite3 made anew or added to, and what the guide says of it'
+if command -v sqlite3 > /dev/null; then
+    # sqlite3 over a copy of the farm in a file, which goes with a log again then: FILE COMMANDS
+    changed() {
+        cp lab.db ../away/anew.db
+        cp lab.db-wal ../away/anew.db-wal
+        sqlite3 ../away/anew.db "pragma journal_mode = delete; $2; pragma journal_mode = wal" > ../output
+        cp ../away/anew.db "$1"
+    }
+    for size in 512 4096 65536; do
+        changed anew.db "pragma page_size = $size; vacuum"
+        [ "$(shows anew.db)" = "$job" ] || fail "$what: pages of $size bytes show $(shows anew.db)"
+        rm anew.db*
+    done
+    for kind in full incremental; do
+        changed anew.db "pragma auto_vacuum = $kind; vacuum"
+        refuses "$store_fault" anew.db import once report serve
+        sqlite3 anew.db 'pragma auto_vacuum = none; vacuum' > ../output
+        [ "$(shows anew.db)" = "$job" ] || fail "$what: without auto_vacuum it shows $(shows anew.db)"
+        rm anew.db*
+    done
+    sqlite3 ../away/anew.db .dump > ../dump
+    { echo "pragma encoding = 'UTF-16';"; cat ../dump; echo 'pragma journal_mode = wal;'; } | sqlite3 anew.db > ../output
+    refuses "$store_fault" anew.db import once report serve
+    rm anew.db*
+    for added in analyze 'create index more on jobs(owner)'; do
+        changed anew.db "$added"
+        [ "$(shows anew.db)" = "$bad_store" ] || fail "$what: after $added it shows $(shows anew.db)"
+        rm anew.db*
+    done
+    changed anew.db 'analyze; drop table sqlite_stat1'
+    [ "$(shows anew.db)" = "$job" ] || fail "$what: once it is dropped it shows $(shows anew.db)"
+    rm anew.db*
+else
+    left_out "$what" 'there is no sqlite3'
+fi
+
 what='an init that finds no room, or room for a part'
 stands > ../before
 for blocks in 0 1 8 32 200; do

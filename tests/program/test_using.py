@@ -12,6 +12,7 @@ from typing import Iterator, List
 
 import pytest
 
+from machine import Machine
 from orders import Orders, Ran
 from served import TOP, environment, free_port, read
 from wants import lacks, wants
@@ -64,6 +65,34 @@ def test_page(program: str, folder: str) -> None:
     )
     assert ran.returncode == 0, ran.stdout + ran.stderr
     assert '"code"' not in ran.stdout
+
+
+class Source(Machine):
+    """A machine that has the source, with a built program, in /tmp/source, and nothing of it is installed."""
+
+    def _set_up(self, program: str) -> None:
+        parts = ["-C", TOP, "tools", "examples", "-C", os.path.dirname(program), os.path.basename(program)]
+        with subprocess.Popen(["tar", "-ch", "--exclude=__pycache__", *parts], stdout=subprocess.PIPE) as packed:
+            self.run("sh", "-c", "mkdir -p /tmp/source && tar -xC /tmp/source", stdin=packed.stdout)
+        self.run("install", "-D", f"/tmp/source/{os.path.basename(program)}", "/tmp/source/bin/farm")
+
+
+@pytest.mark.slow(20)
+@pytest.mark.xdist_group("machine")
+def test_services_from_the_source_begin_by_the_page_alone(program: str, folder: str) -> None:
+    """Its block is run line by line, in its own order, under a systemd; then the desk answers."""
+    block = PAGE[PAGE.index("\nAs services, from the source"): PAGE.index("\n## The site")]
+    lines = [line[4:] for line in block.splitlines() if line.startswith("    ")]
+    assert lines[-1] == "systemctl enable --now farm farm-dispatch" and len(lines) > 10
+    assert not re.search("(?i)before|after|first", block), "the block says its own order"
+    machine = Source(folder, program)
+    try:
+        machine.run("sh", "-euc", "\n".join(["cd /tmp/source", *lines]))
+        machine.wait("the desk", "desk", "--user", "ann", "boards")
+        machine.wait("the dispatcher", "sh", "-c", "systemctl is-active farm-dispatch")
+        machine.wait("a pass", "sh", "-c", f"{' '.join(machine.curl('root', '/status'))} | grep '\"count\":[1-9]'")
+    finally:
+        machine.end()
 
 
 @pytest.fixture

@@ -16,9 +16,9 @@ from typing import Any, Callable, Dict, Iterator, List, Tuple
 
 import pytest
 from farm_backup import copying, points, standby
-from machines import Machine, aside
 from served import MODULES, STARTED, TOP, Board, Farm, Tool, free_port, read, wait_until
 from streamed import Stream, backup, moment_of, rows, words_of
+from two_machines import Machine, aside
 
 Made = Callable[..., Farm]
 Starts = Callable[..., Tool]
@@ -364,6 +364,7 @@ def test_a_promotion_that_is_killed_at_any_step_is_run_again(sides: Sides) -> No
         assert own in (before.get("new"), before.get("fenced-2")), "what stood there is there still"
         is_marked = os.path.exists(f"{sides.made.to}/promoted")
         marked += is_marked
+        assert is_marked or (before["new"], len(before)) == (own, 2), "nothing is changed before the mark"
         # the old machine's unit begins
         demoted = killed_at(0, *sides.words("--demote"))
         assert demoted.returncode == 0

@@ -1,0 +1,112 @@
+"""The packages' life under a systemd: what ran before an upgrade runs after it, what an admin disabled stays so, and
+purging leaves nginx a configuration that it takes. (packaging/try.sh does more, in a clean Debian, by hand.)"""
+from __future__ import annotations
+
+import os
+import subprocess
+from typing import Dict, Iterator
+
+import pytest
+from machine import Machine
+from served import STARTED, TOP
+from wants import lacks, wants
+
+pytestmark = [pytest.mark.xdist_group("machine"), pytest.mark.slow(90)]
+UNITS = ("farm.service", "farm-dispatch.service", "farm-backup.timer", "farm-metrics.timer")
+ON, OFF = "enabled active", "disabled inactive"
+
+
+class Debian(Machine):
+    """A machine on which the packages are, in /tmp/packages, and nothing of them is installed."""
+
+    def _set_up(self, program: str) -> None:
+        folder = os.path.dirname(self.room)
+        words = ["sh", os.path.join(TOP, "packaging", "build.sh"), program, folder]
+        built = subprocess.run(words, capture_output=True, text=True, check=False)
+        if built.returncode and "not built, since" in built.stdout:
+            self.end()
+            lacks(built.stdout.strip())
+        assert built.returncode == 0, built.stdout + built.stderr
+        self.run("rm", "-f", "/usr/sbin/policy-rc.d")  # (by which images of containers start nothing)
+        names = [os.path.basename(it) for it in built.stdout.split() if "/fizgruk_" not in it]
+        with subprocess.Popen(["tar", "-cC", folder, *names], stdout=subprocess.PIPE) as packed:
+            self.run("sh", "-c", "mkdir /tmp/packages && tar -xC /tmp/packages", stdin=packed.stdout)
+
+    def install(self) -> str:
+        """Installs the packages, or upgrades them."""
+        self.run("sh", "-c", "DEBIAN_FRONTEND=noninteractive dpkg -i /tmp/packages/*.deb")
+        return self.run("systemctl", "is-failed", *UNITS, check=False).stdout
+
+    def units(self) -> Dict[str, str]:
+        """Whether each unit is enabled, and whether it is active."""
+        found = {}
+        for unit in UNITS:
+            enabled = self.run("systemctl", "is-enabled", unit, check=False).stdout.strip()
+            found[unit] = f"{enabled} {self.status(unit)}"
+        return found
+
+
+@pytest.fixture(scope="module")
+def debian(program: str, tmp_path_factory: pytest.TempPathFactory) -> Iterator[Debian]:
+    wants("dpkg", "dpkg-buildpackage", "nginx")
+    booted = Debian(str(tmp_path_factory.mktemp("debian")), program)
+    STARTED.remove(booted.process)  # (it lasts longer than a test)
+    yield booted
+    booted.end()
+
+
+def test_an_upgrade_leaves_running_what_ran(debian: Debian) -> None:
+    """By the rules of deb-systemd-invoke: what is enabled begins, what is disabled only where it ran."""
+    debian.install()
+    farm, dispatch, backup, metrics = UNITS
+    assert debian.units() == {farm: ON, dispatch: ON, backup: OFF, metrics: OFF}
+    debian.install()
+    assert debian.units() == {farm: ON, dispatch: ON, backup: OFF, metrics: OFF}
+    debian.run("systemctl", "enable", "--now", backup, metrics)
+    debian.install()
+    assert debian.units() == {farm: ON, dispatch: ON, backup: ON, metrics: ON}
+    debian.run("systemctl", "disable", "--now", backup, dispatch)
+    debian.run("systemctl", "disable", metrics)
+    debian.install()
+    assert debian.units() == {farm: ON, dispatch: OFF, backup: OFF, metrics: "disabled active"}
+    debian.wait("the desk", *debian.curl("root", "/status"))
+
+
+def test_purging_leaves_a_configuration_that_nginx_takes(debian: Debian) -> None:
+    """And an admin's own link of another name, whatever it leads to."""
+    debian.install()
+    links = "/etc/nginx/sites-enabled"
+    debian.run("sh", "-c", f"rm -f {links}/*; ln -s ../sites-available/farm {links}/farm")
+    debian.run("ln", "-s", "/srv/ours", f"{links}/ours")
+    debian.run("sh", "-c", "dpkg --remove fizgruk-farm && test -e /etc/nginx/sites-enabled/farm")
+    debian.run("sh", "-c", "DEBIAN_FRONTEND=noninteractive dpkg --purge fizgruk-farm")
+    assert debian.run("ls", links).stdout.split() == ["ours"]
+    debian.run("rm", f"{links}/ours")
+    tried = debian.run("nginx", "-t", check=False)
+    assert tried.returncode == 0, tried.stderr
+    assert debian.run("ls", "/var/lib/farm").stdout.split() != [], "the farm stays"
+
+
+def test_another_site_of_the_same_name_stays(debian: Debian) -> None:
+    debian.install()
+    link = "/etc/nginx/sites-enabled/farm"
+    debian.run("sh", "-c", f"echo 'server {{ listen 127.0.0.1:8099; }}' > /srv/mine && ln -sf /srv/mine {link}")
+    debian.run("sh", "-c", "DEBIAN_FRONTEND=noninteractive dpkg --purge fizgruk-farm")
+    assert debian.run("readlink", link).stdout.strip() == "/srv/mine"
+    debian.run("rm", link)
+
+
+def test_what_packages_want_is_said(folder: str) -> None:
+    """A program, and what builds them."""
+    build = os.path.join(TOP, "packaging", "build.sh")
+    ran = subprocess.run(["sh", build, f"{folder}/farm", folder], capture_output=True, text=True, check=False)
+    assert (ran.returncode, ran.stderr) == (1, "")
+    assert ran.stdout == f"package: not built, since there is no program {folder}/farm: 'make bin' builds it\n"
+    os.mkdir(f"{folder}/bin")
+    for name in ("sed", "tr", "dirname", "realpath", "sh"):
+        os.symlink(f"/usr/bin/{name}", f"{folder}/bin/{name}")
+    words = ["sh", build, "/bin/sh", folder]
+    ran = subprocess.run(words, capture_output=True, text=True, check=False, env={"PATH": f"{folder}/bin"})
+    assert (ran.returncode, ran.stderr) == (1, "")
+    assert ran.stdout.startswith("package: not built, since there is no dpkg-buildpackage, no dh, ")
+    assert " apt install " in ran.stdout and {"debhelper", "dh-python", "po-debconf", "dpkg-dev"} <= set(ran.stdout.split())
