@@ -8,6 +8,7 @@ from typing import Any, Callable, Deque, Dict, Iterator, List, Optional, Tuple
 from fizgruk import calls
 from fizgruk._tools import disk, tables
 from fizgruk.desk import views
+from fizgruk.errors import Code, Refused
 
 FILE = "/var/log/farm/audit.log"
 LAST = 50
@@ -96,8 +97,8 @@ class Boards:
         if kind == "jobs" and key not in self.known and len(self.known) < MOST_LOOKS:
             try:
                 self.known[key] = self.desk.look(f"/jobs/{number}")["board"]
-            except calls.Refused as refusal:
-                if refusal.code != calls.NO_JOB:
+            except Refused as refusal:
+                if refusal.code != Code.NO_SUCH_JOB:
                     raise
                 self.known[key] = ""  # another farm's
         return self.known.get(key, "")
