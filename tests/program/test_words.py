@@ -192,6 +192,8 @@ def test_three_connections(orders: Orders) -> None:
         assert process.stdout is not None
         if process.stdout.readline() == f"listening {port}\n".encode():
             break
+        # (only where another program took the port meanwhile)
+        assert process.communicate(timeout=60)[1] == b"farm: 80 read fault\n"
     for _ in range(3):
         words = ["curl", "-sS", f"http://127.0.0.1:{port}/types"]
         assert subprocess.run(words, check=True, capture_output=True).stdout == b'{"types":[]}'
