@@ -172,6 +172,18 @@ def test_a_group_that_collects_is_shown_with_the_board_that_it_holds(farm: Farm)
 # ---- jobs
 
 
+def test_a_job_under_a_key_is_submitted_once(farm: Farm, folder: str) -> None:
+    """Under another key it is another job; another text under the same key is the same one; what is no key is refused."""
+    file = write(folder, "nightly.toml", JOB)
+    for key, number in (("nightly-2026-11-28", "1\n"), ("nightly-2026-11-28", "1\n"), ("nightly-2026-11-29", "2\n")):
+        prints(farm, number, "submit", "--key", key, file)
+    other = write(folder, "other.toml", JOB.replace("job_name", "priority = 60\njob_name"))
+    prints(farm, "1\n", "submit", "--key", "nightly-2026-11-28", other)
+    status, said, errors = desk(farm, "submit", "--key", "a night", file)
+    assert (status, said, "bad key" in errors) == (3, "", True)
+    assert farm.look("/status")["jobs"] == 2
+
+
 def test_a_group_is_waited_for_until_all_its_members_have_ended(farm: Farm, folder: str) -> None:
     tool = waiting_tool(farm, folder, "submit", write(folder, "two", GROUP), "--wait", "--every", "0.1")
     wait_until("its place", lambda: "job 1 is Submitted, place 1 of 1 in the queue\n" in tool.errors())

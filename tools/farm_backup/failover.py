@@ -97,8 +97,8 @@ def promote(farm: copying.Farm, folder: str, tell: Teller) -> None:
     assert record
     if aside:
         tell(f"what stood there, {commands_in(farm.within(aside))}, is set aside in {aside}")
-    count, behind = record.point.commands, _as_of(folder)
-    tell(f"the standby, {count} commands as of {behind}, is promoted {mark.said()}")
+    count, behind = counted(record.point.commands), _as_of(folder)
+    tell(f"the standby, {count} as of {behind}, is promoted {mark.said()}")
 
 
 def _mark_of(
@@ -273,9 +273,13 @@ def commands_in(farm: copying.Farm) -> str:
     """How many commands two files have that stay as they are."""
     try:
         with standby.pages_in(farm) as found:
-            return f"{points.point_of(found).commands} commands"
+            return counted(points.point_of(found).commands)
     except (pages.NoDatabase, OSError):
         return "which can't be read"
+
+
+def counted(commands: int) -> str:
+    return f"{commands} command{'s' * (commands != 1)}"
 
 
 def _as_of(folder: str) -> str:

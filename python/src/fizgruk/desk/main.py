@@ -220,6 +220,10 @@ def add_jobs(command: Command) -> None:
     jobs.set_defaults(parser=jobs)
     submit = command("submit", submit_job)
     submit.add_argument("file", metavar="FILE", help="The job file, or - for the input.")
+    about = """\
+Submit it once under this key, of 1 to 64 letters, digits and '-', '_' and '.': called again with it,
+at another time or with another text, this prints the same number."""
+    submit.add_argument("--key", metavar="KEY", help=about)
     add_waiting(submit, AWAITS_END)
     add_number(command("cancel", cancel_job), "A job's number.")
     again = command("resubmit", resubmit_job)
@@ -339,7 +343,7 @@ def submit_job(desk: calls.Desk, options: argparse.Namespace) -> int:
     else:
         with open(options.file, "rb") as file:
             text = file.read()
-    return submit_text(desk, options, text)
+    return submit_text(desk, options, text, options.key)
 
 
 def resubmit_job(desk: calls.Desk, options: argparse.Namespace) -> int:
@@ -349,7 +353,9 @@ def resubmit_job(desk: calls.Desk, options: argparse.Namespace) -> int:
     return submit_text(desk, options, text)
 
 
-def submit_text(desk: calls.Desk, options: argparse.Namespace, text: bytes) -> int:
+def submit_text(
+    desk: calls.Desk, options: argparse.Namespace, text: bytes, key: Optional[str] = None
+) -> int:
     """Submits a job file, prints its number, and waits for its end where that is asked for."""
     fault = job_file.limit_fault_of(text)
     if fault:
@@ -357,7 +363,7 @@ def submit_text(desk: calls.Desk, options: argparse.Namespace, text: bytes) -> i
     if options.wait:
         options.clock.look()
     try:
-        said = desk.tell("/jobs", text, calls.fresh_key())
+        said = desk.tell("/jobs", text, key or calls.fresh_key())
     except Refused as refusal:
         raise job_file.why_refused(desk, refusal, text)
     options.clock.note_own()

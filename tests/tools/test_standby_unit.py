@@ -1,0 +1,52 @@
+"""The unit of a standby under a systemd: it ships, and where its standby was promoted it sets the farm aside before the
+desk's unit begins."""
+from __future__ import annotations
+
+from typing import Iterator
+
+import pytest
+from machine import Machine
+from served import STARTED
+
+pytestmark = [pytest.mark.xdist_group("machine"), pytest.mark.slow(30)]
+TO, HOME = "/mnt/farm-standby", "/var/lib/farm"
+
+
+@pytest.fixture
+def machine(program: str, tmp_path_factory: pytest.TempPathFactory) -> Iterator[Machine]:
+    booted = Machine(str(tmp_path_factory.mktemp("machine")), program)
+    STARTED.remove(booted.process)
+    yield booted
+    booted.end()
+
+
+def test_the_unit_ships_and_sets_a_farm_aside_before_a_desk_begins(machine: Machine) -> None:
+    machine.run("mkdir", "-p", TO)
+    machine.run("systemctl", "start", "farm-standby")
+    assert machine.status("farm-standby") == "inactive", "nothing is mounted there"
+    machine.run("mount", "-t", "tmpfs", "-o", "uid=farm,gid=farm,mode=700", "tmpfs", TO)
+    machine.serve()
+    machine.run("systemctl", "enable", "--now", "farm-standby")
+    machine.wait("a standby", "cat", f"{TO}/as-of")
+    machine.run(*machine.curl("admin", "/pass", "-X", "POST"))
+    count = '"count":1,'
+    machine.wait("a command", "sh", "-c", f"{' '.join(machine.curl('root', '/status'))} | grep '{count}'")
+    machine.wait("what is shipped", "sh", "-c", f"grep -l '\"commands\": 1,' {TO}/farm-*/.shipped")
+    # another machine promotes it, from the folder that both see
+    machine.run("systemctl", "stop", "farm-standby")
+    machine.run("install", "-d", "-o", "farm", "-g", "farm", "-m", "700", "/srv/other")
+    said = machine.run("farm-backup", "--db", "/srv/other/lab.db", "--promote", TO).stdout
+    assert "1 command as of " in said and "(generation 2)" in said
+    assert machine.run("stat", "-c", "%U", "/srv/other/lab.db", "/srv/other/lab.db-wal").stdout.split() == ["farm"] * 2
+    machine.run(*machine.curl("admin", "/pass", "-X", "POST"))
+    machine.run("systemctl", "start", "farm-standby", check=False)
+    assert machine.run("ls", HOME).stdout.split() == ["fenced-2"]
+    assert "2 commands, of which 1 were shipped" in machine.journal("farm-standby")
+    # a desk that is started with it finds no farm; the one that served ended
+    machine.run(*machine.curl("admin", "/pass", "-X", "POST"), check=False)
+    machine.wait("its end", "sh", "-c", "systemctl is-active farm | grep -v '^active'")
+    machine.run("systemctl", "stop", "farm", "farm-standby")
+    machine.run("systemctl", "start", "--no-block", "farm-standby", "farm")
+    machine.wait("its fault", "sh", "-c", "journalctl -q -u farm | grep '60 store fault'")
+    report = machine.run("farm", "report", "--db", f"{HOME}/fenced-2/lab.db", "boards", user="farm")
+    assert report.stdout == ""
