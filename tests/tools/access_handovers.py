@@ -1,16 +1,16 @@
 """Handovers of two boards between two people and a job, under kills of everything:
 
     access_handovers.py [--farm PROGRAM] [--seed N] [--within SECONDS] [--cgroup FOLDER] [--kills WORDS]
-                        [--without lock|pace] COUNT
+                        [--tcp] [--without lock] COUNT
 
 Each party writes marked bytes without pause, in letters of its own with the hold's number in them. b1 is behind
 ser2net, as slow as a serial line, and its sessions are consoles; b2's sessions are commands that go away from
 farm-access and write to the device. Meanwhile a session is killed or stopped, sshd's child, the client, the guard or
 the desk is, or the board is released and acquired again. It prints a line a board and a last one, and the status is 0
 where no byte of two parties is mixed, none comes later than --within after its hold's end, and no board stays locked.
-WORDS are what is killed or stopped, with commas between.
-With --without farm-access lacks the lock, with what is cleaned up under it and by the guard, or the pace of consoles,
-and the status has to be 1. FOLDER is a cgroup
+WORDS are what is killed or stopped, with commas between. With --tcp ser2net listens on a port.
+With --without farm-access lacks the lock, with what is cleaned up under it and by the guard, and the status has to be
+1. FOLDER is a cgroup
 (version 2) that the lab's account may write; without it sessions are namespaces.
 """
 from __future__ import annotations
@@ -42,7 +42,6 @@ KILLS = ("none", "access", "access", "tree", "sshd", "stop", "stop client", "des
 WITHOUT = {
     "": "",
     "lock": "from farm_access import boardlock; boardlock.BoardLock.take = lambda *_: True",
-    "pace": "from farm_access import lines; lines.rate_of = lambda _: 1e9",
 }
 
 
@@ -120,7 +119,7 @@ class Board(threading.Thread):
 
     def session(self, party: str, hold: str, mark: str) -> "subprocess.Popen[bytes]":
         nasty = [PYTHON, f"{HERE}/access_nasty.py", self.lab.path("b2.tty"), mark * 4, "0.01"]
-        writer = [PYTHON, f"{HERE}/access_writer.py", self.lab.path("b1.socket"), mark * 4]
+        writer = [PYTHON, f"{HERE}/access_writer.py", self.lab.console, mark * 4]
         ways = {"b1": ["console"], "b2": ["nasty", mark * 4, "0.01"]}
         runs = [*self.lab.access.split(), "run", hold, self.board, "--", *(writer if self.board == "b1" else nasty)]
         words = runs if party == "job" else self.lab.ssh(party, self.board, *ways[self.board])
@@ -274,6 +273,7 @@ def main() -> int:
     parser.add_argument("--within", type=float, default=2.0)
     parser.add_argument("--cgroup", default="")
     parser.add_argument("--kills", type=lambda it: it.split(","), default=KILLS)
+    parser.add_argument("--tcp", action="store_true")
     parser.add_argument("--without", choices=list(WITHOUT), default="")
     parser.add_argument("count", type=int)
     options = parser.parse_args()
@@ -283,7 +283,7 @@ def main() -> int:
 
         lab = access_lab.make(
             farm, before=WITHOUT[options.without], cgroup=options.cgroup, slow=True, after="sleep 0.1",
-            guard=options.without != "lock")
+            guard=options.without != "lock", tcp=options.tcp)
         try:
             trial = Trial(lab, options.within, options.kills)
             counts = [options.count - options.count // 2, options.count // 2]

@@ -34,19 +34,21 @@ sys.argv[0] = {file!r}
 from farm_access.main import main
 sys.exit(main())
 """
-ACCESS = """\
+HEAD = """\
 desk = "{desk}"
 user = "access"
 folder = "{place}/run"
 keys = "{place}/keys"
 log = "{place}/log"
 consoles = "{place}/consoles"
-admins = ["eve"]
 cage = "{cage}"
+"""
+WAYS = """\
+admins = ["eve"]
 
 [[ways]]
 boards = "*"
-console = {{ unix = "{place}/{{board}}.socket", rate = {rate} }}
+console = {{ {console}, rate = {rate} }}
 power = {{ pdudaemon = "http://127.0.0.1:{pdu}", host = "{{power}}", port = "{{outlet}}", settle = 0.2 }}
 tcp = {{ host = "127.0.0.1", ports = [{echo}] }}
 say = ["/bin/echo"]
@@ -64,7 +66,7 @@ SER2NET = """\
 %YAML 1.1
 ---
 connection: &b1
-  accepter: unix(umode=6,gmode=0,omode=0),{place}/b1.socket
+  accepter: {accepter}
   connector: serialdev,{place}/b1.tty,115200n81,local
   options:
     kickolduser: false
@@ -103,20 +105,22 @@ def make(make_farm: Callable[..., Farm], guard: bool = True, **more: Any) -> "La
 
 
 class Lab:
-    """A lab before a farm's boards b1 and b2. `before` is run by farm-access before it begins."""
+    """A lab before a farm's boards b1 and b2. `before` is run by farm-access before it begins; `tcp` says that ser2net
+    listens on a port, and not on a socket of a folder; `ways` are the lab's, in the place of those of all tests."""
 
     def __init__(self, farm: Farm, place: str, before: str = "", rate: int = 4000, after: str = "true",
-                 cgroup: str = "", slow: bool = False):
+                 cgroup: str = "", slow: bool = False, tcp: bool = False, ways: str = ""):
         self.farm, self.place, self.cgroup = farm, place, cgroup
         self.parts: Dict[str, "subprocess.Popen[bytes]"] = {}
         self.port, self.pdu, self.echo = free_port(), free_port(), free_port()
         self.is_root = os.geteuid() == 0
+        self.console = f"127.0.0.1:{free_port()}" if tcp else self.path("b1.socket")
         self.board_words = [SLOW] if slow else []
-        self.make_files(before, rate, after)
+        self.make_files(before, rate, after, ways)
 
     # ---- files
 
-    def make_files(self, before: str, rate: int, after: str) -> None:
+    def make_files(self, before: str, rate: int, after: str, ways: str) -> None:
         os.chmod(self.place, 0o755)
         for name in ("run", "keys", "consoles", "people", "got", "home"):
             os.mkdir(self.path(name), 0o755)
@@ -125,12 +129,17 @@ class Lab:
             if name != "stranger":
                 shutil.copy(self.path("people", f"{name}.pub"), self.path("keys", name))
         self.make_key(self.path("hostkey"))
-        self.write("access.toml", ACCESS.format(
+        console = f'{"unix" if self.console.startswith("/") else "tcp"} = "{self.console}"'
+        self.write("access.toml", (HEAD + (ways or WAYS)).format(
+            console=console,
             desk=self.farm.server, place=self.place, rate=rate, pdu=self.pdu, echo=self.echo,
             after=after.replace("PLACE", self.place),
             python=PYTHON, here=HERE, cage="cgroup" if self.cgroup else "namespace",
         ))
-        self.write("ser2net.yaml", SER2NET.format(place=self.place))
+        accepter = f"tcp,{self.console.replace(':', ',')}"
+        if self.console.startswith("/"):
+            accepter = f"unix(umode=6,gmode=0,omode=0),{self.console}"
+        self.write("ser2net.yaml", SER2NET.format(place=self.place, accepter=accepter))
         self.write("pdudaemon.conf", json.dumps(self.pdus()))
         launcher = self.path("farm-access.py")
         self.write("farm-access.py", LAUNCHER.format(tools=TOOLS, before=before, file=launcher))
@@ -218,10 +227,10 @@ class Lab:
         self.start("echo", PYTHON, f"{HERE}/access_echo.py", str(self.echo))
         if guard:
             self.guard()
-        wait_until("ser2net's socket", lambda: os.path.exists(self.path("b1.socket")))
+        wait_until("ser2net", lambda: os.path.exists(self.console) or ":" in self.console and answers(self.console))
         wait_until("sshd", lambda: b"listening" in self.said("sshd"))
-        wait_until("pdudaemon", lambda: answers(self.pdu))
-        wait_until("what echoes", lambda: answers(self.echo))
+        wait_until("pdudaemon", lambda: answers(f"127.0.0.1:{self.pdu}"))
+        wait_until("what echoes", lambda: answers(f"127.0.0.1:{self.echo}"))
 
     def said(self, name: str) -> bytes:
         with open(self.path(f"{name}.said"), "rb") as file:
@@ -377,9 +386,10 @@ class Lab:
         return b"".join(it.said for it in self.got(board))
 
 
-def answers(port: int) -> bool:
+def answers(address: str) -> bool:
+    host, _, port = address.rpartition(":")
     try:
-        socket.create_connection(("127.0.0.1", port), 1).close()
+        socket.create_connection((host, int(port)), 1).close()
         return True
     except OSError:
         return False

@@ -1,4 +1,4 @@
-"""A job's writer: access_writer.py SOCKET TEXT. Writes TEXT to a console server without end, slower than the line,
+"""A job's writer: access_writer.py SOCKET|HOST:PORT TEXT. Writes TEXT to a console server without end, slower than the line,
 and connects again where it is cut or busy."""
 import socket
 import sys
@@ -6,8 +6,9 @@ import time
 
 while True:
     try:
-        line = socket.socket(socket.AF_UNIX)
-        line.connect(sys.argv[1])
+        host, _, port = sys.argv[1].rpartition(":")
+        line = socket.socket(socket.AF_INET if port.isdigit() else socket.AF_UNIX)
+        line.connect((host, int(port)) if port.isdigit() else sys.argv[1])
         while True:
             line.sendall(sys.argv[2].encode())
             time.sleep(0.01)

@@ -6,6 +6,7 @@ import os
 import re
 import signal
 import subprocess
+import threading
 import time
 from typing import Any, Callable, Iterator, List, Sequence, Tuple
 
@@ -209,7 +210,7 @@ def test_a_port_at_the_client_leads_nowhere(lab: Lab, held: Callable[..., int], 
     port = free_port()
     place = f"{port}:127.0.0.1:{lab.farm.port}" if option == "-L" else str(port)
     lab.begin("ann", options=["-N", option, place])
-    until(lambda: access_lab.answers(port))
+    until(lambda: access_lab.answers(f"127.0.0.1:{port}"))
     proxy = ["-x", f"socks5h://127.0.0.1:{port}", f"{lab.farm.server}/status"] if option == "-D" else [f"http://127.0.0.1:{port}/status"]
     said = subprocess.run(["curl", "-s", "-m", "5", "--noproxy", "", *proxy], capture_output=True, check=False)
     assert (said.returncode != 0, said.stdout) == (True, b"")
@@ -473,6 +474,39 @@ def test_after_runs_between_two_holds_and_where_it_fails_nobody_gets_in(make_far
         assert b"it is shut" in lab.said("guard")
     finally:
         lab.end()
+
+
+NO_PACE = "from farm_access import lines; lines.rate_of = lambda _: 1e9"
+
+
+@pytest.mark.parametrize("before, is_late", [("", False), (NO_PACE, True)], ids=["paced", "without the pace"])
+def test_of_a_long_paste_nothing_comes_after_the_hold_since_consoles_are_paced(
+    make_farm: Callable[..., Farm], before: str, is_late: bool
+) -> None:
+    """The board takes 11,500 bytes a second, and what waits in ser2net would come later."""
+    lab = access_lab.make(make_farm, before=before, slow=True)
+    try:
+        number = lab.reserve("ann", "b1")
+        line = lab.begin("ann", "b1", "console")
+        threading.Thread(target=paste, args=(line, b"x" * 300_000), daemon=True).start()
+        until(lambda: lab.text("b1"))
+        time.sleep(1.5)
+        since = time.time()
+        lab.cancel("ann", number)
+        until(lambda: not lab.sessions())
+        until(lambda: time.time() > lab.got("b1")[-1].at + 2)
+        assert (lab.got("b1")[-1].at - since > 2) == is_late
+    finally:
+        lab.end()
+
+
+def paste(line: "subprocess.Popen[bytes]", text: bytes) -> None:
+    assert line.stdin
+    try:
+        line.stdin.write(text)
+        line.stdin.flush()
+    except OSError:
+        pass  # the session has ended
 
 
 @pytest.mark.slow(60)

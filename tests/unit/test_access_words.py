@@ -90,7 +90,7 @@ def test_a_cycle_of_commands_is_off_and_on_or_its_own() -> None:
     commands: dict[str, object] = {"on": ["relay", "1"], "off": ["relay", "0"]}
     found = power.steps_of("cycle", commands)
     assert [list(it.command) for it in found] == [["relay", "0"], [], ["relay", "1"]]
-    assert [list(it.command) for it in power.steps_of("cycle", {**commands, "cycle": ["reset"]})] == [["reset"]]
+    assert [list(it.command) for it in power.steps_of("cycle", dict(commands, cycle=["reset"]))] == [["reset"]]
 
 
 OTHERS: list[tuple[str, dict[str, object]]] = [
