@@ -83,7 +83,7 @@ class Door(http.server.BaseHTTPRequestHandler):
             self.give_file(lab.files[path])
         elif path == "/whoami" and lab.user:
             self.answer(200, "text/plain", lab.user.encode())
-        elif path in ("/whoami", "/history.json") or path.startswith("/logs/"):
+        elif path in ("/whoami", "/history.json", "/access.json") or path.startswith("/logs/"):
             self.answer(404, "application/json", b'{"code":52,"text":"no such route"}')
         else:
             self.hand_on("GET", path)

@@ -41,6 +41,7 @@ folder = "{place}/run"
 keys = "{place}/keys"
 log = "{place}/log"
 consoles = "{place}/consoles"
+shown = "{place}/shown/access.json"
 cage = "{cage}"
 """
 WAYS = """\
@@ -122,7 +123,7 @@ class Lab:
 
     def make_files(self, before: str, rate: int, after: str, ways: str) -> None:
         os.chmod(self.place, 0o755)
-        for name in ("run", "keys", "consoles", "people", "got", "home"):
+        for name in ("run", "keys", "consoles", "people", "got", "home", "shown"):
             os.mkdir(self.path(name), 0o755)
         for name in (*PEOPLE, "stranger"):
             self.make_key(self.path("people", name))

@@ -2,6 +2,7 @@
 moments do. Boards keep each byte that reaches them."""
 from __future__ import annotations
 
+import json
 import os
 import re
 import signal
@@ -520,3 +521,19 @@ def test_handovers_under_kills_mix_no_bytes_and_without_the_lock_they_do(program
     assert ran.returncode == (1 if without else 0), ran.stdout + ran.stderr
     if without:
         assert any(int(it) for it in re.findall('"mixes": ([0-9]+)', ran.stdout)), ran.stdout
+
+
+def test_the_guard_tells_the_page_which_ways_there_are_and_who_is_there(lab: Lab, held: Callable[..., int]) -> None:
+    def shown() -> Any:
+        with open(lab.path("shown", "access.json"), encoding="utf-8") as file:
+            return json.load(file)["boards"]
+
+    held("ann", "b2")
+    line = lab.begin("ann", "b2", "sleep")
+    running(lab, "sleep")
+    until(lambda: shown()["b2"]["sessions"])
+    assert [(it["person"], it["way"]) for it in shown()["b2"]["sessions"]] == [("ann", "sleep")]
+    assert shown()["b2"]["ways"] == ["console", "env", "nasty", "power on|off|cycle", "say", "sleep", f"tcp {lab.echo}"]
+    line.kill()
+    until(lambda: not shown()["b2"]["sessions"])
+    assert not shown()["b2"]["sessions"]

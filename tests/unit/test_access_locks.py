@@ -175,7 +175,7 @@ class FakeDesk:
 
 @pytest.fixture
 def made(folder: str) -> lookout.Lookout:
-    places = {"folder": folder, "keys": folder, "log": folder, "consoles": folder}
+    places = {"folder": folder, "keys": folder, "log": folder, "consoles": folder, "shown": folder}
     found = lookout.Lookout(site.Site(desk={}, admins=(), cage="best", ways=(), **places))
     found.desk = FakeDesk()  # type: ignore[assignment]
     return found

@@ -1,17 +1,21 @@
 """Ends what can't end by itself, and cleans up where nobody comes: stopped sessions, what lives of
 killed ones, boards whose hold has ended. It looks for all sessions too."""
+import json
+import os
 import signal
 import subprocess
 import sys
 import time
-from typing import Dict, List, NoReturn, Optional, Set
+from typing import Any, Dict, List, NoReturn, Optional, Set
 
 from farm_access import record, sessions
 from farm_access.boardlock import BoardLock, is_left
 from farm_access.lookout import Board, Lookout, NoDesk, is_current
+from farm_access.session import told_of
 from farm_access.sessions import GRACE, Session
 from farm_access.site import AFTER, Site
 from farm_access.work import Work, session_of
+from fizgruk._tools import disk
 
 LOOKS = 0.25
 HOUR = 3600.0
@@ -53,6 +57,7 @@ class Guard:
         self.rests: Dict[str, float] = {}
         self.shut: Set[str] = set()
         self.cleans = 0.0
+        self.shown = ""
 
     def round(self) -> None:
         if time.monotonic() >= self.cleans:
@@ -68,6 +73,22 @@ class Guard:
         self.evict_late(listed, boards)
         self.evict_dead(listed, boards)
         self.tidy(boards)
+        self.show(listed, boards)
+
+    def show(self, listed: List[Session], boards: Dict[str, Board]) -> None:
+        """Writes for the status page which ways boards have and who is there, where that changed and
+        there is a folder for it."""
+        if not os.path.isdir(os.path.dirname(self.site.shown)):
+            return
+        text = json.dumps({"boards": {it.name: self.shown_of(it, listed) for it in boards.values()}})
+        if text != self.shown:
+            disk.write_whole(self.site.shown, text)
+            self.shown = text
+
+    def shown_of(self, board: Board, listed: List[Session]) -> Dict[str, Any]:
+        there = [it for it in listed if board.name in it.holds and it.person and not it.folder]
+        told = [{"person": it.person, "way": it.way.split(" ")[0], "since": int(it.since)} for it in there]
+        return {"ways": told_of(self.site.ways_of(board.name, board.tags)), "sessions": told}
 
     def evict_late(self, listed: List[Session], boards: Dict[str, Board]) -> None:
         now = time.monotonic()

@@ -20,6 +20,7 @@ PLACES = {
     "keys": "/etc/farm/keys",
     "log": "/var/log/farm-access/log",
     "consoles": "/var/lib/farm-access/consoles",
+    "shown": "/var/lib/farm-access/shown/access.json",
 }
 # What each table of a way may have, and of which kind that is.
 NUMBER, TEXT, COMMAND, PORTS = "a number", "a text", "an array of texts", "an array of ports"
@@ -49,6 +50,7 @@ class Site:
     keys: str
     log: str
     consoles: str
+    shown: str
     admins: Tuple[str, ...]
     cage: str
     ways: Tuple[Tuple[str, Ways], ...]

@@ -29,6 +29,7 @@ const sights = new Map();
 let user;
 // What the dispatcher tells of the past, null where it isn't served, undefined before it is asked.
 let past, askPastAt = 0;
+let access = null, askAccessAt = 0;
 // How far the desk's machine is ahead of this one, in milliseconds.
 let offset = 0;
 // What is shown of all that, made anew whenever something of it changes.
@@ -182,6 +183,34 @@ async function lookAtPast() {
     askPastAt = Date.now() + 60000;
   }
 }
+
+// The ways to boards and who is there, where the lab has farm-access and the site tells it.
+async function lookAtAccess() {
+  if (Date.now() < askAccessAt) return;
+  try {
+    access = (await (await get("access.json", {cache: "no-cache"})).json()).boards || null;
+  } catch (fault) {
+    if (fault.status !== 404) return;
+    access = null;
+    askAccessAt = Date.now() + 60000;
+  }
+}
+
+// What whoever holds a board types to get to it.
+function commandsOf(row) {
+  const ways = access?.[row.name]?.ways || [];
+  if (!isOwn(row) || row.state !== "Running") return [];
+  return ways.map(way => {
+    const [name] = way.split(" ");
+    if (name === "console") return "desk console " + row.name;
+    if (name === "power") return "desk power " + row.name + " cycle";
+    if (name === "tcp") return / (.*[|])?22([|]|$)/.test(way) ? "desk ssh " + row.name : "";
+    return "";
+  }).filter(it => it);
+}
+
+const connectedTo = row => (access?.[row.name]?.sessions || []).map(it =>
+  it.person + ": " + it.way + ", since " + dateOf(it.since));
 
 // ---- commands
 
@@ -1270,6 +1299,8 @@ function drawBoard() {
     ["Type", row.type], ["Health", row.health, row.health], ["State", row.state],
     ["Held by", row.held.kind ? holderText(row) + since : ""],
     ["Tags", row.tags.length ? row.tags : ""],
+    ["Ways", commandsOf(row).join("\n"), "commands"],
+    ["Connected", connectedTo(row).join("\n"), "lines"],
     ["Last check", row.last_check ? dateOf(row.last_check) : "never"],
     ["Jobs since", String(row.jobs_since)],
   ]);
@@ -1495,6 +1526,7 @@ async function lookOnce(isFresh) {
     noteSights(isFirst);
     await extendWaiting();
     await lookAtPast();
+    await lookAtAccess();
     await lookAtHolders();
     makeRows();
     if (before) tellChanges(before);
