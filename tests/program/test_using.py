@@ -71,7 +71,7 @@ class Source(Machine):
     """A machine that has the source, with a built program, in /tmp/source, and nothing of it is installed."""
 
     def _set_up(self, program: str) -> None:
-        parts = ["-C", TOP, "tools", "examples", "-C", os.path.dirname(program), os.path.basename(program)]
+        parts = ["-C", TOP, "tools", "python", "examples", "-C", os.path.dirname(program), os.path.basename(program)]
         with subprocess.Popen(["tar", "-ch", "--exclude=__pycache__", *parts], stdout=subprocess.PIPE) as packed:
             self.run("sh", "-c", "mkdir -p /tmp/source && tar -xC /tmp/source", stdin=packed.stdout)
         self.run("install", "-D", f"/tmp/source/{os.path.basename(program)}", "/tmp/source/bin/farm")
