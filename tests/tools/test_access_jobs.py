@@ -49,9 +49,12 @@ def log_of(lab: Lab, number: int) -> str:
 
 
 def test_a_job_has_its_board_s_lock_and_its_own_environment(lab: Lab) -> None:
-    number = submit(lab, 'echo "$FARM_JOB $FARM_BOARD"; exit 3')
+    number = submit(lab, 'echo "$FARM_JOB $FARM_BOARD $(umask)"; exit 3')
     assert ended(lab, number) == "Incomplete"
-    assert f"{number} b2" in log_of(lab, number).splitlines()
+    usual = os.umask(0o022)
+    os.umask(usual)
+    assert f"{number} b2 {usual:04o}" in log_of(lab, number).splitlines()
+    assert os.stat(lab.path("run", "b2.lock")).st_mode & 0o777 == 0o660, "another account of the group may have it"
     with open(lab.path("run", "b2.lock"), encoding="utf-8") as file:
         assert file.read().strip() in (f"job {number}", "")
 

@@ -1,5 +1,6 @@
 """farm-access: a board's console, power and network for who holds it, behind OpenSSH."""
 import argparse
+import os
 import sys
 from typing import Any, Dict, Optional, Sequence
 
@@ -86,6 +87,8 @@ def serve(found: Site, options: argparse.Namespace) -> int:
     """Does what reads the desk."""
     from farm_access import check, guard, lookout, run, session, work
 
+    # (locks are shared by the accounts of one group)
+    usual = os.umask(0o007)
     try:
         if options.command == SESSION:
             return session.serve(found)
@@ -94,7 +97,7 @@ def serve(found: Site, options: argparse.Namespace) -> int:
         if options.command == TIDY:
             return guard.tidy(found, options.board)
         if options.command == RUN:
-            return run.run(found, options.words)
+            return run.run(found, options.words, usual)
         return check.check(found, options.boards)
     except work.Refusal as refusal:
         work.say(str(refusal))

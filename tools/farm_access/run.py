@@ -23,8 +23,8 @@ _LIBC = ctypes.CDLL(None, use_errno=True)
 _PR_SET_PDEATHSIG = 1
 
 
-def run(site: Site, words: Sequence[str]) -> int:
-    """Runs a command while a job holds its boards. The status is the command's."""
+def run(site: Site, words: Sequence[str], umask: int) -> int:
+    """Runs a command while a job holds its boards, with this umask. The status is the command's."""
     if "--" not in words or words[-1] == "--":
         raise Refusal(BAD_WORDS, USAGE)
     cut = list(words).index("--")
@@ -41,7 +41,7 @@ def run(site: Site, words: Sequence[str]) -> int:
     if mark:
         work.own.mark(mark)
     work.begin()
-    child = spawn(command, work.own.opened) if mark else work.start(command)
+    child = spawn(command, work.own.opened, umask) if mark else work.start(command)
     work.child = child
     work.end(work.wait_for(lambda: cage.status_of(child)), "")
 
@@ -69,7 +69,7 @@ def mark_of(folder: str) -> str:
     return mark
 
 
-def spawn(command: List[str], closed: int) -> int:
+def spawn(command: List[str], closed: int, umask: int) -> int:
     """Starts a command in the job's cage, with the job's environment. It dies with its caller."""
     caller = os.getpid()
     child = os.fork()
@@ -81,6 +81,7 @@ def spawn(command: List[str], closed: int) -> int:
         if os.getppid() == caller:
             for number in cage.USUAL:
                 signal.signal(number, signal.SIG_DFL)
+            os.umask(umask)
             os.execvpe(command[0], command, dict(os.environ))
     finally:
         os._exit(cage.NOT_RUN)
