@@ -34,6 +34,7 @@ field() { dpkg-deb -f "$folder"/"$1"_*.deb "$2"; }
 for file in lib/systemd/system/farm.service lib/systemd/system/farm-dispatch.service usr/bin/farm usr/bin/farm-dispatch \
     lib/systemd/system/farm-watch.service usr/bin/farm-watch \
     lib/systemd/system/farm-port.service usr/share/fizgruk/farm-port.nft etc/logrotate.d/fizgruk-farm \
+    lib/systemd/system/farm-door.service usr/bin/farm-door etc/nginx/farm-door.conf \
     lib/systemd/system/farm-job.socket lib/systemd/system/farm-job@.service usr/share/fizgruk/job-in-account \
     lib/systemd/system/farm-backup.timer lib/systemd/system/farm-metrics.timer \
     usr/share/fizgruk/page/farm.html etc/nginx/sites-available/farm etc/farm/run-job etc/farm/check-board \

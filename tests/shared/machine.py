@@ -13,7 +13,7 @@ from typing import IO, List, Optional, Sequence
 from served import STARTED, TOP
 from wants import lacks, wants
 
-ACCOUNTS = ("farm", "farm-dispatch", "farm-metrics", "farm-watch")
+ACCOUNTS = ("farm", "farm-dispatch", "farm-door", "farm-metrics", "farm-watch")
 PORT = 880
 # In namespaces of mounts and of nothing else: a cgroup of its own, over which the rest is then made.
 OUTSIDE = """\

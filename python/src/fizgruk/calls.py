@@ -26,6 +26,7 @@ FIRST_WAIT, LONGEST_WAIT = 0.2, 5.0
 LONGEST_IDLE = 30.0
 MOST_IDLE = 4
 BLOCK = 65536
+TOKEN_MARK = "farm_token_"
 NO_DESKS = "the answer isn't a desk's"
 Row = Dict[str, Any]
 Body = Union[bytes, Row, None]
@@ -37,6 +38,13 @@ class Answer(NamedTuple):
     status: int
     reason: str
     body: bytes
+
+
+def authorization_of(user: str, password: str) -> str:
+    """How a password is told, in whose place a token of farm-door's may stand."""
+    if password.startswith(TOKEN_MARK):
+        return f"Bearer {password}"
+    return "Basic " + base64.b64encode(f"{user}:{password}".encode()).decode()
 
 
 def fresh_key() -> str:
@@ -90,8 +98,7 @@ class Desk:
             self._context = ssl.create_default_context(cafile=settings.ca_file)
         self._fields = {"x-user": settings.user}
         if settings.password is not None:
-            pair = f"{settings.user}:{settings.password}".encode()
-            self._fields["authorization"] = "Basic " + base64.b64encode(pair).decode()
+            self._fields["authorization"] = authorization_of(settings.user, settings.password)
         self._idle: List[Tuple[http.client.HTTPConnection, float]] = []
         self._process = os.getpid()
 

@@ -1,0 +1,282 @@
+"""farm-door behind the example's site: limits of users and teams, several admins, tokens, and that nothing gets through
+where it gives no answer."""
+from __future__ import annotations
+
+import os
+import shutil
+import sqlite3
+import subprocess
+import sys
+import tempfile
+import time
+from typing import Any, Callable, Dict, Iterator, List, Sequence, Tuple
+
+import pytest
+
+from nginx_site import Site, write
+from served import STARTED, TOOLS, TOP, Farm, environment, read, wait_until
+
+RULES = """[limits]
+open_reservations = 3
+open_jobs = 4
+jobs_an_hour = 6
+[limits.few]
+open_reservations = 1
+[teams]
+few = ["dispatcher-2", "dispatcher-3"]
+[admins]
+logins = ["ann.admin"]
+"""
+RESERVE = ("-d", '{"tags":[]}')
+JOB = ("--data-binary", "job_name = 'x'\ndevice_type = 'bbb'\n")
+HOOK = "# include /etc/nginx/farm-door.conf;"
+
+
+class Door:
+    """A site with its farm-door."""
+
+    def __init__(self, farm: Farm, make_site: Callable[..., Site], folder: str, rules: str, login: str = ""):
+        """`login` is what says who asks, where no password does."""
+        self.farm, self.folder = farm, folder
+        self.room = tempfile.mkdtemp(prefix="door")  # (a socket's path is short)
+        self.socket = os.path.join(self.room, "socket")
+        write(folder, "door.toml", rules, 0o644)
+        text = read(os.path.join(TOP, "examples", "nginx-door.conf")).replace("/run/farm-door/socket", self.socket)
+        changes = [(HOOK, f"include {folder}/nginx-door.conf;")]
+        if login:
+            text = text.replace("x-login $remote_user;", f"x-login {login};")
+            changes.append(("auth_basic $farm_realm;", "auth_basic off;"))
+        write(folder, "nginx-door.conf", text, 0o644)
+        self.start()
+        self.site = make_site(farm, *changes)
+
+    def start(self) -> None:
+        words = ["--rules", f"{self.folder}/door.toml", "--socket", self.socket, "--state", f"{self.folder}/kept.db"]
+        with open(f"{self.folder}/door.log", "ab") as log:
+            self.process = subprocess.Popen(
+                [sys.executable, os.path.join(TOOLS, "farm-door"), *words, "--server", self.farm.server, "--group", "root"],
+                stdout=subprocess.PIPE, stderr=log, env=environment(),
+            )
+        STARTED.append(self.process)
+        assert self.process.stdout is not None and self.process.stdout.readline()
+        time.sleep(0.3)  # (its first look at the desk)
+
+    def kill(self) -> None:
+        self.process.kill()
+        self.process.communicate()
+
+    def told(self, *words: str, user: str = "ann") -> Tuple[int, Any]:
+        status, _, said = self.site.said(*words, user=user)
+        return status, said
+
+    def by_token(self, token: str, *words: str) -> Tuple[int, Any]:
+        status, _, said = self.site.said("-H", f"authorization: Bearer {token}", *words, user="")
+        return status, said
+
+    def owners(self) -> List[str]:
+        return [it["owner"] for it in self.farm.look("/reservations")["reservations"]]
+
+
+@pytest.fixture
+def make_door(
+    make_farm: Callable[..., Farm], make_site: Callable[..., Site], folder: str, monkeypatch: pytest.MonkeyPatch
+) -> Iterator[Callable[..., Door]]:
+    made: List[Door] = []
+    monkeypatch.setattr("nginx_site.WORDS", {
+        "ann": "open sesame", "bob": "b", "ann.admin": "a", "dispatcher": "pass on", "dispatcher-2": "c", "dispatcher-3": "d",
+    })
+
+    def make(rules: str = RULES, login: str = "") -> Door:
+        made.append(Door(make_farm([("b1", "bbb", []), ("b2", "bbb", [])]), make_site, folder, rules, login))
+        return made[-1]
+
+    yield make
+    for it in made:
+        shutil.rmtree(it.room)
+
+
+@pytest.fixture
+def door(make_door: Callable[..., Door]) -> Door:
+    return make_door()
+
+
+def limit(text: str) -> Tuple[int, Dict[str, Any]]:
+    return 429, {"code": 429, "text": text}
+
+
+def test_a_user_has_so_many_reservations_open_and_more_where_some_end(door: Door) -> None:
+    assert [door.told(*RESERVE, "/reservations")[0] for _ in range(3)] == [200] * 3
+    assert door.told(*RESERVE, "/reservations") == limit("the limit of ann is 3 open reservations")
+    assert door.told(*RESERVE, "/reservations", user="bob")[0] == 200, "another user"
+    door.farm.tell("dispatcher", "/pass")
+    time.sleep(5)
+    assert door.told(*RESERVE, "/reservations")[0] == 429, "what holds a board is open too"
+    assert door.told("-X", "POST", "/reservations/1/cancel")[0] == 200
+    wait_until("it is seen", lambda: door.told(*RESERVE, "/reservations")[0] == 200, 20)
+    assert door.told(*RESERVE, "/reservations")[0] == 429
+
+
+def test_a_user_has_so_many_jobs_open_and_so_many_an_hour(door: Door) -> None:
+    assert [door.told(*JOB, "/jobs")[0] for _ in range(4)] == [200] * 4
+    assert door.told(*JOB, "/jobs") == limit("the limit of ann is 4 open jobs")
+    for number in (1, 2, 3, 4):
+        assert door.told("-X", "POST", f"/jobs/{number}/cancel")[0] == 200
+    wait_until("they are seen to have ended", lambda: door.told(*JOB, "/jobs")[0] == 200, 20)
+    assert door.told(*JOB, "/jobs")[0] == 200
+    assert door.told(*JOB, "/jobs") == limit("the limit of ann is 6 jobs an hour")
+    door.kill()
+    door.start()
+    assert door.told(*JOB, "/jobs") == limit("the limit of ann is 6 jobs an hour"), "a kill loses nothing"
+    assert door.told(*RESERVE, "/reservations")[0] == 200
+
+
+def test_the_members_of_a_team_share_its_limit(door: Door) -> None:
+    assert door.told(*RESERVE, "/reservations", user="dispatcher-2")[0] == 200
+    assert door.told(*RESERVE, "/reservations", user="dispatcher-3") == limit("the limit of team few is 1 open reservations")
+
+
+def test_many_at_once_are_no_more(door: Door) -> None:
+    line, fields = door.site.connection()
+    line.close()
+    import threading
+
+    statuses: List[int] = []
+
+    def ask() -> None:
+        own, more = door.site.connection()
+        for _ in range(5):
+            own.request("POST", "/reservations", body='{"tags":[]}', headers=more)
+            answer = own.getresponse()
+            answer.read()
+            statuses.append(answer.status)
+        own.close()
+
+    threads = [threading.Thread(target=ask) for _ in range(8)]
+    for it in threads:
+        it.start()
+    for it in threads:
+        it.join()
+    assert sorted(statuses) == [200] * 3 + [429] * 37
+    assert door.owners() == ["ann"] * 3 and fields
+
+
+def test_an_admin_of_several_is_admin_to_the_desk_and_himself_in_the_audit(door: Door) -> None:
+    health = ("-d", '{"health":"Bad"}', "/boards/b1/health")
+    assert door.told(*health)[0] == 403 and door.told(*health) == (403, {"code": 3, "text": "forbidden"})
+    assert door.told(*health, user="ann.admin")[0] == 200
+    assert '"login":"ann.admin"' in read(f"{door.folder}/audit.log")
+    assert door.site.got("/whoami", user="ann.admin")[2] == b"admin"
+    assert [door.told(*RESERVE, "/reservations", user="ann.admin")[0] for _ in range(5)] == [200] * 5
+
+
+def test_a_token_stands_for_its_owner_until_it_is_ended(door: Door) -> None:
+    status, made = door.told("-d", '{"name":"nightly"}', "/tokens")
+    assert (status, made["number"], made["name"]) == (200, 1, "nightly")
+    token = made["token"]
+    assert door.by_token(token, *RESERVE, "/reservations")[0] == 200 and door.owners() == ["ann"]
+    assert '"login":"ann (token)"' in read(f"{door.folder}/audit.log")
+    assert door.by_token(token, "/queue")[0] == 200
+    assert door.site.got("/whoami", "-H", f"authorization: Bearer {token}", user="")[2] == b"ann"
+    assert [it["name"] for it in door.told("/tokens")[1]["tokens"]] == ["nightly"]
+    assert token not in str(door.told("/tokens")) and door.told("/tokens", user="bob")[1] == {"tokens": []}
+    assert door.by_token(token, "-d", '{"name":"more"}', "/tokens")[0] == 401, "a token makes none"
+    assert door.told("-X", "POST", "/tokens/1/end", user="bob")[0] == 404
+    door.kill()
+    door.start()
+    assert door.by_token(token, "/queue")[0] == 200
+    with open(f"{door.folder}/kept.db", "rb") as kept:
+        assert token.encode() not in kept.read()
+    assert door.told("-X", "POST", "/tokens/1/end")[0] == 200
+    assert door.by_token(token, "/queue")[0] == 401
+
+
+def test_the_client_takes_a_token_for_a_password(door: Door) -> None:
+    token = door.told("-d", '{"name":"ci"}', "/tokens")[1]["token"]
+    file = write(door.folder, "token", f"{token}\n", 0o600)
+    assert door.site.desk("reserve", DESK_PASSWORD_FILE=file) == (0, "1\n", "")
+    assert door.owners() == ["ann"]
+
+
+@pytest.mark.parametrize("fields", [
+    ["authorization: Bearer x"], ["authorization: Bearer farm_token_x"], ["authorization: Bearer "], ["authorization: bearer a b"],
+    ["x-login: ann"], ["authorization: Bearer x", "x-login: ann", "x-farm-user: admin"], ["x-bearer: Bearer x"], [],
+])
+def test_what_is_no_token_is_let_in_nowhere(door: Door, fields: Sequence[str]) -> None:
+    words = [word for it in fields for word in ("-H", it)]
+    for path in ("/queue", "/", "/farm.js", "/history.json", "/logs/1", "/whoami", "/tokens"):
+        assert door.site.got(path, *words, user="")[0] == 401, path
+    assert door.site.said(*words, *RESERVE, "/reservations", user="")[0] == 401
+    assert door.owners() == []
+
+
+def test_a_wrong_password_never_reaches_it_and_a_claimed_name_is_nobodys(door: Door) -> None:
+    for words in (["-u", "ann:guess"], ["-u", "ann.admin:guess"]):
+        assert door.site.got("/reservations", *words, *RESERVE, user="")[0] == 401
+    assert door.told("-H", "x-login: ann.admin", "-H", "x-farm-user: admin", "-d", '{"health":"Bad"}', "/boards/b1/health")[0] == 403
+
+
+def test_where_it_gives_no_answer_nothing_is_let_through(door: Door) -> None:
+    door.kill()
+    for words in (["/queue"], [*RESERVE, "/reservations"], ["/whoami"], ["/tokens"]):
+        status = door.site.got(words[-1], *words[:-1])[0]
+        assert status in (500, 502), words
+    assert door.owners() == []
+    door.start()
+    assert door.told(*RESERVE, "/reservations")[0] == 200
+
+
+def test_where_the_desk_gives_it_no_answer_what_has_a_limit_isnt_let_through(
+    door: Door, monkeypatch: pytest.MonkeyPatch
+) -> None:
+    from farm_door import counts, kept, main, rules
+
+    monkeypatch.setattr(counts, "TOO_OLD", 0.0)
+    asked = main.Door(rules.rules_in("/nowhere/door.toml"), kept.Kept(":memory:"), counts.Counts(None))  # type: ignore[arg-type]
+    with pytest.raises(main.Refused, match="your limits can't be told"):
+        asked.passes("ann", "", "POST", "/jobs")
+    assert asked.passes("ann", "", "POST", "/jobs/1/cancel") == ("ann", "ann")
+    assert asked.passes("dispatcher", "", "POST", "/jobs") == ("dispatcher", "dispatcher")
+    del door
+
+
+def test_another_proxy_may_say_who_asks(make_door: Callable[..., Door]) -> None:
+    """As one for OIDC or LDAP in front of the site, by its field (docs/USING.md, Limits of users)."""
+    door = make_door(RULES, "$http_x_forwarded_user")
+
+    def by(name: str, *words: str) -> Tuple[int, str, Any]:
+        return door.site.said(*(["-H", f"x-forwarded-user: {name}"] if name else []), *words, user="")
+
+    assert [by("carl", *RESERVE, "/reservations")[0] for _ in range(4)] == [200, 200, 200, 429]
+    assert door.owners() == ["carl"] * 3 and '"login":"carl"' in read(f"{door.folder}/audit.log")
+    assert by("carl", "-d", '{"name":"ci"}', "/tokens")[0] == 200
+    for name in ("", "a b", "x" * 49, "ann;admin"):
+        assert by(name, "/queue")[0] == 401, name
+
+
+def test_a_foreign_page_makes_no_token(door: Door) -> None:
+    assert door.told("-H", "Origin: https://evil.example", "-d", '{"name":"x"}', "/tokens")[0] == 403
+    assert door.told("/tokens")[1] == {"tokens": []}
+
+
+@pytest.mark.parametrize("body", ["", "[]", "{}", '{"name":1}', '{"name":"a b"}', '{"name":"' + "x" * 49 + '"}', "[" * 5000])
+def test_what_is_no_name_of_a_token_makes_none(door: Door, body: str) -> None:
+    assert door.told("--data-binary", body, "/tokens")[0] in (400, 413)
+    assert sqlite3.connect(f"{door.folder}/kept.db").execute("select count(*) from tokens").fetchone() == (0,)
+
+
+def test_a_request_takes_five_milliseconds_more_at_most_in_processor_time(make_door: Callable[..., Door]) -> None:
+    """Of farm-door's, over two hundred requests."""
+    door = make_door("")
+    line, fields = door.site.connection()
+
+    def spent() -> float:
+        with open(f"/proc/{door.process.pid}/stat", encoding="ascii") as stat:
+            parts = stat.read().rpartition(")")[2].split()
+        return (int(parts[11]) + int(parts[12])) / os.sysconf("SC_CLK_TCK")
+
+    before = spent()
+    for _ in range(200):
+        line.request("GET", "/status", headers=fields)
+        line.getresponse().read()
+    line.close()
+    assert (spent() - before) / 200 < 0.005

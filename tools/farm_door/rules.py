@@ -1,0 +1,93 @@
+"""The file of rules: limits of users and teams, and who is an admin."""
+import dataclasses
+from typing import Any, Dict, FrozenSet, List, Tuple
+
+from fizgruk import toml_text
+from fizgruk._tools import disk
+from fizgruk.words import NAMES, BadFile
+
+LONGEST = 1_048_576
+WORDS = ("open_reservations", "open_jobs", "jobs_an_hour")
+UNLIMITED = ("admin", "dispatcher")
+
+
+@dataclasses.dataclass(frozen=True)
+class Limits:
+    """How much may be open, and asked for, at most. A lab of twenty meets none of these."""
+
+    open_reservations: int = 20
+    open_jobs: int = 1000
+    jobs_an_hour: int = 1000
+
+
+@dataclasses.dataclass(frozen=True)
+class Rules:
+    """The limits of all, those of some users and teams, which users are a team, and the logins that are the desk's
+    admin."""
+
+    limits: Limits
+    own: Dict[str, Limits]
+    teams: Dict[str, FrozenSet[str]]
+    admins: FrozenSet[str]
+
+    def groups_of(self, user: str) -> List[Tuple[str, FrozenSet[str], Limits]]:
+        """What a user's requests count for: the user, and each team with limits, by name, members and limits."""
+        found = [(user, frozenset((user,)), self.own.get(user, self.limits))]
+        for name, members in self.teams.items():
+            if user in members and name in self.own:
+                found.append((f"team {name}", members, self.own[name]))
+        return found
+
+    def is_unlimited(self, user: str) -> bool:
+        return user in UNLIMITED or user in self.admins
+
+
+def rules_in(file: str) -> Rules:
+    """The rules of a file; the usual ones where there is none. Raises BadFile where it says what it can't."""
+    text = disk.text_in(file, LONGEST)
+    try:
+        tree = toml_text.tree_of(text or "")
+    except toml_text.NotToml as fault:
+        raise BadFile(f"{file}: {fault}") from fault
+    _knows(tree, ("limits", "teams", "admins"), "the file")
+    limits = _table(tree, "limits")
+    own = {name: it for name, it in limits.items() if isinstance(it, dict)}
+    usual = _limits_of({name: it for name, it in limits.items() if name not in own}, Limits(), "limits")
+    teams = {_name(name): frozenset(_names(it, f"teams.{name}")) for name, it in _table(tree, "teams").items()}
+    admins = _table(tree, "admins")
+    _knows(admins, ("logins",), "[admins]")
+    each = {_name(name): _limits_of(it, usual, f"limits.{name}") for name, it in own.items()}
+    return Rules(usual, each, teams, frozenset(_names(admins.get("logins", []), "admins.logins")))
+
+
+def _limits_of(table: Dict[str, Any], usual: Limits, what: str) -> Limits:
+    _knows(table, WORDS, f"[{what}]")
+    for word, value in table.items():
+        if type(value) is not int or not 0 <= value <= 1_000_000:
+            raise BadFile(f"{what}.{word} is no number from 0 to 1,000,000")
+    return dataclasses.replace(usual, **table)
+
+
+def _table(tree: Dict[str, Any], name: str) -> Dict[str, Any]:
+    found = tree.get(name, {})
+    if not isinstance(found, dict):
+        raise BadFile(f"{name} is no table")
+    return found
+
+
+def _knows(table: Dict[str, Any], words: Tuple[str, ...], what: str) -> None:
+    for word in table:
+        if word not in words:
+            raise BadFile(f"{what} has no key {word!r}: there are {', '.join(words)}")
+
+
+def _name(text: str) -> str:
+    if not NAMES.fullmatch(text):
+        raise BadFile(f"{text!r} is no name")
+    return text
+
+
+def _names(value: Any, what: str) -> List[str]:
+    if not isinstance(value, list) or not all(isinstance(it, str) for it in value):
+        raise BadFile(f"{what} is no list of names")
+    return [_name(it) for it in value]
