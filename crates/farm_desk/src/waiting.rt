@@ -1,5 +1,6 @@
 //! A connection that waits until its request is there.
-ghost use Rattle.std.specs.Prelude.{◌≡◌, ◌≢◌, ◌≤◌, ◌↔◌, All, IfOk, IsErrAnd, IsTrue, None, length, take};
+ghost use Rattle.std.specs.Prelude.{◌≡◌, ◌≢◌, ◌<◌, ◌≤◌, ◌↔◌, All, IfOk, IsErrAnd, IsTrue, None};
+ghost use Rattle.std.specs.Prelude.{length, slice_index, take};
 ghost use Rattle.std.specs.IoError.{error_kind};
 ghost use Rattle.std.specs.declared.io.ErrorKind.TheVariants.{WouldBlock};
 ghost use Rattle.farm_desk.specs.Pending.{IsLineEnd, Looks, LooksUnless};
@@ -47,6 +48,8 @@ impl Waiting {
         ensures stream { result.stream ≡ stream }
         ensures unseen { result.seen ≡ 0 }
         ensures unknown { result.whole ≡ None }
+        ensures number { result.number ≡ number }
+        ensures since { result.since ≡ since }
     {
         Waiting {
             number,
@@ -65,7 +68,10 @@ impl Waiting {
     }
 
     /// Looks at what came. `bytes` has room for a request.
-    pub(crate) fn look(&mut self, bytes: &mut [u8]) -> Look {
+    pub(crate) fn look(&mut self, bytes: &mut [u8]) -> Look
+        ensures number { self.new.number ≡ self.old.number }
+        ensures since { self.new.since ≡ self.old.since }
+    {
         let room = self.whole.unwrap_or(LONGEST_REQUEST).min(bytes.len());
         let peeked = self.stream.peek(&mut bytes[..room]);
         self.look_after(bytes, &peeked)
@@ -79,6 +85,8 @@ impl Waiting {
             → result ≡ Look.Done }
         ensures some { IfOk peeked.now (λ count. count ≤ length bytes.now
             → LooksUnless (count ≡ 0) self.old self.new (take count bytes.now) result) }
+        ensures number { self.new.number ≡ self.old.number }
+        ensures since { self.new.since ≡ self.old.since }
     {
         match peeked {
             Ok(count) if *count > 0 => self.look_at(&bytes[..(*count).min(bytes.len())]),
@@ -89,7 +97,9 @@ impl Waiting {
 
     /// Looks at the first bytes of its request.
     fn look_at(&mut self, came: &[u8]) -> Look
-        ensures { Looks self.old self.new came.now result }
+        ensures looks { Looks self.old self.new came.now result }
+        ensures number { self.new.number ≡ self.old.number }
+        ensures since { self.new.since ≡ self.old.since }
     {
         if self.whole.is_none() {
             if empty_len(came) > MOST_EMPTY {
@@ -115,6 +125,7 @@ impl Waiting {
 fn empty_len(bytes: &[u8]) -> usize
     ensures within { result ≤ length bytes.now }
     ensures empty { All IsLineEnd (take result bytes.now) }
+    ensures whole { result < length bytes.now → ¬ IsLineEnd (slice_index bytes.now result) }
 {
     let first = bytes.iter().position(|byte| !is_line_end(*byte));
     first.unwrap_or(bytes.len())
