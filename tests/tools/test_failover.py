@@ -448,6 +448,7 @@ def test_what_cant_be_promoted_is_left_alone(pair: Pair, who: str, why: str) -> 
     assert why in errors
     if who != "follower":
         assert contents(pair.to) == before
+    assert os.path.exists(to) == (who != "nothing")
     pair.passes(1)
 
 
@@ -468,6 +469,14 @@ def test_a_mark_that_cant_be_read_stops_everybody(pair: Pair) -> None:
         for what in ("--follow", "--demote", "--promote"):
             status, _, errors = backup(pair.farm, what, pair.to)
             assert (status, "can't be read" in errors) == (4, True)
+    os.unlink(f"{pair.to}/promoted")
+    os.symlink("/etc/passwd", f"{pair.to}/promoted")
+    status, _, errors = backup(pair.farm, "--follow", pair.to)
+    assert (status, "can't be read" in errors) == (4, True)
+    os.unlink(f"{pair.to}/promoted")
+    os.mkdir(f"{pair.farm.db}-generation")
+    status, _, errors = backup(pair.farm, "--follow", pair.to)
+    assert (status, "-generation has no number" in errors) == (4, True)
     pair.passes(1)
 
 

@@ -1,5 +1,5 @@
-"""The unit of a standby under a systemd: it ships, and where its standby was promoted it sets the farm aside before the
-desk's unit begins."""
+"""The units of farm-backup under a systemd: the nightly copy; a standby, and where it was promoted the farm is set aside
+before the desk's unit begins."""
 from __future__ import annotations
 
 from typing import Iterator
@@ -18,6 +18,16 @@ def machine(program: str, tmp_path_factory: pytest.TempPathFactory) -> Iterator[
     STARTED.remove(booted.process)
     yield booted
     booted.end()
+
+
+def test_the_nightly_copy_is_made(machine: Machine) -> None:
+    machine.serve()
+    for _ in range(2):
+        machine.run("systemctl", "start", "farm-backup")
+    assert "compared" not in machine.journal("farm-backup"), "the desk is asked"
+    listed = machine.run("ls", "/var/lib/farm-backup", "/var/lib/farm-backup/latest/").stdout.split()
+    assert [it for it in listed if it.startswith("lab.db")] == ["lab.db", "lab.db-wal"]
+    assert len([it for it in listed if it.startswith("farm-")]) == 2
 
 
 def test_the_unit_ships_and_sets_a_farm_aside_before_a_desk_begins(machine: Machine) -> None:

@@ -6,10 +6,11 @@ import os
 import pathlib
 import random
 import sqlite3
+import struct
 from typing import Any, Iterator, List, Optional, Tuple
 
 import pytest
-from farm_backup import pages, points, wal
+from farm_backup import pages, points, standby, wal
 
 TABLES = """
 create table kept(caller text not null, ckey text not null, kind integer not null, a integer not null,
@@ -155,6 +156,26 @@ def test_another_history_shows(made: Made, change: str, why: str) -> None:
 def test_what_says_no_point_is_refused(said: Any) -> None:
     with pytest.raises(ValueError):
         points.point_in(said)
+
+
+def header_of(found: pages.Pages, more: int) -> str:
+    """The header of a log that began anew so often more than these pages' log."""
+    assert found.head is not None
+    magic, form, size, turn, one, other = struct.unpack_from(">6I", found.head.raw)
+    raw = struct.pack(">6I", magic, form, size, turn + more, one + more, other)
+    return (raw + struct.pack(">II", *wal.sum_of(raw, ">" if magic & 1 else "<", (0, 0)))).hex()
+
+
+@pytest.mark.parametrize("more, why", [(-1, ""), (0, ""), (1, "its log is an earlier one"), (7, "its log is an earlier one")])
+def test_a_log_that_began_anew_less_often_is_an_earlier_one(made: Made, more: int, why: str) -> None:
+    """As of a backup that was restored, and went on past what was shipped."""
+    for _ in range(3):
+        made.add(1)
+        carry(made)
+    made.add(1)
+    with made.pages() as found:
+        record = standby.Record([], points.point_of(found), header_of(found, more), 1)
+        assert record.why_other(found) == why
 
 
 # ---- what strangers made

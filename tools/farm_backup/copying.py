@@ -1,9 +1,9 @@
 """A farm's two files and whole copies of them, made while the desk serves.
 
 The desk writes lab.db only while it carries its log into it, and then begins the log anew with
-other salts. So who reads all that the log gets while lab.db is copied (farm_backup.tail) has each page
-that was written in lab.db meanwhile: written over the copy, log after log, they make it the farm at
-the moment of the last look, however fast it grows. A commit that was read in part is none.
+other salts. So who reads all that the log gets while lab.db is copied (farm_backup.tail) has each
+page that was written in lab.db meanwhile: written over the copy, log after log, they make it the
+farm at the moment of the last look, however fast it grows. A commit that was read in part is none.
 
 No lock is taken: the desk's locks hold up writers alone, and a reader takes nothing from it."""
 import contextlib

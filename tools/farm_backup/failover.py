@@ -1,14 +1,15 @@
-"""From one desk to another: a standby becomes the farm of a desk, and the farm that it followed is set
-aside, wherever it comes back.
+"""From one desk to another: a standby becomes the farm of a desk, and the farm that it followed is
+set aside, wherever it comes back.
 
-Beside a farm's file stands its generation (lab.db-generation), which is 1 where there is none, and in
-a standby's folder, once it was promoted, to what and where (promoted). A farm of an earlier generation
-than its standby was promoted to is fenced: its two files are set aside in fenced-N beside it, where
-nothing is removed and nobody serves them. A desk that has them open sees that its file is gone before
-its next answer, and ends.
+Beside a farm's file stands its generation (lab.db-generation), which is 1 where there is none, and
+in a standby's folder, once it was promoted, to what and where (promoted). A farm of an earlier
+generation than its standby was promoted to is fenced: its two files are set aside in fenced-N
+beside it, where nothing is removed and nobody serves them. A desk that has them open sees that its
+file is gone before its next answer, and ends.
 
-Each step can be stopped and done again: what is new lies in a folder of its own until it is whole, the
-mark comes before anything is changed, and at no moment does a file stand without its own log."""
+Each step can be stopped and done again: what is new lies in a folder of its own until it is
+whole, the mark comes before anything is changed, and at no moment does a file stand without its
+own log."""
 import contextlib
 import json
 import os
@@ -25,6 +26,7 @@ from fizgruk._tools import disk
 
 MARK, GENERATION, ASIDE, NEW = "promoted", "-generation", "fenced", ".promote-"
 FIRST = 1
+UNKNOWN = "a moment that isn't known"
 Teller = Callable[[str], None]
 
 
@@ -43,10 +45,10 @@ class Mark(NamedTuple):
 def mark_in(folder: str) -> Optional[Mark]:
     """The mark in a standby's folder; None where it wasn't promoted."""
     file = os.path.join(folder, MARK)
-    text = disk.text_in(file)
-    if text is None:
-        return None
     try:
+        text = disk.text_in(file)
+        if text is None:
+            return None
         said: Any = json.loads(text)
         at, machine, place = (str(said[it]) for it in ("at", "machine", "file"))
         return Mark(int(said["generation"]), at, machine, place)
@@ -57,19 +59,16 @@ def mark_in(folder: str) -> Optional[Mark]:
 def generation_of(farm: copying.Farm) -> int:
     """The generation of a farm's place."""
     file = f"{farm.db}{GENERATION}"
-    text = disk.text_in(file)
-    if text is None:
-        return FIRST
     try:
-        return int(text)
+        return int(disk.text_in(file) or FIRST)
     except ValueError as fault:
         raise standby.InUse(f"{file} has no number") from fault
 
 
 def fencing(farm: copying.Farm, folder: str) -> Optional[Mark]:
     """The mark by which a farm may not serve; None where it may."""
-    mark = mark_in(folder)
-    return mark if mark and mark.generation > generation_of(farm) else None
+    mark, own = mark_in(folder), generation_of(farm)
+    return mark if mark and mark.generation > own else None
 
 
 # ---- promoting
@@ -283,7 +282,10 @@ def counted(commands: int) -> str:
 
 
 def _as_of(folder: str) -> str:
-    return (disk.text_in(os.path.join(folder, "as-of")) or "a moment that isn't known").strip()
+    try:
+        return (disk.text_in(os.path.join(folder, "as-of")) or "").strip()[:40] or UNKNOWN
+    except disk.Strange:
+        return UNKNOWN
 
 
 # ---- units

@@ -5,9 +5,9 @@
                     what was shipped to it (.shipped)
     as-of           the standby has all that was answered before this moment
 
-A standby is only added to, or replaced by a newer copy, where it is as it was shipped and the farm is
-a later one of the same history. Else there are two lines of history, of which no program knows which
-one is wanted: the follower ends, and touches neither."""
+A standby is only added to, or replaced by a newer copy, where it is as it was shipped and the
+farm is a later one of the same history. Else there are two lines of history, of which no program
+knows which one is wanted: the follower ends, and touches neither."""
 import os
 import shutil
 import time
@@ -199,7 +199,7 @@ class Follower:
         self.standby.follow(self.farm.log).start()
 
     def _demand_unfenced(self) -> None:
-        """Demands that the standby wasn't promoted over this farm, which is set aside where it was."""
+        """Demands that the standby wasn't promoted over this farm, which else is set aside."""
         mark = failover.fencing(self.farm, self.folder)
         if mark is None:
             return
@@ -215,13 +215,13 @@ class Follower:
         assert self.record
         return InUse(
             f"{self.farm.db} isn't a later one of what was shipped to {self.name}, which are "
-            f"{self.record.point.commands} commands: {why}; it lost commands, or another farm was put "
-            "in its place, and they are two lines of history; neither is touched"
+            f"{self.record.point.commands} commands: {why}; it lost commands, or another farm was "
+            "put in its place, and they are two lines of history; neither is touched"
         )
 
     def _remove_superseded(self, current: str, found: pages.Pages) -> None:
-        """Removes the copies of followers from which the current one goes on, where they are as they
-        were shipped. All others stay."""
+        """Removes the copies of followers from which the current one goes on, where they are as
+        they were shipped. All others stay."""
         for name in copying.copies_in(self.folder):
             folder = os.path.join(self.folder, name)
             record = standby.record_in(folder)

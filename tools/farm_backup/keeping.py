@@ -6,8 +6,8 @@ from farm_backup import copying, pages, points, standby
 
 
 def earlier(farm: copying.Farm, folder: str, new: str) -> Tuple[List[str], List[str]]:
-    """The copies in a folder that are earlier farms of the new one's history, the earliest first; and
-    the others, which nobody can put in order."""
+    """The copies in a folder that are earlier farms of the new one's history, the earliest
+    first; and the others, which nobody can put in order."""
     found: List[Tuple[int, int, int, str]] = []
     others: List[str] = []
     with standby.pages_in(farm.within(os.path.join(folder, new))) as newest:

@@ -59,6 +59,8 @@ def main(words: Optional[Sequence[str]] = None) -> int:
             return look(farm, options)
         if options.demote:
             return demote(farm, folder, options)
+        if options.promote and not os.path.isdir(folder):
+            return told(FAULT, f"there is no standby in {folder}")
         os.makedirs(folder, mode=0o700, exist_ok=True)
         lock = copying.take_folder(folder)
         if lock is None:
@@ -86,23 +88,46 @@ def parser_of() -> parsers.Parser:
     )
     option = parser.add_argument
     option("--db", metavar="FILE", default=DB, help="The farm's file (default %(default)s).")
+    _add_copies(parser)
+    _add_looks(parser)
+    _add_standby(parser)
+    about = "The program that checks a copy (default %(default)s, as the shell finds it)."
+    option("--program", metavar="FILE", default="farm", help=about)
+    about = "Tell on standard error why a copy is made again, and with which desk it is compared."
+    option("--verbose", action="store_true", help=about)
+    about = "Where the copies or the standby are."
+    option("folder", metavar="DIR", nargs="?", help=about)
+    return parser
+
+
+def _add_copies(parser: parsers.Parser) -> None:
     about = """\
-Once the new copy has its name, remove all but the newest N, by what they hold; without it none is."""
-    option("--keep", metavar="N", type=_number, help=about)
+Once the new copy has its name, remove all but the newest N, by what they hold; without it none \
+is."""
+    parser.add_argument("--keep", metavar="N", type=_number, help=about)
     about = """\
 Ask the desk there before the copying how many commands it has done, and throw the copy away where
 it has fewer. Where no answer comes this is told, and the copy is kept."""
-    option("--server", metavar="URL", type=_server, help=about)
+    parser.add_argument("--server", metavar="URL", type=_server, help=about)
+
+
+def _add_looks(parser: parsers.Parser) -> None:
+    option = parser.add_argument
     about = "Copy once, for one who looks at the farm while its desk serves."
     option("--now", action="store_true", help=about)
     about = """\
 Where the copy is, as one file that 'farm report' and SQLite's shell open; none may be there."""
     option("--to", metavar="FILE", help=about)
-    about = "Print a report over the copy, which is removed then: 'queue', 'boards' or 'reservations'."
+    about = """\
+Print a report over the copy, which is removed then: 'queue', 'boards' or 'reservations'."""
     option("--report", metavar="TOPIC", choices=looking.TOPICS, help=about)
     about = "The report's moments, so many minutes east of UTC."
     option("--east", metavar="N", type=_minutes, help=about)
     option("--west", metavar="N", type=_minutes, help="The same, west of UTC.")
+
+
+def _add_standby(parser: parsers.Parser) -> None:
+    option = parser.add_argument
     option("--follow", action="store_true", help="Keep a standby in DIR.")
     about = "Between two shippings to the standby (default 1)."
     option("--every", metavar="SECONDS", type=_seconds, default=1.0, help=about)
@@ -112,20 +137,13 @@ there is set aside beside them, in fenced-N. The farm that the standby followed 
 on: a follower of it, or '--demote', sets it aside where it comes back. It can be run again."""
     option("--promote", action="store_true", help=about)
     about = """\
-Set FILE and its log aside, in fenced-N beside them, where the standby in DIR was promoted over them;
-a desk that has them open ends. Else nothing is done."""
+Set FILE and its log aside, in fenced-N beside them, where the standby in DIR was promoted over
+them; a desk that has them open ends. Else nothing is done."""
     option("--demote", action="store_true", help=about)
     about = """\
-Stop the units farm-dispatch and farm before '--promote', and enable and start them after it; disable
-and stop them after '--demote' has set something aside."""
+Stop the units farm-dispatch and farm before '--promote', and enable and start them after it;
+disable and stop them after '--demote' has set something aside."""
     option("--units", action="store_true", help=about)
-    about = "The program that checks a copy (default %(default)s, as the shell finds it)."
-    option("--program", metavar="FILE", default="farm", help=about)
-    about = "Tell on standard error why a copy is made again, and with which desk it is compared."
-    option("--verbose", action="store_true", help=about)
-    about = "Where the copies or the standby are."
-    option("folder", metavar="DIR", nargs="?", help=about)
-    return parser
 
 
 def options_of(words: Optional[Sequence[str]]) -> argparse.Namespace:

@@ -1,9 +1,9 @@
-"""A point in a farm's history: what it had come to, by which a later farm is known as the same one's
-and an earlier, or another, as none.
+"""A point in a farm's history: what it had come to, by which a later farm is known as the same
+one's and an earlier, or another, as none.
 
-A farm only grows. Its commands are counted, its clock never falls back, and a kept reply, a job and a
-reservation once made stay. So of each table the last row is noted, which another line of history
-doesn't have there: keys are their clients' own."""
+A farm only grows. Its commands are counted, its clock never falls back, and a kept reply, a job
+and a reservation once made stay. So of each table the last row is noted, which another line of
+history doesn't have there: keys are their clients' own."""
 import hashlib
 import struct
 from typing import Any, Callable, Dict, List, NamedTuple, Optional, Tuple, TypeVar

@@ -1,5 +1,5 @@
-"""A copy of a farm's two files, which takes the commits that the farm's log gets, and is carried into
-its file where the farm's is."""
+"""A copy of a farm's two files, which takes the commits that the farm's log gets, and is carried
+into its file where the farm's is."""
 import os
 import stat
 

@@ -1,5 +1,5 @@
-"""A standby: a whole copy of a farm that goes on as the farm does, with a record of what was shipped to
-it, by which one that was served since is known.
+"""A standby: a whole copy of a farm that goes on as the farm does, with a record of what was
+shipped to it, by which one that was served since is known.
 
 The standby is locked as a desk locks a farm, so that nobody serves it while commits are added."""
 import contextlib

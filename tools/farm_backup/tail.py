@@ -1,10 +1,11 @@
 """What a farm's log gets, read while the desk writes it.
 
-The desk writes its log from the beginning to its end, carries it into its file after some thousand
-pages, and begins it anew with other salts: the frames of the new log then take the places of the old
-one's. So whoever looks before the new log has got as far as the look before finds the rest of the old
-one behind it, and misses nothing. A process of its own looks that often, whatever the reader is at: a
-thread would wait for Python's lock, which the reader has while it counts."""
+The desk writes its log from the beginning to its end, carries it into its file after some
+thousand pages, and begins it anew with other salts: the frames of the new log then take the
+places of the old one's. So whoever looks before the new log has got as far as the look before
+finds the rest of the old one behind it, and misses nothing. A process of its own looks that
+often, whatever the reader is at: a thread would wait for Python's lock, which the reader has
+while it counts."""
 import multiprocessing
 import os
 import signal
@@ -134,7 +135,8 @@ class Tail:
             self.checked = wal.beginning(part.head)
             return
         if wal.last_commit(part.head, part.data, self.checked) != part.end:
-            raise Damaged(f"{self.log} is damaged: commands stand behind a frame whose sum is wrong")
+            why = "commands stand behind a frame whose sum is wrong"
+            raise Damaged(f"{self.log} is damaged: {why}")
         self.checked = part.end
 
     def _look(self) -> None:
@@ -203,22 +205,23 @@ class Tail:
         return log.read()
 
     def _take(self, data: bytes) -> None:
-        """Takes the whole commits of these bytes, which stand behind the place. Of them the last frame
-        is checked, since those before it were written before."""
+        """Takes the whole commits of these bytes, which stand behind the place. Of them the last
+        frame is checked, since those before it were written before."""
         size = wal.FRAME + self.head.page_size
-        salts, end, before, now = self.head.raw[wal.SALTS], 0, self.place.sum, self.place.sum
+        salts, end = FRAME_SALTS.unpack(self.head.raw[wal.SALTS]), 0
+        before = found = self.place.sum
         for at in range(0, len(data) - size + 1, size):
             _, commit, one, other, first, second = FRAME_HEAD.unpack_from(data, at)
-            if (one, other) != FRAME_SALTS.unpack(salts):
+            if (one, other) != salts:
                 break
-            before, now = now, (first, second)
+            now = (first, second)
             if commit and wal.sum_of_frame(self.head, data[at : at + size], before) == now:
-                end, place_sum = at + size, now
+                end, found = at + size, now
+            before = now
         if end:
             self.last = data[end - size : end - size + wal.FRAME]
-            place = wal.Place(self.place.offset + end, place_sum)
-            self.parts.append(Commits(self.head, data[:end], place))
-            self.place = place
+            self.place = wal.Place(self.place.offset + end, found)
+            self.parts.append(Commits(self.head, data[:end], self.place))
 
 
 def _sync(log: str) -> None:
