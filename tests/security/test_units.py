@@ -13,7 +13,11 @@ from machine_lab import MachineLab
 from served import TOP
 from wants import wants
 
-UNITS = sorted(glob.glob(os.path.join(TOP, "examples", "*.service")))
+# (What the account board runs are a lab's own ways, also by sudo, which filters of system calls shut out.)
+OF_BOARDS = ("farm-access-guard.service", "farm-access-sshd.service")
+UNITS = sorted(
+    it for it in glob.glob(os.path.join(TOP, "examples", "*.service")) if os.path.basename(it) not in OF_BOARDS
+)
 MOST = 2.0
 # A job does what its lab lets it: devices, networks, and programs of all kinds.
 MOST_OF_A_JOB = 5.0

@@ -108,7 +108,7 @@ class Machine:
         return []
 
     def _set_up(self, program: str) -> None:
-        parts = ["-C", TOP, "tools", "examples", "-C", os.path.dirname(program), os.path.basename(program)]
+        parts = ["-C", TOP, "tools", "python", "examples", "-C", os.path.dirname(program), os.path.basename(program)]
         with subprocess.Popen(["tar", "-ch", "--exclude=__pycache__", *parts], stdout=subprocess.PIPE) as packed:
             self.run("sh", "-c", "mkdir /tmp/source && tar -xC /tmp/source", stdin=packed.stdout)
         if os.path.basename(program) != "farm":

@@ -194,6 +194,14 @@ def test_who_is_to_begin_asks_by_itself(made: lookout.Lookout) -> None:
     assert len(made.desk.looks) == 3  # type: ignore[attr-defined]
 
 
+def test_a_look_of_before_a_session_began_says_nothing_of_its_hold(made: lookout.Lookout) -> None:
+    made.shared()
+    began = time.monotonic()
+    made.shared(began)
+    made.shared(began)
+    assert len(made.desk.looks) == 2  # type: ignore[attr-defined]
+
+
 def test_a_look_of_before_the_clock_began_anew_is_none(made: lookout.Lookout) -> None:
     made.shared()
     with open(made.seen, encoding="utf-8") as file:

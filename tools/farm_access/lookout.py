@@ -65,15 +65,16 @@ class Lookout:
             disk.write_whole(self.seen, json.dumps(kept), 0o660)
         return found
 
-    def shared(self) -> Dict[str, Board]:
-        """The boards as they are, or as somebody saw them a moment ago."""
-        kept = self._kept(FRESH)
+    def shared(self, since: float = 0.0) -> Dict[str, Board]:
+        """The boards as they are, or as somebody saw them a moment ago, but not before `since`: what
+        began then wasn't there before."""
+        kept = self._kept(FRESH, since)
         if kept is not None:
             return kept
         with self._turn() as is_mine:
             if is_mine:
                 return self.look()
-        kept = self._kept(STALE)
+        kept = self._kept(STALE, since)
         return self.boards() if kept is None else kept
 
     def owner_of(self, hold: str) -> str:
@@ -95,11 +96,11 @@ class Lookout:
         except (Unreachable, Refused) as fault:
             raise NoDesk(f"no answer from the desk at {self.desk.server}: {fault}") from fault
 
-    def _kept(self, seconds: float) -> Optional[Dict[str, Board]]:
-        """What was seen at most so many seconds ago."""
+    def _kept(self, seconds: float, since: float) -> Optional[Dict[str, Board]]:
+        """What was seen at most so many seconds ago, and not before `since`."""
         with contextlib.suppress(ValueError, TypeError, KeyError):
             kept = json.loads(strangers.text_in(self.seen, MOST) or "{}")
-            if 0 <= time.monotonic() - kept["at"] <= seconds:
+            if 0 <= time.monotonic() - kept["at"] <= seconds and kept["at"] >= since:
                 return {name: Board(**it) for name, it in kept["boards"].items()}
         return None
 

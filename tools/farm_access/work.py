@@ -59,6 +59,7 @@ class Work:
             signal.signal(number, signal.SIG_IGN)
         self.site, self.lookout, self.session, self.patience = site, lookout, session, patience
         self.sees = sees
+        self.began = time.monotonic()
         self.looked, self.is_held, self.has_told = -LOOKS, False, False
         self.child: Optional[int] = None
         self.told_to_end = 0
@@ -84,7 +85,7 @@ class Work:
             self.looked = now
             self.own.beat()
             try:
-                told = self.lookout.boards() if at_once else self.lookout.shared()
+                told = self.lookout.boards() if at_once else self.lookout.shared(self.began)
                 holds = self.session.holds.items()
                 self.is_held = all(is_current(hold, told.get(board)) for board, hold in holds)
             except NoDesk:
