@@ -184,8 +184,12 @@ def test_a_token_stands_for_its_owner_until_it_is_ended(door: Door) -> None:
     door.kill()
     door.start()
     assert door.by_token(token, "/queue")[0] == 200
-    with open(f"{door.folder}/kept.db", "rb") as kept:
-        assert token.encode() not in kept.read()
+    files = [it for it in os.listdir(door.folder) if it.startswith("kept.db")]
+    kept = b""
+    for name in files:
+        with open(f"{door.folder}/{name}", "rb") as file:
+            kept += file.read()
+    assert b"nightly" in kept and token.encode() not in kept
     assert door.told("-X", "POST", "/tokens/1/end")[0] == 200
     assert door.by_token(token, "/queue")[0] == 401
 

@@ -953,14 +953,16 @@ def test_unit(tmp_path: pathlib.Path) -> None:
     with open(os.path.join(TOP, "examples", "farm-dispatch.service"), encoding="utf-8") as file:
         text = file.read()
     lines = [it for it in text.split("\n") if it and not it.startswith("#")]
-    wanted = ["StartLimitIntervalSec=0", "KillMode=process", "Restart=always", "RestartPreventExitStatus=2 3"]
+    wanted = ["StartLimitIntervalSec=0", "KillMode=process", "OOMPolicy=continue",
+              "Restart=always", "RestartPreventExitStatus=2 3", "Requires=farm-job.socket"]
     assert [it for it in wanted if it not in lines] == [], "lines that the unit lacks"
+    assert [it for it in lines if it.startswith("ExecStart=") and " --cage account " in it]
     wants("systemd-analyze")
     folder = tempfile.mkdtemp(dir=tmp_path)
-    for name in ("farm", "farm-dispatch"):
-        with open(os.path.join(TOP, "examples", f"{name}.service"), encoding="utf-8") as file:
-            tell(os.path.join(folder, f"{name}.service"),
-                 file.read().replace("/usr/local/bin/", "/bin/true "))
+    for name in ("farm.service", "farm-port.service", "farm-dispatch.service", "farm-job.socket", "farm-job@.service"):
+        with open(os.path.join(TOP, "examples", name), encoding="utf-8") as file:
+            text = file.read().replace("/usr/local/bin/", "/bin/true ")
+            tell(os.path.join(folder, name), text.replace("/usr/local/lib/farm-tools/", "/bin/true "))
     words = ["systemd-analyze", "verify", os.path.join(folder, "farm-dispatch.service")]
     ran = subprocess.run(words, capture_output=True, text=True, check=False)
     assert (ran.returncode, ran.stderr) == (0, ""), "what systemd says of the unit"
