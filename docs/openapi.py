@@ -72,7 +72,10 @@ def kind_of(field):
     """What a view says of a field."""
     if get_origin(field.type) is Literal:
         return words(field.type)
-    return {int: COUNT, str: {"type": "string"}, models.Tags: ref("Tags")}[field.type]
+    return {
+        int: COUNT, str: {"type": "string"}, models.Tags: ref("Tags"), models.Moment: ref("Moment"),
+        models.Held: {"type": "string"},
+    }[field.type]
 
 
 def row(**fields):

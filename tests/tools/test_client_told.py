@@ -350,11 +350,12 @@ def test_a_type_without_boards_is_told(farm: Farm) -> None:
 
 
 @pytest.mark.parametrize("text, why", [
-    ("timeouts.job = 'soon'", "timeouts.job can't be read: 'soon' isn't like '1 hour 30 minutes'"),
-    ("timeouts.job = 90", "timeouts.job can't be read: 90 has no unit"),
-    ("[timeouts]\njob = {minute = 3}", "timeouts.job can't be read: 'minute' is none of days, hours, minutes, seconds"),
-    ("timeouts = {\n  job = '0 hours',\n}", "timeouts.job can't be read: '0 hours' is no time"),
-    ("timeouts = '1 hour'", "timeouts isn't a table"),
+    ("timeouts.job = 'soon'", "timeouts.job can't be read: 'soon' isn't like '1 hour 30 minutes' (at line 3, column 10)"),
+    ("timeouts.job = 90", "timeouts.job can't be read: 90 has no unit (at line 3, column 10)"),
+    ("[timeouts]\njob = {minute = 3}",
+     "timeouts.job can't be read: 'minute' is none of days, hours, minutes, seconds (at line 4, column 1)"),
+    ("timeouts = {\n  job = '0 hours',\n}", "timeouts.job can't be read: '0 hours' is no time (at line 4, column 3)"),
+    ("timeouts = '1 hour'", "timeouts isn't a table (at line 3, column 1)"),
 ])
 def test_a_time_limit_that_is_none_isnt_submitted(farm: Farm, text: str, why: str) -> None:
     assert desk(farm, "submit", "-", given=f"{JOB}{text}\n") == (3, "", f"desk: nothing is submitted: {why}\n")

@@ -3,6 +3,7 @@ command, kept connections and lost answers, boards that are held by a `with` and
 happens."""
 from __future__ import annotations
 
+import datetime
 import http.client
 import json
 import os
@@ -78,6 +79,8 @@ def test_pip_installs_it(folder: str) -> None:
     around = environment(PYTHONPATH=to)
     ran = subprocess.run([python, "-c", told], capture_output=True, text=True, check=True, env=around)
     assert ran.stdout == f"{VERSION}\n{VERSION}\n"
+    ran = subprocess.run([python, f"{to}/bin/desk", "--version"], capture_output=True, text=True, check=True, env=around)
+    assert ran.stdout == f"desk {VERSION}\n", "the command comes with it"
     files = {it for it in os.listdir(f"{to}/fizgruk") if it != "__pycache__"}
     assert files == {it for it in os.listdir(f"{SRC}/fizgruk") if it != "__pycache__"}
     assert "py.typed" in files
@@ -201,7 +204,7 @@ def test_views_and_commands(make_farm: MakeFarm) -> None:
     board = ann.boards("hdmi", "name=b1")[0]
     assert vars(board) == {
         "name": "b1", "type": "bbb", "tags": ("hdmi", "power=pdu2"), "health": "Good", "state": "Idle",
-        "holder": "none", "jobs_since": 0, "last_check": 0,
+        "holder": None, "jobs_since": 0, "last_check": None,
     }
     assert not ann.boards("vga")
     number = ann.submit(JOB)
@@ -218,13 +221,19 @@ def test_views_and_commands(make_farm: MakeFarm) -> None:
     held = ann.reserve("hdmi", priority="high")
     ann.refresh(held)
     runner.call_pass()
-    assert ann.wait_for_board(held, 30).name == "b1"
+    allocated = ann.wait_for_board(held, 30)
+    assert (allocated.name, allocated.holder) == ("b1", fizgruk.Holder("reservation", held))
+    assert str(allocated.holder) == f"reservation {held}"
+    deadline = datetime.datetime.fromtimestamp(own.reservation(held)["deadline"], datetime.timezone.utc)
+    assert ann.reservations()[-1].deadline == deadline
     ann.acquire(held)
     raw = own.reservation(held)
-    assert vars(ann.reservations()[-1]) == {**raw, "tags": ("hdmi",)}
+    assert {**vars(ann.reservations()[-1]), "deadline": 0} == {**raw, "tags": ("hdmi",), "deadline": 0}
     ann.release(held)
     ann.cancel_reservation(held)
-    assert vars(ann.status()) == own.look("/status")
+    raw = own.look("/status")
+    clock = datetime.datetime.fromtimestamp(raw["clock"], datetime.timezone.utc)
+    assert vars(ann.status()) == {**raw, "clock": clock}
     demand_all_asked(front, held)
 
 

@@ -2,6 +2,7 @@
 from __future__ import annotations
 
 import os
+import pathlib
 import re
 import signal
 import subprocess
@@ -13,6 +14,7 @@ import pytest
 
 from python_front import BOARDS, PATH, Passer, rows, states
 from served import STARTED, TOOLS, TOP, Farm, environment, read, wait_until
+from wants import wants_modules
 
 MakeFarm = Callable[..., Farm]
 HOLDS = """\
@@ -314,3 +316,95 @@ def test_shell_example(farm: Farm, folder: str) -> None:
         process.send_signal(signal.SIGTERM)
         assert process.wait(300) == 143
     assert states(farm) == ["canceled", "canceled"]
+
+
+# ---- the mark `farm`
+
+MARKS = f"""{HOLDS}
+import pytest
+names = []
+@pytest.mark.farm("serial", boards=2)
+def test_two(boards, farm_client):
+    assert {{it.name for it in boards}} == {{"b1", "b2"}}
+    for it in boards:
+        demand_held(it, farm_client)
+@pytest.mark.farm("name=b2", scope="session")
+def test_first(boards, farm_client):
+    demand_held(boards[0], farm_client)
+    names.append(boards[0].reservation)
+@pytest.mark.farm("hdmi", priority="high")
+def test_own(boards, farm_client):
+    assert [it.name for it in boards] == ["b1"]
+    assert [it.priority for it in farm_client.reservations() if it.number == boards[0].reservation] == [100]
+@pytest.mark.farm("name=b2", scope="session")
+def test_again(boards, farm_client):
+    demand_held(boards[0], farm_client)
+    assert names == [boards[0].reservation]
+"""
+# (what `demand_held` demands of boards with hdmi isn't so here)
+MARKS = MARKS.replace('assert [it.name for it in client.boards("hdmi")] == [board.name]', "")
+LOST = """import pytest, time
+@pytest.mark.farm("hdmi")
+def test_lost(boards):
+    print("holds", file=open("holds", "w"))
+    time.sleep(300)
+def test_other():
+    pass
+@pytest.mark.farm("hdmi")
+def test_anew(boards):
+    assert boards[0].name == "b1"
+"""
+
+
+def test_marks_hold_boards_for_a_test_or_for_the_session(farm: Farm, start: Start) -> None:
+    """Two boards for one test, one for one, and one for all of the session that want it; all are given back."""
+    with Passer(farm):
+        start(MARKS, "--farm", "").ends(0, "4 passed")
+    assert states(farm) == ["canceled"] * 4
+
+
+def test_marks_of_a_session_want_its_tags_too(farm: Farm, start: Start) -> None:
+    with Passer(farm):
+        text = "import pytest\n@pytest.mark.farm('serial')\ndef test_it(boards):\n    assert boards[0].name == 'b1'\n"
+        start(text, "--farm", "hdmi").ends(0, "1 passed")
+
+
+def test_marked_tests_are_skipped_without_a_farm(farm: Farm, start: Start) -> None:
+    start(MARKS).ends(0, "4 skipped")
+    assert states(farm) == []
+
+
+@pytest.mark.parametrize("mark", ["board=2", "scope='module'"])
+def test_a_mark_that_is_none_is_told(farm: Farm, start: Start, mark: str) -> None:
+    text = f"import pytest\n@pytest.mark.farm('hdmi', {mark})\ndef test_it(boards):\n    pass\n"
+    start(text, "--farm", "", "--strict-markers").ends(1, "1 error", "farm(*tags, boards=1, scope='function'")
+    assert states(farm) == []
+
+
+def test_a_marks_board_that_is_lost_fails_its_test_alone(farm: Farm, start: Start) -> None:
+    with Passer(farm):
+        session = start(LOST, "--farm", "")
+        session.holds()
+        farm.tell("admin", "/reservations/1/cancel")
+        session.ends(1, "HoldLost: board b1 is lost: reservation 1 is canceled", "1 failed, 2 passed")
+    assert states(farm) == ["canceled", "canceled"]
+
+
+@pytest.mark.slow(30)
+def test_each_worker_has_boards_of_its_own(farm: Farm, start: Start, tmp_path: pathlib.Path) -> None:
+    """Two processes of xdist hold their boards at one time: each waits for the other."""
+    wants_modules("xdist")
+    place = str(tmp_path / "held")
+    os.mkdir(place)
+    text = f"""import os, pytest, time
+@pytest.mark.farm("serial", scope="session")
+def test_one(boards):
+    open(os.path.join({place!r}, boards[0].name), "w").close()
+    until = time.monotonic() + 240
+    while len(os.listdir({place!r})) < 2 and time.monotonic() < until:
+        time.sleep(0.05)
+    assert sorted(os.listdir({place!r})) == ["b1", "b2"]
+"""
+    with Passer(farm):
+        start(text, "--farm", "", "-n", "2", "--dist", "each").ends(0, "2 passed")
+    assert states(farm) == ["canceled"] * 2

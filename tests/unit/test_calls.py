@@ -11,7 +11,7 @@ import pytest
 from fizgruk import calls, history, holding, settings, waiting
 from fizgruk._tools import interrupts
 from fizgruk.desk import holding as desk_holding, past_jobs
-from fizgruk.errors import Code, Refused, ReservationEnded, Unreachable
+from fizgruk.errors import Code, NoLog, Refused, ReservationEnded, Unreachable
 
 SERVER = "http://desk.example:81/farm/"
 PLAIN = settings.Settings(SERVER, "ann", None, None, 30.0)
@@ -255,7 +255,7 @@ def test_a_desk_without_a_history_says_where_there_is_one(refusal: Refused, told
 
 def test_a_log_that_isnt_served_is_told_from_a_history_that_isnt() -> None:
     past = history.Served(Served(**{"7": Refused(404, 0, "Not Found")}))
-    with pytest.raises(history.NoLog):
+    with pytest.raises(NoLog):
         list(past.log(7, 0))
 
 
@@ -276,9 +276,9 @@ def test_a_job_that_is_open_has_its_texts_name(view: Dict[str, Any], name: str) 
 
 def test_a_desk_that_refuses_a_view_isnt_taken_for_one_without_the_job() -> None:
     desk = Served(**{"jobs/7": Refused(404, Code.NO_SUCH_JOB, "no such job"), "jobs/8": Refused(401, 0, "no")})
-    assert past_jobs.view_of(desk, 7) == {}
+    assert history.view_of(desk, 7) is None
     with pytest.raises(Refused, match="401"):
-        past_jobs.view_of(desk, 8)
+        history.view_of(desk, 8)
 
 
 # ---- a reservation

@@ -2,6 +2,7 @@
 from __future__ import annotations
 
 import concurrent.futures
+import datetime
 import http.client
 import itertools
 import logging
@@ -229,8 +230,7 @@ def test_what_a_proxy_lets_wait(key: Optional[str], clock: Clock, monkeypatch: p
     limited = Answer(429, "Too Many Requests", b"<html>")
     made, asked = desk_of(monkeypatch, 15.0, limited, limited, DONE)
     assert made.tell("/jobs", b"", key) == {"number": 7}
-    assert len(asked) == 3
-    assert clock.slept == pytest.approx([0.2, 0.4])
+    assert len(asked) == 3 and clock.slept == pytest.approx([0.2, 0.4])
     made, asked = desk_of(monkeypatch, 1.0, limited)
     with pytest.raises(fizgruk.Refused, match="^429 Too Many Requests$"):
         made.tell("/jobs", b"", key)
@@ -240,7 +240,9 @@ def test_what_a_proxy_lets_wait(key: Optional[str], clock: Clock, monkeypatch: p
 @pytest.mark.parametrize("more, told", [
     ({}, "the answer isn't a desk's: name is None"), ({"name": 3}, "name is 3"), ({"tags": "hdmi"}, "tags is 'hdmi'"),
     ({"tags": ["a", 1]}, "tags is "), ({"jobs_since": True}, "jobs_since is True"),
-    ({"jobs_since": "1"}, "jobs_since is '1'"),
+    ({"jobs_since": "1"}, "jobs_since is '1'"), ({"last_check": "1"}, "last_check is '1'"),
+    ({"last_check": 10**30}, "last_check is 1000"), ({"holder": "eve"}, "holder is 'eve'"),
+    ({"holder": "job x"}, "holder is 'job x'"), ({"holder": 3}, "holder is 3"),
 ])
 def test_view_that_is_no_desks(more: Dict[str, Any], told: str) -> None:
     """A field that isn't of its kind is told, and no view is made of it."""
@@ -255,6 +257,15 @@ def test_view_of_a_later_desk() -> None:
     assert (board.health, board.tags) == ("Warm", ("hdmi",))
     with pytest.raises(fizgruk.Unreachable):
         models.view_of(models.BoardView, [BOARD])
+
+
+def test_moments_and_holders() -> None:
+    """A moment is in UTC, and none where it is 0; a holder is a kind and a number, and none where it is free."""
+    board = models.view_of(models.BoardView, {**BOARD, "last_check": 86400, "holder": "job 12"})
+    assert board.last_check == datetime.datetime(1970, 1, 2, tzinfo=datetime.timezone.utc)
+    assert (board.holder, str(board.holder)) == (fizgruk.Holder("job", 12), "job 12")
+    board = models.view_of(models.BoardView, BOARD)
+    assert (board.last_check, board.holder) == (None, None)
 
 
 def test_tags_of_boards() -> None:

@@ -58,5 +58,19 @@ def test_the_rule_that_a_file_breaks(text: str, why: str) -> None:
     assert fault is not None and fault.startswith(why)
 
 
+@pytest.mark.parametrize("text, where", [
+    (f"{HEAD}device_type = 'b b'\n", " (at line 2, column 1)"),
+    (f"{ROLE}  count = 9\n", " (at line 4, column 3)"),
+    (ROLE, " (at line 2, column 8)"),
+    (f"{ONE}\n# more\ntags = [\n  'a b',\n]\n", " (at line 5, column 1)"),
+    (f"{HEAD}roles = {{a = {{device_type = 'b', count = 7}}}}\n", " (at line 2, column 34)"),
+    (f"{HEAD}roles = {{\n  a = {{device_type = 'b', count = 7}},\n}}\n", " (at line 3, column 27)"),
+    (f"{ONE}\"priority\" = 'LOW'\n", " (at line 3, column 1)"),
+])
+def test_where_a_file_breaks_it(text: str, where: str) -> None:
+    fault = job_file.fault_of(text.encode())
+    assert fault is not None and fault.endswith(where)
+
+
 def test_bytes_that_are_no_text() -> None:
     assert job_file.fault_of(b"job_name = '\xff'") == "it isn't UTF-8 at byte 12"

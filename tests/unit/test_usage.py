@@ -6,6 +6,7 @@ import time
 from typing import Any, Dict, List, Optional
 
 import pytest
+from fizgruk import usage as library
 from fizgruk.desk import usage, views
 
 NOW = 1_800_000_000
@@ -75,7 +76,7 @@ def test_who_was_submitted_nobody_knows_when_counts_in_no_wait(monkeypatch: pyte
     (list(range(1, 12)), 90, 10),
 ])
 def test_the_least_number_that_so_many_dont_exceed(numbers: List[int], percent: int, wanted: Optional[int]) -> None:
-    assert usage.share_of(numbers, percent) == wanted
+    assert library.share_of(numbers, percent) == wanted
 
 
 @pytest.mark.parametrize("text, ago", [("90m", 5400), ("12h", 12 * HOUR), ("30d", 30 * 86400), ("2w", 14 * 86400)])

@@ -7,11 +7,14 @@
 """
 from fizgruk.client import Client
 from fizgruk.errors import (
+    BadJobFile,
     BadSettings,
     Code,
     FizgrukError,
     HoldLost,
+    NoLog,
     NotGivenBack,
+    NoText,
     Refused,
     ReservationEnded,
     TimedOut,
@@ -21,15 +24,20 @@ from fizgruk.models import (
     Board,
     BoardView,
     Claim,
+    HealthChange,
+    Holder,
     JobView,
     PassCounts,
+    PastJob,
     ReservationView,
     Status,
     TypeView,
+    Use,
 )
 from fizgruk.version import VERSION as __version__
 
 __all__ = [
+    "BadJobFile",
     "BadSettings",
     "Board",
     "BoardView",
@@ -37,10 +45,15 @@ __all__ = [
     "Client",
     "Code",
     "FizgrukError",
+    "HealthChange",
     "HoldLost",
+    "Holder",
     "JobView",
+    "NoLog",
+    "NoText",
     "NotGivenBack",
     "PassCounts",
+    "PastJob",
     "Refused",
     "ReservationEnded",
     "ReservationView",
@@ -48,5 +61,6 @@ __all__ = [
     "TimedOut",
     "TypeView",
     "Unreachable",
+    "Use",
     "__version__",
 ]

@@ -1,28 +1,37 @@
 """The desk of a board farm: its views, its commands, and boards held for the time of a `with`."""
+import codecs
 import copy
+import datetime
 import logging
+import time
 from types import TracebackType
-from typing import Callable, Dict, List, Optional, Sequence, Type, TypeVar, Union
+from typing import Callable, Dict, Iterator, List, Literal, Optional, Sequence, Type, TypeVar, Union
 
-from fizgruk import calls, models, waiting
+from fizgruk import calls, history, job_file, models, records, settings, usage, waiting
 from fizgruk.calls import Body, Desk, Row, fresh_key, part
+from fizgruk.errors import BadJobFile, Code, FizgrukError, NoLog, Refused
+from fizgruk.history import Past
 from fizgruk.holding import Hold, Priority
 from fizgruk.models import (
     BoardView,
     Check,
     Claim,
     Health,
+    HealthChange,
     JobView,
     Outcome,
     PassCounts,
+    PastJob,
     ReservationView,
     Status,
     TypeView,
+    Use,
 )
-from fizgruk.settings import read_settings
 from fizgruk.waiting import Tell, Wait
 
 LOG = logging.getLogger("fizgruk")
+HOUR = 3600.0  # for which a wait goes on where nothing else is said
+LAST = 50
 Own = TypeVar("Own", bound="Client")
 
 
@@ -39,14 +48,18 @@ class Client:
         self, server: Optional[str] = None, user: Optional[str] = None, *,
         password_file: Optional[str] = None, ca_file: Optional[str] = None,
         timeout: Optional[float] = None, config: Optional[str] = None, patience: float = 15.0,
+        history: Optional[str] = None,
     ) -> None:
-        """`timeout` is how many seconds a network call may wait, `config` the file of settings."""
+        """`timeout` is how many seconds a network call may wait, `config` the file of settings, and
+        `history` the dispatcher's folder, where that is on this machine: else the server is asked for
+        what it keeps."""
         seconds = None if timeout is None else str(timeout)
         given = {
             "server": server, "user": user, "password_file": password_file, "ca_file": ca_file,
-            "timeout": seconds, "config": config,
+            "timeout": seconds, "config": config, "history": history,
         }
-        self._desk = Desk(read_settings(given), patience)
+        self._desk = Desk(settings.read_settings(given), patience)
+        self._place = settings.values_of(given, "desk", settings.refuse)["history"]
         self._desk.tell_trouble = self._log_trouble
 
     @property
@@ -134,21 +147,116 @@ class Client:
     # ---- jobs
 
     def submit(self, text: Union[str, bytes], *, key: Optional[str] = None) -> int:
-        """Submits the text of a job file. Gives the number of its group."""
+        """Submits the text of a job file. Gives the number of its group. A refusal says which rule
+        the text breaks, and where."""
         sent = text.encode() if isinstance(text, str) else text
-        return self._number("/jobs", sent, key)
+        fault = job_file.limit_fault_of(sent)
+        if fault:
+            raise BadJobFile(fault)
+        try:
+            return self._number("/jobs", sent, key)
+        except Refused as refusal:
+            raise job_file.why_refused(self._desk, refusal, sent)
+
+    def resubmit(self, number: int, *, key: Optional[str] = None) -> int:
+        """Submits a job's text once more. Gives the number of the new group."""
+        return self.submit(history.text_of(self._desk, number), key=key)
+
+    def run(
+        self, text: Union[str, bytes], timeout: Optional[float] = HOUR, *, every: float = 2.0,
+        tell: Tell = LOG.info, key: Optional[str] = None,
+    ) -> List[JobView]:
+        """Submits a job, and gives the members of its group once they have ended. Where the wait is
+        interrupted, or lasts too long, the job is canceled."""
+        number = self.submit(text, key=key)
+        return self.wait_for_job(number, timeout, every=every, tell=tell, cancel=True)
 
     def cancel_job(self, number: int, *, key: Optional[str] = None) -> int:
         """Cancels a job and its group. Gives the group's number."""
         return self._number(f"/jobs/{number}/cancel", None, key)
 
     def wait_for_job(
-        self, number: int, timeout: Optional[float] = None, *, every: float = 2.0,
-        tell: Tell = LOG.info,
+        self, number: int, timeout: Optional[float] = HOUR, *, every: float = 2.0,
+        tell: Tell = LOG.info, cancel: bool = False,
     ) -> List[JobView]:
-        """Waits until all members of a job's group have ended, and gives them."""
+        """Waits until all members of a job's group have ended, and gives them. With `cancel` the job
+        is canceled where the wait is interrupted, or lasts too long."""
         wait = Wait(self._desk, f"job {number} hasn't ended", timeout, every, tell)
-        return [models.view_of(JobView, it) for it in waiting.wait_for_group(wait, number)]
+        try:
+            return [models.view_of(JobView, it) for it in waiting.wait_for_group(wait, number)]
+        except BaseException:
+            if cancel:
+                self._cancel_left(number)
+            raise
+
+    def _cancel_left(self, number: int) -> None:
+        """Cancels a job that nobody waits for any more; what can't be done is logged."""
+        try:
+            self.cancel_job(number)
+        except FizgrukError as fault:
+            if not (isinstance(fault, Refused) and fault.code == Code.WRONG_JOB_STATE):
+                LOG.error("%s: job %d goes on: desk cancel %d", fault, number, number)
+
+    # ---- logs and the past
+
+    def log(self, number: int) -> str:
+        """What a job has said so far. Raises NoLog where it has no log."""
+        return b"".join(self._log(number, 0)).decode(errors="replace")
+
+    def follow(
+        self, number: int, timeout: Optional[float] = HOUR, *, every: float = 2.0
+    ) -> Iterator[str]:
+        """What a job says, piece by piece, until it has ended; a job that hasn't begun is waited
+        for."""
+        wait = Wait(self._desk, f"job {number} hasn't ended", timeout, every, LOG.info)
+        decoder = codecs.getincrementaldecoder("utf-8")(errors="replace")
+        begin = 0
+        while True:
+            # (a log to which something may be added is looked at once more)
+            is_open = wait.answer_of(lambda: history.is_to_come(wait.desk, number))
+            try:
+                for said in self._log(number, begin):
+                    begin += len(said)
+                    text = decoder.decode(said)
+                    if text:
+                        yield text
+            except NoLog as fault:
+                wait.say(str(fault))
+                if not is_open:
+                    raise
+            if not is_open:
+                return
+            wait.pause()
+
+    def _log(self, number: int, begin: int) -> Iterator[bytes]:
+        try:
+            yield from self._past().log(number, begin)
+        except NoLog as fault:
+            raise NoLog(history.why_no_log(self._desk, number)) from fault
+
+    def history(
+        self, board: Optional[str] = None, last: int = LAST
+    ) -> List[Union[PastJob, HealthChange]]:
+        """The last jobs that ended, the newest first; of a board its jobs and the changes of its
+        health."""
+        past = self._past()
+        if board is None:
+            return [past_of(it) for it in past.newest()[:last]]
+        rows = [it for it in past.rows() if board in records.boards_of(it)]
+        return [past_of(it) for it in rows[::-1][:last]]
+
+    def usage(
+        self, since: Union[datetime.datetime, datetime.timedelta] = datetime.timedelta(days=30),
+        by: Literal["owner", "board", "type"] = "owner",
+    ) -> List[Use]:
+        """What owners used, or of boards or types was used, since a moment or for so long; the most
+        hours first."""
+        ago = since.total_seconds() if isinstance(since, datetime.timedelta) else 0
+        moment = since.timestamp() if isinstance(since, datetime.datetime) else time.time() - ago
+        return [Use(**it) for it in usage.uses_of(self._past().rows(), int(moment), by)]
+
+    def _past(self) -> Past:
+        return history.past_of(self._desk, self._place)
 
     # ---- reservations
 
@@ -163,7 +271,7 @@ class Client:
         return self._number("/reservations", body, key)
 
     def wait_for_board(
-        self, number: int, timeout: Optional[float] = None, *, every: float = 2.0,
+        self, number: int, timeout: Optional[float] = HOUR, *, every: float = 2.0,
         tell: Tell = LOG.info,
     ) -> BoardView:
         """Waits until a reservation has a board, and refreshes it meanwhile. The board is to be
@@ -189,7 +297,7 @@ class Client:
         self._number(f"/reservations/{number}/cancel", None, key)
 
     def board(
-        self, *tags: str, priority: Priority = None, timeout: Optional[float] = None,
+        self, *tags: str, priority: Priority = None, timeout: Optional[float] = HOUR,
         every: float = 2.0, tell: Tell = LOG.info, **wants: str,
     ) -> Hold:
         """A board that is yours within a `with`:
@@ -198,8 +306,8 @@ class Client:
                 print(board.name)
 
         Reserves a board that has all of these tags (`power="pdu2"` stands for `power=pdu2`, and
-        `name="rpi4b-02"` for that board), waits for it, for `timeout` seconds at most, acquires it,
-        and gives it back at the end, whatever happens. What the wait has come to is told to `tell`.
+        `name="rpi4b-02"` for that board), waits for it, for `timeout` seconds at most (None: without
+        an end), acquires it, and gives it back at the end, whatever happens. What the wait has come to is told to `tell`.
         Raises `HoldLost` where an admin or farm-watch ends the reservation meanwhile.
         """
         asked = [*tags, *(f"{name}={value}" for name, value in wants.items())]
@@ -229,3 +337,10 @@ class Client:
 
     def _number(self, path: str, body: Body, key: Optional[str]) -> int:
         return calls.number_of(self._desk, self._tell(path, body, key))
+
+
+def past_of(row: Row) -> Union[PastJob, HealthChange]:
+    """What a line of the history says."""
+    if row["kind"] == "job":
+        return models.view_of(PastJob, row)
+    return models.view_of(HealthChange, {**row, "before": row["from"], "after": row["to"]})

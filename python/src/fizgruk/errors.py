@@ -83,5 +83,17 @@ class NotGivenBack(FizgrukError):
     """A board may be held still, since no answer came when it was given back."""
 
 
+class NoLog(FizgrukError):
+    """A job has no log, or none yet."""
+
+
+class NoText(FizgrukError):
+    """A job has no text: it is a health check."""
+
+
+class BadJobFile(FizgrukError):
+    """A job file isn't one; nothing was submitted."""
+
+
 class BadSettings(FizgrukError):
     """The settings can't be read, or can't be used."""

@@ -2,10 +2,10 @@
 the dispatcher's folder."""
 import collections
 import os
-from typing import Any, Dict, Iterator, List, Union
+from typing import Any, Dict, Iterator, List, Optional, Union
 
 from fizgruk import calls, records, submissions
-from fizgruk.errors import BadSettings, Code, Refused, Unreachable
+from fizgruk.errors import BadSettings, Code, NoLog, NoText, Refused, Unreachable
 
 NONE_SERVED = (
     "{} serves no history: ask through the proxy (examples/nginx.conf), or on the dispatcher's "
@@ -16,10 +16,6 @@ NONE_SERVED = (
 # So many bytes from a history's end the newest jobs are looked for, before all of it is read.
 TAIL = 500_000
 NUMBERS = 65_536  # bytes of the last lines of when numbers were given, some 2,000
-
-
-class NoLog(Exception):
-    """A job has no log here."""
 
 
 class Served:
@@ -115,3 +111,45 @@ class Kept:
 
 
 Past = Union[Served, Kept]
+
+
+def past_of(desk: calls.Desk, place: Optional[str]) -> Past:
+    """The history of a desk: that of a folder, or the one that is served beside it."""
+    return Kept(os.path.expanduser(place)) if place else Served(desk)
+
+
+def is_to_come(desk: calls.Desk, number: int) -> bool:
+    """Whether a job hasn't ended."""
+    view = view_of(desk, number)
+    return view is not None and view["state"] != "Finished"
+
+
+def view_of(desk: calls.Desk, number: int) -> Optional[calls.Row]:
+    """A job's view, or None where there is no such job."""
+    try:
+        return desk.look(f"/jobs/{number}")
+    except Refused as refusal:
+        if refusal.code != Code.NO_SUCH_JOB:
+            raise
+        return None
+
+
+def why_no_log(desk: calls.Desk, number: int) -> str:
+    """Why a job has no log."""
+    view = view_of(desk, number)
+    if view is None:
+        return f"there is no job {number}"
+    if view["state"] == "Finished":
+        return f"job {number} has no log: it never began, or its log is too old to be kept"
+    return f"job {number} is {view['state']}, and has no log yet"
+
+
+def text_of(desk: calls.Desk, number: int) -> bytes:
+    """The text by which a job's group was submitted, as the desk keeps it. Raises NoText for a health
+    check."""
+    view = desk.look(f"/jobs/{number}")
+    if view["kind"] == "check":
+        raise NoText(f"job {number} is a health check, which has no text")
+    if view["group"] != number:
+        view = desk.look(f"/jobs/{view['group']}")
+    return str(view["text"]).encode()

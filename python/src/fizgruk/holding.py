@@ -4,7 +4,7 @@ import logging
 import os
 import time
 from types import TracebackType
-from typing import Any, Dict, Optional, Sequence, Set, Type, Union
+from typing import Any, Callable, Dict, Optional, Sequence, Set, Type, Union
 
 from fizgruk import wants
 from fizgruk.calls import Desk, fresh_key, number_of
@@ -110,6 +110,7 @@ class Hold:
         self._reservation = Reservation(desk, tags, priority)
         self._process = 0
         self.watch: Optional[BlockWatch] = None
+        self.on_loss: Callable[[], object] = lambda: None  # called in the thread that finds it
 
     @property
     def lost(self) -> str:
@@ -149,7 +150,7 @@ class Hold:
         wait = Wait(self._desk, what, self._timeout, self._every, self._tell)
         board = wait_for_board(wait, number, self._tags)
         self._reservation.acquire(board["name"])
-        self.watch = BlockWatch(self._desk, board["name"], number)
+        self.watch = BlockWatch(self._desk, board["name"], number, self.on_loss)
         self.watch.begin()
         return Board(board["name"], board["type"], tuple(board["tags"]), number)
 

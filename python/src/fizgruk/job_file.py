@@ -5,7 +5,7 @@ from fizgruk import calls, limits, toml_text, wants, words
 from fizgruk.bounds import HIGHEST_PRIORITY, LONGEST_JOB_FILE, MOST_WANTS
 from fizgruk.errors import Code, Refused, Unreachable
 from fizgruk.wants import Want
-from fizgruk.words import BadFile
+from fizgruk.words import BadFile, at
 
 PRIORITIES = ("low", "medium", "high")
 # What the desk refuses for a rule that the file breaks.
@@ -17,11 +17,14 @@ def fault_of(data: bytes) -> Optional[str]:
     if len(data) > LONGEST_JOB_FILE:
         return f"it has more than {LONGEST_JOB_FILE:,} bytes"
     try:
-        read(toml_text.tree_of(data.decode()))
+        text = data.decode()
+        read(toml_text.tree_of(text))
     except UnicodeDecodeError as fault:
         return f"it isn't UTF-8 at byte {fault.start}"
-    except (BadFile, toml_text.NotToml) as fault:
+    except toml_text.NotToml as fault:
         return str(fault)
+    except BadFile as fault:
+        return f"{fault}{toml_text.told_at(text, fault.path)}"
     return None
 
 
@@ -29,13 +32,15 @@ def limit_fault_of(data: bytes) -> Optional[str]:
     """Why the time limit that a job file asks for can't be one, of which the desk knows nothing;
     None where it asks for none, or can't be read."""
     try:
-        timeouts = toml_text.tree_of(data.decode()).get("timeouts", {})
+        text = data.decode()
+        timeouts = toml_text.tree_of(text).get("timeouts", {})
         if not isinstance(timeouts, dict):
-            return "timeouts isn't a table"
+            return f"timeouts isn't a table{toml_text.told_at(text, ['timeouts'])}"
         if "job" in timeouts:
             limits.time_of(timeouts["job"])
     except limits.BadTime as fault:
-        return f"timeouts.job can't be read: {fault}"
+        where = toml_text.told_at(text, ["timeouts", "job"])
+        return f"timeouts.job can't be read: {fault}{where}"
     except (UnicodeDecodeError, toml_text.NotToml):
         pass  # the desk refuses it
     return None
@@ -71,22 +76,33 @@ def why_refused(desk: calls.Looker, refusal: Refused, data: bytes) -> Refused:
 def read(tree: Dict[str, Any]) -> None:
     """Goes through a job file's keys."""
     title = tree.get("job_name")
-    if title is None or title == "":
-        raise BadFile("there is no job_name, or it is empty")
-    if not isinstance(title, str):
-        raise BadFile("job_name isn't a text")
-    read_priority(tree.get("priority", "medium"))
-    if "device_type" in tree and "roles" in tree:
-        raise BadFile("it has both device_type and roles")
+    with at("job_name"):
+        if title is None or title == "":
+            raise BadFile("there is no job_name, or it is empty")
+        if not isinstance(title, str):
+            raise BadFile("job_name isn't a text")
+    with at("priority"):
+        read_priority(tree.get("priority", "medium"))
     if "device_type" in tree:
-        words.name_of(tree["device_type"], "device_type")
-        words.tags_of(tree.get("tags"))
+        with at("roles"):
+            if "roles" in tree:
+                raise BadFile("it has both device_type and roles")
+        read_kind_and_tags(tree)
     elif "roles" in tree:
-        if "tags" in tree:
-            raise BadFile("tags stand beside roles, and belong into each role")
-        read_roles(words.table_of(tree["roles"], "roles"))
+        with at("tags"):
+            if "tags" in tree:
+                raise BadFile("tags stand beside roles, and belong into each role")
+        with at("roles"):
+            read_roles(words.table_of(tree["roles"], "roles"))
     else:
         raise BadFile("it has neither device_type nor roles")
+
+
+def read_kind_and_tags(table: Dict[str, Any]) -> None:
+    with at("device_type"):
+        words.name_of(table.get("device_type"), "device_type")
+    with at("tags"):
+        words.tags_of(table.get("tags"))
 
 
 def read_priority(value: object) -> None:
@@ -105,9 +121,11 @@ def read_roles(roles: Dict[str, Any]) -> None:
     boards = 0
     for name, role in sorted(roles.items(), key=lambda it: it[0].encode()):
         try:
-            boards += read_role(name, role)
+            with at(name):
+                boards += read_role(name, role)
         except BadFile as fault:
-            raise BadFile(f"role {name}: {fault}") from fault
+            fault.args = (f"role {name}: {fault}",)
+            raise
     if not 1 <= boards <= MOST_WANTS:
         raise BadFile(f"its roles want {boards} boards, and 1 to {MOST_WANTS} are given")
 
@@ -116,9 +134,11 @@ def read_role(name: str, role: Dict[str, Any]) -> int:
     """Goes through a role's keys. Returns how many boards it wants."""
     words.name_of(name, "the role's name")
     words.table_of(role, "it")
-    words.name_of(role.get("device_type"), "device_type")
-    count = words.whole_of(role.get("count"), "count")
-    if not 1 <= count <= MOST_WANTS:
-        raise BadFile(f"count is {count}, and is 1 to {MOST_WANTS}")
-    words.tags_of(role.get("tags"))
+    with at("device_type"):
+        words.name_of(role.get("device_type"), "device_type")
+    with at("count"):
+        count = words.whole_of(role.get("count"), "count")
+        if not 1 <= count <= MOST_WANTS:
+            raise BadFile(f"count is {count}, and is 1 to {MOST_WANTS}")
+    read_kind_and_tags(role)
     return count

@@ -1,9 +1,11 @@
 """What the desk's views and commands answer, field by field as docs/API.md has them.
 
-A text that the wire leaves empty, as the board of a job that has none, is empty here too.
+A text that the wire leaves empty, as the board of a job that has none, is empty here too; a moment
+that it has as 0 is None. Moments are in UTC.
 """
 import dataclasses
-from typing import Any, Callable, Dict, Literal, Optional, Tuple, TypeVar, cast
+import datetime
+from typing import Any, Callable, Dict, Literal, NamedTuple, Optional, Tuple, TypeVar, cast
 
 from fizgruk.errors import Unreachable
 from fizgruk.ways import Ways
@@ -18,6 +20,20 @@ Result = Literal["", "Complete", "Incomplete", "Infra", "Canceled"]
 ReservationState = Literal["waiting", "allocated", "acquired", "expired", "canceled"]
 ClaimKind = Literal["group", "reservation"]
 Tags = Tuple[str, ...]
+Moment = Optional[datetime.datetime]
+
+
+class Holder(NamedTuple):
+    """Who holds a board: a job or a reservation."""
+
+    kind: Literal["job", "reservation"]
+    number: int
+
+    def __str__(self) -> str:
+        return f"{self.kind} {self.number}"
+
+
+Held = Optional[Holder]
 
 
 @dataclasses.dataclass(frozen=True)
@@ -31,17 +47,17 @@ class TypeView:
 
 @dataclasses.dataclass(frozen=True)
 class BoardView:
-    """A board as everybody sees it. `holder` is `none`, `job N` or `reservation N`; `last_check` is
-    in seconds since 1970, 0 where there was none."""
+    """A board as everybody sees it. `holder` is None where it is free, and `last_check` where there
+    was none."""
 
     name: str
     type: str
     tags: Tags
     health: Health
     state: BoardState
-    holder: str
+    holder: Held
     jobs_since: int
-    last_check: int
+    last_check: Moment
 
     def fits(self, *tags: str) -> bool:
         """Whether it has all of these tags, `name=` and its name among them."""
@@ -68,7 +84,7 @@ class JobView:
 
 @dataclasses.dataclass(frozen=True)
 class ReservationView:
-    """A reservation. `deadline`, in seconds since 1970, ends one that waits or is allocated."""
+    """A reservation. `deadline` ends one that waits or is allocated."""
 
     number: int
     state: ReservationState
@@ -76,7 +92,7 @@ class ReservationView:
     tags: Tags
     owner: str
     priority: int
-    deadline: int
+    deadline: Moment
 
 
 @dataclasses.dataclass(frozen=True)
@@ -94,7 +110,7 @@ class Claim:
 class Status:
     """The farm in numbers."""
 
-    clock: int
+    clock: Moment
     count: int
     next: int
     collector: int
@@ -111,6 +127,50 @@ class PassCounts:
     checks: int
     expired: int
     served: int
+
+
+@dataclasses.dataclass(frozen=True)
+class PastJob:
+    """A job that ended, as the dispatcher's history has it. `submitted` is None where nobody knows."""
+
+    job: int
+    group: int
+    owner: str
+    boards: Tags
+    type: str
+    name: str
+    submitted: Moment
+    began: Moment
+    ended: Moment
+    outcome: Result
+    reason: str
+
+
+@dataclasses.dataclass(frozen=True)
+class HealthChange:
+    """A change of a board's health that the dispatcher saw."""
+
+    board: str
+    before: str
+    after: str
+    at: Moment
+    reason: str
+
+
+@dataclasses.dataclass(frozen=True)
+class Use:
+    """What an owner used, or of a board or a type was used, by jobs that ended. Waits, in seconds, are
+    None where it isn't known when jobs were submitted; `waited_ninth` is longer than nine of ten."""
+
+    name: str
+    jobs: int
+    complete: int
+    incomplete: int
+    infra: int
+    canceled: int
+    hours: float
+    waited_median: Optional[int]
+    waited_ninth: Optional[int]
 
 
 @dataclasses.dataclass(frozen=True)
@@ -141,18 +201,43 @@ def view_of(kind: Callable[..., View], told: object) -> View:
     values: Dict[str, Any] = {}
     for field in dataclasses.fields(cast(Any, kind)):
         value = told.get(field.name)
-        if field.type == Tags and isinstance(value, list):
-            value = tuple(value)
-        if not is_of(value, field.type):
-            raise Unreachable(f"the answer isn't a desk's: {field.name} is {value!r}")
-        values[field.name] = value
+        try:
+            values[field.name] = value_of(value, field.type)
+        except ValueError:
+            text = f"the answer isn't a desk's: {field.name} is {value!r}"
+            raise Unreachable(text) from None
     return kind(**values)
 
 
-def is_of(value: object, kind: object) -> bool:
-    """Whether a value is of a field's kind: a whole number, texts, or a text."""
-    if kind is int:
-        return isinstance(value, int) and not isinstance(value, bool)
+def value_of(value: object, kind: object) -> object:
+    """What the wire has, as a field of this kind. Raises ValueError where it is none."""
     if kind == Tags:
-        return isinstance(value, tuple) and all(isinstance(it, str) for it in value)
-    return isinstance(value, str)
+        if isinstance(value, list) and all(isinstance(it, str) for it in value):
+            return tuple(value)
+    elif kind == Held:
+        return holder_of(value)
+    elif kind in (int, Moment) and isinstance(value, int) and not isinstance(value, bool):
+        return moment_of(value) if kind == Moment else value
+    elif kind == Moment and value is None:
+        return None
+    elif kind not in (int, Moment) and isinstance(value, str):
+        return value
+    raise ValueError
+
+
+def moment_of(seconds: int) -> Moment:
+    """A moment in seconds since 1970, where 0 is none."""
+    try:
+        return datetime.datetime.fromtimestamp(seconds, datetime.timezone.utc) if seconds else None
+    except (OverflowError, OSError) as fault:
+        raise ValueError from fault
+
+
+def holder_of(value: object) -> Held:
+    """Who holds a board, by `none`, `job 3` or `reservation 4`."""
+    kind, _, number = value.partition(" ") if isinstance(value, str) else ("", "", "")
+    if kind in ("job", "reservation") and number.isdecimal():
+        return Holder(cast(Any, kind), int(number))
+    if value == "none":
+        return None
+    raise ValueError

@@ -1,26 +1,33 @@
-"""Tests on a board of the farm: `pytest --farm hdmi`, and the fixture `board`.
+"""Tests on boards of the farm: `pytest --farm hdmi`, the fixtures `board` and `boards`, and the mark
+`farm`.
 
-The board is reserved for the session as the first test asks for it, and given back at the end, also
-after Ctrl-C, SIGTERM and SIGHUP. Tests that ask for it are skipped where --farm isn't given. Where it
-is lost meanwhile, the test that runs with it is interrupted, and fails with HoldLost, and so do those
+The fixture `board` is reserved for the session as the first test asks for it. A test that is marked
+`@pytest.mark.farm("hdmi", boards=2)` and asks for `boards` has these for itself, or, with
+`scope="session"`, with all tests of such a mark. All are given back at their end, also after Ctrl-C,
+SIGTERM and SIGHUP. Tests that ask for boards are skipped where --farm isn't given. Where a board is
+lost meanwhile, the test that runs with it is interrupted, and fails with HoldLost, and so do those
 after it.
 """
 import contextlib
 import signal
 import threading
 from types import FrameType
-from typing import Any, Callable, Generator, Iterator, List, Optional, TypeVar, Union
+from typing import Any, Callable, Dict, Generator, Iterator, List, Optional, Tuple, TypeVar, Union
 
 import pytest
 
 from fizgruk import holding
-from fizgruk.client import Client
+from fizgruk.client import HOUR, Client
 from fizgruk.errors import FizgrukError, HoldLost
 from fizgruk.models import Board
 from fizgruk.watching import BlockWatch, Interrupt
 
 # Signals that end a process without a word, and here end the session as Ctrl-C does.
 SIGNALS = (signal.SIGTERM, signal.SIGHUP)
+MARK = (
+    "farm(*tags, boards=1, scope='function', priority=None): the fixture boards has so many boards that"
+    " have these tags and those of --farm, for the test or for the session"
+)
 Hook = TypeVar("Hook", bound=Callable[..., Any])
 
 
@@ -41,7 +48,8 @@ def pytest_addoption(parser: pytest.Parser) -> None:
         "--farm-priority", metavar="P", help="low, medium, high, or 0 to 100 (50)", type=priority
     )
     group.addoption(
-        "--farm-timeout", metavar="SECONDS", help="wait so long for a board (no end)", type=float
+        "--farm-timeout", metavar="SECONDS", help="wait so long for a board (3600)", type=float,
+        default=HOUR,
     )
 
 
@@ -62,6 +70,7 @@ def tags_of(config: pytest.Config) -> Optional[List[str]]:
 
 def pytest_configure(config: pytest.Config) -> None:
     """Lets the signals be raised, where nobody else takes them."""
+    config.addinivalue_line("markers", MARK)
     if tags_of(config) is None or threading.current_thread() is not threading.main_thread():
         return
     for number in SIGNALS:
@@ -93,12 +102,15 @@ def around(function: Hook) -> Hook:
     return marked
 
 
-class Guard:
-    """Lets the tests that ask for the session's board fail with HoldLost once it is lost. Another
-    test isn't interrupted, and neither is a teardown."""
+Asks = Callable[[pytest.Item], bool]  # whether a test asks for a board
 
-    def __init__(self, watch: BlockWatch) -> None:
-        self.watch = watch
+
+class Guard:
+    """Lets the tests that ask for a board fail with HoldLost once it is lost. Another test isn't
+    interrupted, and neither is a teardown."""
+
+    def __init__(self, watch: BlockWatch, asks: Asks) -> None:
+        self.watch, self.asks = watch, asks
         self.watch.interrupts = False
         self.told: Optional[pytest.Item] = None
 
@@ -113,11 +125,11 @@ class Guard:
     @around
     def pytest_runtest_teardown(self, item: pytest.Item) -> Generator[None, Any, None]:
         outcome = yield
-        if self.watch.lost and self.told is not item and asks_for_board(item):
+        if self.watch.lost and self.told is not item and self.asks(item):
             self._fail(item, outcome)
 
     def _guarded(self, item: pytest.Item) -> Generator[None, Any, None]:
-        if not asks_for_board(item):
+        if not self.asks(item):
             yield
             return
         self.watch.interrupts = True
@@ -144,10 +156,10 @@ class Guard:
 
 
 class Gate:
-    """Lets no test begin that asks for the session's board once that is lost."""
+    """Lets no test begin that asks for a board once that is lost."""
 
-    def __init__(self, watch: BlockWatch) -> None:
-        self.watch = watch
+    def __init__(self, watch: BlockWatch, asks: Asks) -> None:
+        self.watch, self.asks = watch, asks
 
     @first
     def pytest_runtest_setup(self, item: pytest.Item) -> None:
@@ -158,13 +170,17 @@ class Gate:
         self._demand_held(item)
 
     def _demand_held(self, item: pytest.Item) -> None:
-        if self.watch.lost and asks_for_board(item):
+        if self.watch.lost and self.asks(item):
             raise HoldLost(self.watch.lost)
 
 
 def asks_for_board(item: pytest.Item) -> bool:
     """Whether a test asks for the fixture `board`, itself or by another fixture."""
-    return "board" in getattr(item, "fixturenames", ())
+    return "board" in fixtures_of(item)
+
+
+def fixtures_of(item: pytest.Item) -> List[str]:
+    return list(getattr(item, "fixturenames", ()))
 
 
 @pytest.fixture(scope="session")
@@ -181,20 +197,92 @@ def farm_client() -> Iterator[Client]:
 @pytest.fixture(scope="session")
 def board(pytestconfig: pytest.Config, request: pytest.FixtureRequest) -> Iterator[Board]:
     """A board of the farm that has the tags of --farm, for the time of the session."""
-    tags = tags_of(pytestconfig)
-    if tags is None:
-        pytest.skip("it wants a board of the farm: pytest --farm TAGS")
+    skip_without_farm(pytestconfig)
     client: Client = request.getfixturevalue("farm_client")
+    with held(pytestconfig, client, (), None, asks_for_board) as found:
+        yield found
+
+
+@pytest.fixture
+def boards(
+    pytestconfig: pytest.Config, request: pytest.FixtureRequest, farm_shared: "Shared"
+) -> Iterator[List[Board]]:
+    """The boards that the test's mark `farm` wants, for its time or for the session's."""
+    skip_without_farm(pytestconfig)
+    mark = request.node.get_closest_marker("farm")
+    want = want_of(mark)
+    if mark.kwargs.get("scope") == "session":
+        yield farm_shared.boards_of(want)
+        return
+    item = request.node
+    with contextlib.ExitStack() as stack:
+        yield [stack.enter_context(
+            held(pytestconfig, farm_shared.client, want[0], want[2], lambda it: it is item)
+        ) for _ in range(want[1])]
+
+
+Want = Tuple[Tuple[str, ...], int, Union[int, str, None]]  # tags, how many boards, and the priority
+
+
+def want_of(mark: Optional[pytest.Mark]) -> Want:
+    """What a mark wants; one board with the tags of --farm where there is none."""
+    if mark is None:
+        return (), 1, None
+    unknown = mark.kwargs.keys() - {"boards", "scope", "priority"}
+    if unknown or mark.kwargs.get("scope", "function") not in ("function", "session"):
+        pytest.fail(f"farm{mark.args}: it is {MARK.partition(':')[0]}", pytrace=False)
+    return mark.args, mark.kwargs.get("boards", 1), mark.kwargs.get("priority")
+
+
+class Shared:
+    """The boards that marks want for the session, by what they want."""
+
+    def __init__(self, config: pytest.Config, client: Client, stack: contextlib.ExitStack) -> None:
+        self.config, self.client, self.stack = config, client, stack
+        self.held: Dict[Want, List[Board]] = {}
+
+    def boards_of(self, want: Want) -> List[Board]:
+        def asks(item: pytest.Item) -> bool:
+            mark = item.get_closest_marker("farm")
+            is_shared = mark is not None and mark.kwargs.get("scope") == "session"
+            return is_shared and "boards" in fixtures_of(item) and want_of(mark) == want
+
+        if want not in self.held:
+            self.held[want] = [self.stack.enter_context(
+                held(self.config, self.client, want[0], want[2], asks)
+            ) for _ in range(want[1])]
+        return self.held[want]
+
+
+@pytest.fixture(scope="session")
+def farm_shared(pytestconfig: pytest.Config, farm_client: Client) -> Iterator[Shared]:
+    with contextlib.ExitStack() as stack:
+        yield Shared(pytestconfig, farm_client, stack)
+
+
+def skip_without_farm(config: pytest.Config) -> None:
+    if tags_of(config) is None:
+        pytest.skip("it wants a board of the farm: pytest --farm TAGS")
+
+
+@contextlib.contextmanager
+def held(
+    config: pytest.Config, client: Client, tags: Tuple[str, ...], priority: Union[int, str, None],
+    asks: Asks,
+) -> Iterator[Board]:
+    """A board that has these tags and those of --farm, whose loss is told to the tests that ask for
+    it."""
+    wanted = dict.fromkeys([*tags, *(tags_of(config) or ())])
     hold = client.board(
-        *tags,
-        priority=pytestconfig.getoption("--farm-priority"),
-        timeout=pytestconfig.getoption("--farm-timeout"),
-        tell=lambda text: tell(pytestconfig, text),
+        *wanted,
+        priority=config.getoption("--farm-priority") if priority is None else priority,
+        timeout=config.getoption("--farm-timeout"),
+        tell=lambda text: tell(config, text),
     )
     try:
-        with hold as held, guarded(pytestconfig, hold):
-            tell(pytestconfig, f"{held.name} is held by reservation {held.reservation}")
-            yield held
+        with hold as found, guarded(config, hold, asks):
+            tell(config, f"{found.name} is held by reservation {found.reservation}")
+            yield found
     except FizgrukError as fault:
         is_told = hold.watch is not None and hold.watch.is_told
         if not (isinstance(fault, HoldLost) and is_told):
@@ -202,11 +290,11 @@ def board(pytestconfig: pytest.Config, request: pytest.FixtureRequest) -> Iterat
 
 
 @contextlib.contextmanager
-def guarded(config: pytest.Config, hold: holding.Hold) -> Iterator[None]:
+def guarded(config: pytest.Config, hold: holding.Hold, asks: Asks) -> Iterator[None]:
     """Lets tests fail once the board of a hold is lost."""
     if hold.watch is None:
         raise FizgrukError("there is no board to be guarded")
-    guards = [Guard(hold.watch), Gate(hold.watch)]
+    guards = [Guard(hold.watch, asks), Gate(hold.watch, asks)]
     for it in guards:
         config.pluginmanager.register(it)
     try:

@@ -132,6 +132,11 @@ class History:
         return BY_ADMIN
 
 
+def boards_of(row: Dict[str, Any]) -> List[str]:
+    """The boards that a line is about."""
+    return list(row["boards"]) if row["kind"] == "job" else [row["board"]]
+
+
 def is_check(row: Dict[str, Any]) -> bool:
     """Whether a job's line is of a health check."""
     return (row["name"], row["owner"]) == (CHECK, "admin")

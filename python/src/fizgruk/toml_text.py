@@ -1,6 +1,7 @@
 """TOML texts, read by Python's own reader where there is one, which reads TOML 1.0; what it doesn't
 read, by the small one of these tools, so that 1.1 is read as the desk reads it."""
 import bisect
+import re
 from typing import Any, Callable, Dict, List, Sequence
 
 from fizgruk import small_toml
@@ -33,6 +34,25 @@ def line_of(text: str, path: Sequence[str]) -> int:
     """The line of a TOML text, counted from 1, in which what stands under the keys of this path
     begins: the text up to there has it, and before it not."""
     return bisect.bisect_left(_Prefixes(text.split("\n"), path), True) + 1
+
+
+def told_at(text: str, path: Sequence[str]) -> str:
+    """Where in a TOML text what stands under these keys begins, or under the first of them where
+    there is no more: ` (at line 3, column 1)`."""
+    tree, there = tree_of(text), 0
+    while there < len(path) and isinstance(tree, dict) and path[there] in tree:
+        tree = tree[path[there]]
+        there += 1
+    if there == 0:
+        return ""
+    first = line_of(text, path[:there])
+    form = re.compile(rf"""(?<![\w-])["']?{re.escape(path[there - 1])}["']?\s*[]=.]""")
+    # (of a value that goes over several lines the key may stand on a later one)
+    for line, said in enumerate(text.split("\n")[first - 1 :], first):
+        key = form.search(said)
+        if key:
+            return f" (at line {line}, column {key.start() + 1})"
+    return f" (at line {first})"
 
 
 class _Prefixes(Sequence[bool]):

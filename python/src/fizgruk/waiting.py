@@ -1,4 +1,5 @@
 """Waiting: for a reservation's board, or for the end of a job; and why it doesn't come."""
+import threading
 import time
 from typing import Callable, Dict, List, Optional, Sequence, Set, TypeVar
 
@@ -11,6 +12,8 @@ LEASE, REFRESH = 60.0, 20.0
 ENDED = ("expired", "canceled")
 Found = TypeVar("Found")
 Tell = Callable[[str], None]
+# By what a thread's waits sleep, where that isn't time.sleep: its attribute `sleep`.
+SLEEPS = threading.local()
 
 
 class Wait:
@@ -44,6 +47,15 @@ class Wait:
     def note_look(self) -> None:
         """A look was answered, and what is waited for isn't there yet."""
 
+    def answer_of(self, ask: Callable[[], Found]) -> Found:
+        """What a call gives, which is asked again where no answer comes."""
+        while True:
+            try:
+                return ask()
+            except Unreachable as fault:
+                self.say(f"no answer from the desk: {fault.trouble}")
+            self.pause()
+
     def until_there(self, look: Callable[[], Optional[Found]]) -> Found:
         """What `look` finds, which is asked again and again until it finds something."""
         while True:
@@ -62,7 +74,7 @@ class Wait:
         if self.timeout is not None and waited >= self.timeout:
             raise TimedOut(f"{self.about} within {self.timeout:g} s: {self.said}")
         left = self.every if self.timeout is None else self.timeout - waited
-        time.sleep(max(0.0, min(self.every, left)))
+        getattr(SLEEPS, "sleep", time.sleep)(max(0.0, min(self.every, left)))
 
     def place(self, kind: str, number: int) -> str:
         """Where a claim stands, as `place 2 of 5 in the queue`, or nothing where it isn't there."""

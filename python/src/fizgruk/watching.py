@@ -3,7 +3,7 @@ import logging
 import signal
 import threading
 from types import FrameType
-from typing import Any, List, Optional
+from typing import Any, Callable, List, Optional
 
 from fizgruk import calls
 from fizgruk.calls import Desk
@@ -96,6 +96,12 @@ class BlockWatch(Watch):
     interrupts = True  # whether the block may be interrupted just now
     is_told = False  # whether it was
 
+    def __init__(
+        self, desk: Desk, board: str, number: int, on_loss: Callable[[], object] = lambda: None
+    ) -> None:
+        super().__init__(desk, board, number)
+        self._on_loss = on_loss
+
     def begin(self) -> None:
         """Begins to look. The block is interrupted where it is the main thread's, and the program
         has no use of its own for the signal."""
@@ -109,9 +115,10 @@ class BlockWatch(Watch):
         super().end()
 
     def note(self, lost: str) -> None:
+        super().note(lost)
         if lost:
             LOG.error("%s", lost)
-        super().note(lost)
+            self._on_loss()
 
     def wake(self) -> bool:
         main = threading.main_thread().ident

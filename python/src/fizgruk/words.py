@@ -1,6 +1,7 @@
 """The words of job and lab files, and whether a text is one: the same rules as the desk's."""
+import contextlib
 import re
-from typing import Any, Dict, List
+from typing import Any, Dict, Iterator, List, Tuple
 
 from fizgruk.bounds import MOST_TAGS, NAME, TAG_KEY, TAG_VALUE
 
@@ -10,7 +11,19 @@ TAGS = re.compile(f"{LETTER}{{1,{TAG_KEY}}}(={LETTER}{{1,{TAG_VALUE}}})?")
 
 
 class BadFile(Exception):
-    """A rule that a file breaks."""
+    """A rule that a file breaks; `path` are the keys under which it does, where they are known."""
+
+    path: Tuple[str, ...] = ()
+
+
+@contextlib.contextmanager
+def at(*path: str) -> Iterator[None]:
+    """Says of a rule that is broken within it under which keys that is."""
+    try:
+        yield
+    except BadFile as fault:
+        fault.path = (*path, *fault.path)
+        raise
 
 
 def table_of(value: object, what: str) -> Dict[str, Any]:

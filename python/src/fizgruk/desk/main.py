@@ -4,7 +4,7 @@ import os
 import sys
 from typing import Any, Callable, Dict, Optional, Sequence, TextIO, Tuple, Union
 
-from fizgruk import calls, job_file, settings, wants
+from fizgruk import calls, history, job_file, settings, wants
 from fizgruk._tools import asking, interrupts, parsers, terminal
 from fizgruk._tools.parsers import Parser, one_of
 from fizgruk.desk import (
@@ -22,8 +22,9 @@ from fizgruk.desk import (
     views,
     waiting,
 )
-from fizgruk.errors import BadSettings, Code, Refused, ReservationEnded, Unreachable
+from fizgruk.errors import BadSettings, Code, NoText, Refused, ReservationEnded, Unreachable
 from fizgruk.holding import Reservation
+from fizgruk.usage import BY
 from fizgruk.waiting import row_of, wait_for_board, wait_for_group
 
 Command = Callable[..., Parser]  # adds a command by its name and what does it
@@ -254,7 +255,7 @@ A span, as 30d, 12h, 90m or 2w, or a date, as 2026-11-30 (default %(default)s)."
         "--since", metavar="WHEN", type=usage.moment_of, default="30d", help=about
     )
     about = "What has a line each: owners, boards or types (default %(default)s)."
-    one_of(used, "--by", usage.BY, about, default="owner")
+    one_of(used, "--by", BY, about, default="owner")
 
 
 def add_last(parser: Parser, about: str) -> None:
@@ -347,9 +348,10 @@ def submit_job(desk: calls.Desk, options: argparse.Namespace) -> int:
 
 
 def resubmit_job(desk: calls.Desk, options: argparse.Namespace) -> int:
-    text = past_jobs.text_of(desk, options.number)
-    if text is None:
-        return tell.told(REFUSED, f"job {options.number} is a health check, which has no text")
+    try:
+        text = history.text_of(desk, options.number)
+    except NoText as fault:
+        return tell.told(REFUSED, str(fault))
     return submit_text(desk, options, text)
 
 

@@ -8,7 +8,7 @@ from typing import Any, Dict, Iterable, List, Optional, Set
 from fizgruk import calls, history, records, toml_text, wants
 from fizgruk._tools import interrupts, tables, terminal
 from fizgruk.desk import tell, views
-from fizgruk.errors import Code, Refused, Unreachable
+from fizgruk.errors import NoLog, Refused, Unreachable
 
 REFUSED = 3
 LAST = 50
@@ -42,29 +42,19 @@ def list_jobs(desk: calls.Desk, options: argparse.Namespace) -> int:
 def open_jobs(desk: calls.Desk, owner: Optional[str]) -> List[Dict[str, Any]]:
     """The jobs that hold boards, by their views, and the groups that wait, each by its first
     member's view as far as there is time to ask for it, else by its claim; the newest first."""
-    found: Dict[int, Dict[str, Any]] = {}
+    found: Dict[int, Optional[Dict[str, Any]]] = {}
     until = time.monotonic() + wants.LONGEST_ASKED
     claims = [it for it in desk.look("/queue")["queue"] if it["kind"] == "group"]
     for place, claim in enumerate(it for it in claims if owner in (None, it["owner"])):
         is_asked = place < wants.MOST_ASKED and time.monotonic() < until
-        found[claim["number"]] = view_of(desk, claim["number"]) if is_asked else claim
+        found[claim["number"]] = history.view_of(desk, claim["number"]) if is_asked else claim
     for board in desk.look("/boards")["boards"]:
         kind, _, number = board["holder"].partition(" ")
         if kind == "job":
-            found[int(number)] = view_of(desk, int(number))
+            found[int(number)] = history.view_of(desk, int(number))
     rows = [it for it in found.values() if it and owner in (None, it["owner"])]
     rows = [it for it in rows if it.get("state") != "Finished"]
     return sorted(rows, key=lambda it: -int(it["number"]))
-
-
-def view_of(desk: calls.Desk, number: int) -> Dict[str, Any]:
-    """A job's view, or nothing where there is no such job."""
-    try:
-        return desk.look(f"/jobs/{number}")
-    except Refused as refusal:
-        if refusal.code != Code.NO_SUCH_JOB:
-            raise
-        return {}
 
 
 def last_jobs(past: history.Past, owner: Optional[str], count: int) -> List[Dict[str, Any]]:
@@ -178,16 +168,12 @@ def lines_of(
 def show_history(desk: calls.Desk, options: argparse.Namespace) -> int:
     """Shows what became of a board, the newest first: its jobs, and how its health changed."""
     past = views.history_of(desk, options)
-    rows = [it for it in past.rows() if options.board in boards_of(it)][::-1]
+    rows = [it for it in past.rows() if options.board in records.boards_of(it)][::-1]
     rows = rows[: options.last or LAST]
     if not rows and options.board not in names_of(desk.look("/boards")["boards"]):
         tell(f"there is no board {options.board}")
         return REFUSED
     return views.show(options, {"history": rows}, rows, BOARD_COLUMNS)
-
-
-def boards_of(row: Dict[str, Any]) -> List[str]:
-    return list(row["boards"]) if row["kind"] == "job" else [row["board"]]
 
 
 def names_of(boards: Iterable[Dict[str, Any]]) -> List[str]:
@@ -223,7 +209,7 @@ def show_log(desk: calls.Desk, options: argparse.Namespace) -> int:
     log = Log(views.history_of(desk, options), options.number, options.raw)
     if not options.follow:
         return 0 if log.print_more() else log.tell_none(desk)
-    is_open = is_to_come(desk, options.number)  # what is asked first has to be answered
+    is_open = history.is_to_come(desk, options.number)  # what is asked first has to be answered
     while True:
         try:
             # (a log to which something may be added is looked at once more)
@@ -234,15 +220,10 @@ def show_log(desk: calls.Desk, options: argparse.Namespace) -> int:
                 log.tell_none(desk)
             interrupts.check()
             time.sleep(options.every)
-            is_open = is_to_come(desk, options.number)
+            is_open = history.is_to_come(desk, options.number)
         except Unreachable as fault:
             log.tell_once(f"no answer from the desk, which is asked again: {fault.trouble}")
             time.sleep(options.every)
-
-
-def is_to_come(desk: calls.Desk, number: int) -> bool:
-    """Whether a job hasn't ended."""
-    return str(view_of(desk, number).get("state", "Finished")) != "Finished"
 
 
 class Log:
@@ -262,7 +243,7 @@ class Log:
                 self._print(chunk)
                 self.printed += len(chunk)
             return True
-        except history.NoLog:
+        except NoLog:
             return False
 
     def _print(self, chunk: bytes) -> None:
@@ -280,30 +261,10 @@ class Log:
 
     def tell_none(self, desk: calls.Desk) -> int:
         """Tells why there is no log. Returns the exit status."""
-        self.tell_once(why_no_log(desk, self.number))
+        self.tell_once(history.why_no_log(desk, self.number))
         return REFUSED
 
     def tell_once(self, text: str) -> None:
         if text not in self.told:
             self.told.add(text)
             tell(f"{text}")
-
-
-def why_no_log(desk: calls.Desk, number: int) -> str:
-    """Why a job has no log."""
-    view = view_of(desk, number)
-    if not view:
-        return f"there is no job {number}"
-    if view["state"] == "Finished":
-        return f"job {number} has no log: it never began, or its log is too old to be kept"
-    return f"job {number} is {view['state']}, and has no log yet"
-
-
-def text_of(desk: calls.Desk, number: int) -> Optional[bytes]:
-    """The text by which a job's group was submitted, as the desk keeps it; none of a check."""
-    view = desk.look(f"/jobs/{number}")
-    if view["kind"] == "check":
-        return None
-    if view["group"] != number:
-        view = desk.look(f"/jobs/{view['group']}")
-    return str(view["text"]).encode()

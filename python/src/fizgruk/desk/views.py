@@ -1,7 +1,6 @@
 """The desk's views, as lines of text or as JSON."""
 import argparse
 import json
-import os
 from typing import Any, Dict, List, Sequence, Tuple
 
 from fizgruk import calls, history, submissions, wants
@@ -68,8 +67,7 @@ def jobs_of(desk: calls.Desk, numbers: Sequence[int]) -> Tuple[List[Dict[str, An
 
 def history_of(desk: calls.Desk, options: argparse.Namespace) -> history.Past:
     """The history of a desk: the folder's that the settings name, or the one that is served."""
-    place = asking.values_of("desk", options)["history"]
-    return history.Kept(os.path.expanduser(place)) if place else history.Served(desk)
+    return history.past_of(desk, asking.values_of("desk", options)["history"])
 
 
 def moments_of(desk: calls.Desk, options: argparse.Namespace) -> submissions.Looks:
