@@ -60,7 +60,7 @@ def main(words: Optional[Sequence[str]] = None) -> int:
         if options.demote:
             return demote(farm, folder, options)
         if options.promote and not os.path.isdir(folder):
-            return told(FAULT, f"there is no standby in {folder}")
+            return tell.told(FAULT, f"there is no standby in {folder}")
         os.makedirs(folder, mode=0o700, exist_ok=True)
         lock = copying.take_folder(folder)
         if lock is None:
