@@ -28,7 +28,7 @@ cp "$old" "$root/srv/old.deb"
 cp -r "$here/inside.sh" "$here/../tests/shared/first_edition" "$root/srv"
 cp /etc/resolv.conf "$root/etc/resolv.conf"
 chroot "$root" sh -c 'apt-get update -qq && DEBIAN_FRONTEND=noninteractive apt-get install -qq -y --no-install-recommends \
-    systemd systemd-sysv lintian curl adduser python3' > "$room/log" 2>&1 || { tail -n 5 "$room/log"; exit 1; }
+    systemd systemd-sysv lintian curl adduser nftables python3' > "$room/log" 2>&1 || { tail -n 5 "$room/log"; exit 1; }
 
 # ---- its systemd, in namespaces of its own
 unshare --mount --pid --fork --uts --ipc --cgroup --propagation private sh -c '
