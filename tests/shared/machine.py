@@ -2,6 +2,7 @@
 everything, with the desk set up as docs/USING.md says from the source. It wants root, systemd, nft and overlays."""
 from __future__ import annotations
 
+import atexit
 import contextlib
 import os
 import pathlib
@@ -85,8 +86,13 @@ class Machine:
             [*words, self.room, self.group, INSIDE], stdin=subprocess.DEVNULL, stdout=self.log, stderr=self.log
         )
         STARTED.append(self.process)
-        self.first = self._booted()
-        self._set_up(program)
+        atexit.register(self.end)
+        try:
+            self.first = self._booted()
+            self._set_up(program)
+        except BaseException:
+            self.end()
+            raise
 
     def _booted(self) -> int:
         """The process that is the machine's first, once it has booted."""
@@ -163,7 +169,7 @@ class Machine:
         return self.run("journalctl", "--no-pager", "-o", "cat", "-u", unit, check=False).stdout
 
     def end(self) -> None:
-        """Ends all that is in it."""
+        """Ends all that is in it, where it hasn't ended."""
         for pid in self._children():
             with contextlib.suppress(ProcessLookupError):
                 os.kill(pid, signal.SIGKILL)
