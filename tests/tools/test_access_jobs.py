@@ -3,13 +3,14 @@ from __future__ import annotations
 
 import os
 import signal
+import subprocess
 import time
 from typing import Any, Iterator
 
 import access_lab
 import pytest
 from access_lab import PYTHON, Lab, until
-from served import TOOLS, Farm
+from served import STARTED, TOOLS, Farm
 
 pytestmark = [pytest.mark.xdist_group("access"), pytest.mark.slow(60)]
 # Runs the line `run` of a job's text.
@@ -110,6 +111,20 @@ def test_after_runs_between_a_person_and_a_job(lab: Lab) -> None:
     assert ended(lab, submit(lab, "true", "b1")) == "Complete"
     until(lambda: count() > before)
     assert count() == before + 1
+
+
+def test_a_job_waits_for_the_desk(lab: Lab) -> None:
+    held = lab.reserve("ann", "b1")
+    lab.farm.kill()
+    words = [*lab.access.split(), "run", f"reservation {held}", "b1", "--", "echo", "ran"]
+    run = subprocess.Popen(lab.as_board(*words), stdout=subprocess.PIPE, stderr=subprocess.DEVNULL)
+    STARTED.append(run)
+    time.sleep(3)
+    assert run.poll() is None
+    lab.restart_desk()
+    assert run.communicate(timeout=60)[0] == b"ran\n"
+    assert run.returncode == 0
+    lab.cancel("ann", held)
 
 
 def test_without_a_job_or_with_bad_words_nothing_runs(lab: Lab) -> None:

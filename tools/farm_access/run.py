@@ -8,10 +8,11 @@ job's boards are given on.
 import ctypes
 import os
 import signal
+import time
 from typing import Dict, List, Sequence
 
 from farm_access import cage, sessions
-from farm_access.lookout import Lookout
+from farm_access.lookout import Lookout, NoDesk
 from farm_access.site import Site
 from farm_access.work import BAD_WORDS, INFRA, Refusal, Work, session_of
 from farm_dispatch import commands, strangers
@@ -40,10 +41,23 @@ def run(site: Site, words: Sequence[str], umask: int) -> int:
     work = Work(site, Lookout(site), session, PATIENCE, sees=not mark.startswith("pidns:"))
     if mark:
         work.own.mark(mark)
-    work.begin()
+    begin(work)
     child = spawn(command, work.own.opened, umask) if mark else work.start(command)
     work.child = child
     work.end(work.wait_for(lambda: cage.status_of(child)), "")
+
+
+def begin(work: Work) -> None:
+    """Waits for the boards, and for the desk too: a job that was started is to run."""
+    until = time.monotonic() + PATIENCE
+    while True:
+        try:
+            work.begin()
+            return
+        except NoDesk as fault:
+            if time.monotonic() > until:
+                work.end(INFRA, str(fault))
+            time.sleep(1)
 
 
 def holds_of(words: Sequence[str]) -> Dict[str, str]:
