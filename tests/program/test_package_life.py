@@ -78,8 +78,8 @@ def test_purging_leaves_a_configuration_that_nginx_takes(debian: Debian) -> None
     links = "/etc/nginx/sites-enabled"
     debian.run("sh", "-c", f"rm -f {links}/*; ln -s ../sites-available/farm {links}/farm")
     debian.run("ln", "-s", "/srv/ours", f"{links}/ours")
-    debian.run("sh", "-c", "dpkg --remove fizgruk-farm && test -e /etc/nginx/sites-enabled/farm")
-    debian.run("sh", "-c", "DEBIAN_FRONTEND=noninteractive dpkg --purge fizgruk-farm")
+    debian.run("sh", "-c", "dpkg --remove fizgruk-access fizgruk-farm && test -e /etc/nginx/sites-enabled/farm")
+    debian.run("sh", "-c", "DEBIAN_FRONTEND=noninteractive dpkg --purge fizgruk-access fizgruk-farm")
     assert debian.run("ls", links).stdout.split() == ["ours"]
     debian.run("rm", f"{links}/ours")
     tried = debian.run("nginx", "-t", check=False)
@@ -91,7 +91,7 @@ def test_another_site_of_the_same_name_stays(debian: Debian) -> None:
     debian.install()
     link = "/etc/nginx/sites-enabled/farm"
     debian.run("sh", "-c", f"echo 'server {{ listen 127.0.0.1:8099; }}' > /srv/mine && ln -sf /srv/mine {link}")
-    debian.run("sh", "-c", "DEBIAN_FRONTEND=noninteractive dpkg --purge fizgruk-farm")
+    debian.run("sh", "-c", "DEBIAN_FRONTEND=noninteractive dpkg --purge fizgruk-access fizgruk-farm")
     assert debian.run("readlink", link).stdout.strip() == "/srv/mine"
     debian.run("rm", link)
 

@@ -73,7 +73,7 @@ def test_the_metrics_are_written_by_an_account_of_their_own(lab: MachineLab) -> 
     lab.machine.run("mkdir", "-p", os.path.dirname(PROM))
     lab.machine.run("systemctl", "start", "farm-metrics")
     text = lab.machine.run("cat", PROM, user="nobody").stdout
-    assert "fizgruk_up 1\n" in text and re.search("fizgruk_passes_total [1-9]", text)
+    assert "fizgruk_up 1.0\n" in text and re.search("fizgruk_passes_total [1-9]", text)
     assert lab.machine.run("stat", "-L", "-c", "%U", PROM).stdout == "farm-metrics\n"
 
 
@@ -93,7 +93,7 @@ def test_what_a_stranger_put_in_the_dispatchers_folder_holds_up_no_metrics(lab: 
     try:
         lab.machine.run("rm", "-f", "/var/lib/farm-metrics/fizgruk.prom")
         lab.machine.run("timeout", "50", "systemctl", "start", "farm-metrics", check=False)
-        assert "fizgruk_up 1\n" in lab.machine.run("cat", PROM).stdout
+        assert "fizgruk_up 1.0\n" in lab.machine.run("cat", PROM).stdout
     finally:
         lab.machine.run("sh", "-c", f"cd /var/lib/farm-dispatch && rm -f {name} && mv kept {name}")
         lab.machine.run("systemctl", "reset-failed", "farm-metrics", check=False)

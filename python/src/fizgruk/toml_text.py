@@ -2,16 +2,15 @@
 read, by the small one of these tools, so that 1.1 is read as the desk reads it."""
 import bisect
 import re
+import sys
 from typing import Any, Callable, Dict, List, Sequence
 
 from fizgruk import small_toml
 
 READERS: List[Callable[[str], Dict[str, Any]]] = [small_toml.loads]
-try:
+if sys.version_info >= (3, 11):
     import tomllib
-except ImportError:  # pragma: no cover (before Python 3.11)
-    pass
-else:
+
     READERS.insert(0, tomllib.loads)
 
 
