@@ -11,7 +11,7 @@ from machine import Machine
 from served import STARTED, TOP
 from wants import lacks, wants
 
-pytestmark = [pytest.mark.xdist_group("machine"), pytest.mark.slow(90)]
+pytestmark = [pytest.mark.xdist_group("packages"), pytest.mark.slow(90)]
 UNITS = ("farm.service", "farm-dispatch.service", "farm-backup.timer", "farm-metrics.timer")
 ON, OFF = "enabled active", "disabled inactive"
 
@@ -34,7 +34,8 @@ class Debian(Machine):
 
     def install(self) -> str:
         """Installs the packages, or upgrades them."""
-        self.run("sh", "-c", "DEBIAN_FRONTEND=noninteractive dpkg -i /tmp/packages/*.deb")
+        # (the index of manual pages isn't made anew each time)
+        self.run("sh", "-c", "rm -f /var/lib/man-db/auto-update; DEBIAN_FRONTEND=noninteractive dpkg -i /tmp/packages/*.deb")
         return self.run("systemctl", "is-failed", *UNITS, check=False).stdout
 
     def units(self) -> Dict[str, str]:

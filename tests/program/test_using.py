@@ -78,7 +78,7 @@ class Source(Machine):
 
 
 @pytest.mark.slow(20)
-@pytest.mark.xdist_group("machine")
+@pytest.mark.xdist_group("packages")
 def test_services_from_the_source_begin_by_the_page_alone(program: str, folder: str) -> None:
     """Its block is run line by line, in its own order, under a systemd; then the desk answers."""
     block = PAGE[PAGE.index("\nAs services, from the source"): PAGE.index("\n## The site")]

@@ -315,8 +315,10 @@ def test_each_session_is_a_line_of_the_log(lab: Lab, held: Callable[..., int]) -
 
 
 def test_check_says_which_way_answers(lab: Lab) -> None:
-    lab.parts["ser2net"].send_signal(signal.SIGSTOP)
     words = [*lab.access.split(), "check", "b1"]
+    # (what the hold before left is cleaned up first)
+    until(lambda: b"in use" not in lab.try_words(words).output)
+    lab.parts["ser2net"].send_signal(signal.SIGSTOP)
     stopped = lab.try_words(words).output.decode().splitlines()
     lab.parts["ser2net"].send_signal(signal.SIGCONT)
     well = lab.try_words([*lab.access.split(), "check"])
@@ -496,7 +498,8 @@ def test_of_a_long_paste_nothing_comes_after_the_hold_since_consoles_are_paced(
         lab.cancel("ann", number)
         until(lambda: not lab.sessions())
         until(lambda: time.time() > lab.got("b1")[-1].at + 2)
-        assert (lab.got("b1")[-1].at - since > 2) == is_late
+        late = lab.got("b1")[-1].at - since
+        assert late > 1 if is_late else late < 2
     finally:
         lab.end()
 

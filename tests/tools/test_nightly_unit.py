@@ -8,7 +8,7 @@ import pytest
 from machine import PORT, Machine
 from served import STARTED
 
-pytestmark = [pytest.mark.xdist_group("machine"), pytest.mark.slow(60)]
+pytestmark = [pytest.mark.xdist_group("packages"), pytest.mark.slow(60)]
 # Without the site, whose certificate and passwords other tests have: the desk itself, asked by an account that may.
 HERE = f"""\
 [Service]

@@ -8,7 +8,7 @@ import pytest
 from machine import Machine
 from served import STARTED
 
-pytestmark = [pytest.mark.xdist_group("machine"), pytest.mark.slow(30)]
+pytestmark = [pytest.mark.xdist_group("packages"), pytest.mark.slow(30)]
 TO, HOME = "/mnt/farm-standby", "/var/lib/farm"
 
 
