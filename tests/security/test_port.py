@@ -35,6 +35,21 @@ def test_no_login_can_listen_in_the_desks_place(desk: Machine) -> None:
         assert (ran.returncode, "Permission denied" in ran.stderr) == (1, True), (account, ran.stderr)
 
 
+def test_whom_a_file_of_the_lab_adds_is_let_in_too(desk: Machine) -> None:
+    """As the package of the way to boards adds its account; also when Debian's firewall flushed all."""
+    desk.run("sh", "-c", "getent passwd board || adduser --system --group --quiet --no-create-home board")
+    assert desk.asked("board", "admin", "/status") == CONNECTS_NOT
+    desk.run("install", "-D", "-m", "644", "/tmp/source/examples/farm-port-access.nft", "/etc/farm/port.d/access.nft")
+    desk.run("systemctl", "reload", "farm-port")
+    desk.run("systemctl", "restart", "farm")
+    desk.wait("the desk", *desk.curl("root", "/status"))
+    assert desk.asked("board", "admin", "/status") == 0
+    assert desk.asked("ann", "admin", "/status") == CONNECTS_NOT
+    desk.run("rm", "-r", "/etc/farm/port.d")
+    desk.run("systemctl", "reload", "farm-port")
+    assert desk.asked("board", "admin", "/status") == CONNECTS_NOT
+
+
 def test_the_table_is_there_as_long_as_the_desk_is(desk: Machine) -> None:
     assert "reject" in desk.run(*TABLE).stdout
     desk.run("systemctl", "restart", "farm")
