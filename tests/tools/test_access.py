@@ -479,15 +479,12 @@ def test_after_runs_between_two_holds_and_where_it_fails_nobody_gets_in(make_far
         lab.end()
 
 
-NO_PACE = "from farm_access import lines; lines.rate_of = lambda _: 1e9"
-
-
-@pytest.mark.parametrize("before, is_late", [("", False), (NO_PACE, True)], ids=["paced", "without the pace"])
 def test_of_a_long_paste_nothing_comes_after_the_hold_since_consoles_are_paced(
-    make_farm: Callable[..., Farm], before: str, is_late: bool
+    make_farm: Callable[..., Farm]
 ) -> None:
-    """The board takes 11,500 bytes a second, and what waits in ser2net would come later."""
-    lab = access_lab.make(make_farm, before=before, slow=True)
+    """The board takes 11,500 bytes a second, and what waits in ser2net would come later: some three seconds of it,
+    where nothing else is at the machine."""
+    lab = access_lab.make(make_farm, slow=True)
     try:
         number = lab.reserve("ann", "b1")
         line = lab.begin("ann", "b1", "console")
@@ -498,8 +495,7 @@ def test_of_a_long_paste_nothing_comes_after_the_hold_since_consoles_are_paced(
         lab.cancel("ann", number)
         until(lambda: not lab.sessions())
         until(lambda: time.time() > lab.got("b1")[-1].at + 2)
-        late = lab.got("b1")[-1].at - since
-        assert late > 1 if is_late else late < 2
+        assert lab.got("b1")[-1].at - since < 2
     finally:
         lab.end()
 
