@@ -134,10 +134,10 @@ def test_a_later_farm_of_the_same_history_goes_on_from_a_point(made: Made) -> No
 @pytest.mark.parametrize("change, why", [
     ("update meta set value = value - 1 where name = 'count'", "it has 29 commands, which are fewer"),
     ("update meta set value = value - 1 where name = 'clock'", "its clock is earlier"),
-    ("update kept set ckey = 'other' where ckey = 'k30'", "row 30 of kept is another"),
-    ("delete from kept where ckey = 'k30'", "row 30 of kept is another"),
-    ("update jobs set body = 'other' where number = 30", "row 30 of jobs is another"),
-    ("update jobs set owner = 'bob' where number = 30", "row 30 of jobs is another"),
+    ("update kept set ckey = 'other' where ckey = 'k30'", "kept has another row with number 30, or none"),
+    ("delete from kept where ckey = 'k30'", "kept has another row with number 30, or none"),
+    ("update jobs set body = 'other' where number = 30", "jobs has another row with number 30, or none"),
+    ("update jobs set owner = 'bob' where number = 30", "jobs has another row with number 30, or none"),
 ])
 def test_another_history_shows(made: Made, change: str, why: str) -> None:
     made.add(30)

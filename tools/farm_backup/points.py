@@ -92,5 +92,5 @@ def _why_other(before: Point, found: pages.Readable) -> str:
         if (number, wanted) == NOTHING:
             continue
         if _note_of(table, pages.row_of(found, roots[table], number)) != (number, wanted):
-            return f"row {number} of {table} is another"
+            return f"{table} has another row with number {number}, or none"
     return ""
