@@ -1,8 +1,10 @@
 """The library's surface: the public names of each crate, read from its sources.
 
-python3 tests/gate/surface.py           compares them with docs/LIBRARY.md; where they differ it shows how,
-                                   and ends with 1
-python3 tests/gate/surface.py --write   writes the page anew
+python3 tests/gate/surface.py                    compares them with the list in docs/LIBRARY.md; where they differ it
+                                                 shows how, and ends with 1
+python3 tests/gate/surface.py --write            writes the list anew
+python3 tests/gate/surface.py --page [CRATE ..]  prints these crates' names, or all, with their signatures and what
+                                                 their comments say first
 """
 from __future__ import annotations
 
@@ -262,16 +264,11 @@ def entry(item: Item) -> list[str]:
 
 
 def page(crates: dict[str, Crate]) -> str:
-    """The page of the library: each crate, its groups, its names."""
-    lines = ["# The library", "",
-             "Each crate's public names, grouped as its root groups them: the signature without its contract,",
-             "and what the comment says first. Made by `python3 tests/gate/surface.py --write` from the sources.",
-             "A field `..` stands for those that are private. Contracts stand beside the code.", ""]
+    """The names with their signatures: each crate, its groups, its items."""
+    lines: list[str] = []
     for crate in crates.values():
         groups = groups_of(crate, crates)
-        if not any(group.items for group in groups):
-            continue
-        lines += [f"## {crate.name}", "", crate.says(), ""]
+        lines += [f"# {crate.name}", "", crate.says(), ""]
         for group in groups:
             if group.says:
                 lines += [group.says, ""]
@@ -281,8 +278,29 @@ def page(crates: dict[str, Crate]) -> str:
     return "\n".join(lines).rstrip("\n") + "\n"
 
 
+def listed(item: Item) -> str:
+    """An item by its kind and name, with the names of its functions."""
+    if item.kind == "of":
+        return f"- {item.signature}"
+    methods = ", ".join(it.name for it in item.methods)
+    return f"- {item.kind} {item.name}" + (f": {methods}" if methods else "")
+
+
+def names(crates: dict[str, Crate]) -> str:
+    """The list of names: of each crate one line an item, in the order of its root."""
+    lines = ["# Public names", "",
+             "The names that each library exports, with the functions of its types and traits. A test compares this",
+             "list with the sources; `python3 tests/gate/surface.py --write` makes it anew, and `--page CRATE` prints a",
+             "crate's names with their signatures and comments.", ""]
+    for crate in crates.values():
+        items = [item for group in groups_of(crate, crates) for item in group.items]
+        if items:
+            lines += [f"## {crate.name}", "", *map(listed, items), ""]
+    return "\n".join(lines).rstrip("\n") + "\n"
+
+
 def differs(made: str) -> bool:
-    """Shows how the kept page differs from what the sources say."""
+    """Shows how the kept list differs from what the sources say."""
     kept = PAGE.read_text() if PAGE.exists() else ""
     shown_name = PAGE.relative_to(TOP).as_posix()
     sys.stdout.writelines(difflib.unified_diff(kept.splitlines(True), made.splitlines(True),
@@ -291,10 +309,14 @@ def differs(made: str) -> bool:
 
 
 def main(arguments: list[str]) -> int:
+    crates = libraries()
+    if arguments[:1] == ["--page"] and set(arguments[1:]) <= set(crates):
+        sys.stdout.write(page({name: crates[name] for name in arguments[1:] or crates}))
+        return 0
     if arguments not in ([], ["--write"]):
         print(__doc__)
         return 2
-    made = page(libraries())
+    made = names(crates)
     if arguments:
         PAGE.write_text(made)
         return 0

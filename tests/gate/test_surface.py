@@ -10,6 +10,6 @@ sys.path.append(str(pathlib.Path(__file__).resolve().parent))
 import surface  # noqa: E402
 
 
-def test_library_page(capsys: pytest.CaptureFixture[str]) -> None:
-    differs = surface.differs(surface.page(surface.libraries()))
+def test_public_names(capsys: pytest.CaptureFixture[str]) -> None:
+    differs = surface.differs(surface.names(surface.libraries()))
     assert not differs, capsys.readouterr().out
