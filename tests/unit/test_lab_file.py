@@ -8,8 +8,8 @@ from typing import List
 
 import pytest
 from farm_import import lab_file
-from fizgruk.desk import lab_import
-from fizgruk.desk.lab_import import Addition
+from fizgruk._tools import lab_text
+from fizgruk._tools.lab_text import Addition
 from fizgruk.words import BadFile
 
 
@@ -50,7 +50,7 @@ tags = ["rack=1", "usb"]
 health = "Good"
 """
     assert told(lab) == []
-    assert [it.name for it in lab_import.additions_of(lab.text())] == ["bbb", "rpi", "b.1", "b2"]
+    assert [it.name for it in lab_text.additions_of(lab.text())] == ["bbb", "rpi", "b.1", "b2"]
 
 
 def test_a_type_that_is_added_again_stays(lab: lab_file.LabFile) -> None:
@@ -162,13 +162,13 @@ every = 10000
 check = "none"
 every = 7
 """
-    assert lab_import.additions_of(text) == [
+    assert lab_text.additions_of(text) == [
         Addition("types", "a", {"name": "a"}),
         Addition("types", "z", {"name": "z", "check": "jobs", "every": 10000}),
         Addition("boards", "B2", {"name": "B2", "type": "a", "tags": []}),
         Addition("boards", "b1", {"name": "b1", "type": "z", "tags": ["usb"]}),
     ]
-    keys = [it.key() for it in lab_import.additions_of(text)]
+    keys = [it.key() for it in lab_text.additions_of(text)]
     assert keys == ["type.a", "type.z", "board.B2", "board.b1"]
 
 
@@ -187,4 +187,4 @@ every = 7
 ])
 def test_a_fault_of_a_lab_file(lines: List[str], why: str) -> None:
     with pytest.raises(BadFile, match=f"^{re.escape(why)}"):
-        lab_import.additions_of("\n".join(lines))
+        lab_text.additions_of("\n".join(lines))

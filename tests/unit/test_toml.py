@@ -7,7 +7,7 @@ from typing import Any, Callable, Dict, List, Optional, Union
 
 import pytest
 from fizgruk import small_toml, toml_text
-from fizgruk.desk import lab_import
+from fizgruk._tools import lab_text
 from served import TOP
 
 EXAMPLES = [os.path.join(TOP, "examples", f"{it}.toml") for it in ("lab", "boot", "multinode")]
@@ -126,9 +126,9 @@ def test_what_stands_in_a_file_is_found_by_its_line(path: str, line: int) -> Non
 def test_a_lab_file_is_read_without_pythons_own_reader(monkeypatch: pytest.MonkeyPatch) -> None:
     with open(EXAMPLES[0], encoding="utf-8") as file:
         text = file.read()
-    wanted = lab_import.additions_of(text)
+    wanted = lab_text.additions_of(text)
     monkeypatch.setattr(toml_text, "READERS", [small_toml.loads])
-    assert lab_import.additions_of(text) == wanted
+    assert lab_text.additions_of(text) == wanted
     assert toml_text.line_of(text, ["types", "rpi4b"]) == 9
 
 

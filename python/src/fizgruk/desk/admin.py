@@ -4,6 +4,7 @@ import sys
 from typing import Any, Callable, Dict, List
 
 from fizgruk import calls
+from fizgruk._tools import lab_text
 from fizgruk._tools.parsers import Parser, one_of
 from fizgruk.bounds import LONGEST_EVERY
 from fizgruk.desk import lab_import, tell, views
@@ -29,7 +30,7 @@ def add_commands(command: Callable[..., Parser]) -> None:
     kind = command("add-type", add_type)
     kind.add_argument("name", metavar="NAME", help="The type's name.")
     about = "What its checks are counted by, with --every (default none)."
-    one_of(kind, "--check", lab_import.CHECKS, about)
+    one_of(kind, "--check", lab_text.CHECKS, about)
     about = f"How many hours or jobs lie between two checks, 1 to {LONGEST_EVERY}."
     kind.add_argument("--every", metavar="N", type=frequency, help=about)
     board = command("add-board", add_board)

@@ -1,116 +1,17 @@
 """A lab file's types and boards, added over HTTP as `farm import` adds them."""
 import argparse
-import difflib
 import sys
-from typing import Any, Dict, List, NamedTuple, Sequence, Set, Tuple
+from typing import Set, Tuple
 
-from fizgruk import calls, toml_text, words
-from fizgruk.bounds import LONGEST_EVERY, LONGEST_LAB_FILE
+from fizgruk import calls, toml_text
+from fizgruk._tools.lab_text import Addition, additions_of, warnings_of
+from fizgruk.bounds import LONGEST_LAB_FILE
 from fizgruk.desk import tell, views
 from fizgruk.errors import Code, Refused
 from fizgruk.words import BadFile
 
-CHECKS = ("none", "hours", "jobs")
-# The keys of a lab file's tables, and what is said of another that isn't misspelt.
-KEYS = {"types": ("check", "every"), "boards": ("type", "tags")}
-HINTS = {
-    ("boards", "health"): ": desk health sets it",
-    ("types", "every"): ": it has no check",
-}
 TYPE_EXISTS, BOARD_EXISTS = 11, 13
 REFUSED = 3
-
-
-class Addition(NamedTuple):
-    """A command that adds a type or a board; `section` is the table of the file that it is in."""
-
-    section: str
-    name: str
-    body: Dict[str, Any]
-
-    def told(self) -> str:
-        return f"{self.section[:-1]} {self.name}"
-
-    def key(self) -> str:
-        return f"{self.section[:-1]}.{self.name}"
-
-
-def additions_of(text: str) -> List[Addition]:
-    """The commands of a lab file in the order of `farm import`: the types in the byte order of
-    their names, then the boards in theirs. The first fault is raised as BadFile."""
-    try:
-        tree = toml_text.tree_of(text)
-    except toml_text.NotToml as fault:
-        raise BadFile(str(fault)) from fault
-    found = []
-    for section, body_of in (("types", type_of), ("boards", board_of)):
-        rows = words.table_of(tree.get(section, {}), section)
-        for name in sorted(rows, key=str.encode):
-            try:
-                words.name_of(name, "its name")
-                row = words.table_of(rows[name], "it")
-                found.append(Addition(section, name, {"name": name, **body_of(row)}))
-            except BadFile as fault:
-                line = toml_text.line_of(text, (section, name))
-                raise BadFile(f"line {line}: {section[:-1]} {name}: {fault}") from fault
-    return found
-
-
-def warnings_of(text: str) -> List[str]:
-    """What a lab file has that the desk will ignore, each key once, in the order of their lines;
-    and that it has nothing else."""
-    tree = toml_text.tree_of(text)
-    found: Dict[Tuple[str, str], List[Sequence[str]]] = {}
-    for section, rows in tree.items():
-        if section not in KEYS:
-            found.setdefault(("", section), []).append((section,))
-            continue
-        for name, row in rows.items():
-            for key in row:
-                if is_ignored(section, key, row):
-                    found.setdefault((section, key), []).append((section, name, key))
-    lines = sorted(
-        (toml_text.line_of(text, paths[0]), warning_of(it, paths)) for it, paths in found.items()
-    )
-    empty = [] if any(tree.get(it) for it in KEYS) else ["it has neither types nor boards"]
-    return [f"line {line}: {warning}" for line, warning in lines] + empty
-
-
-def is_ignored(section: str, key: str, row: Dict[str, Any]) -> bool:
-    if (section, key) == ("types", "every"):
-        return bool(row.get("check", "none") == "none")
-    return key not in KEYS[section]
-
-
-def warning_of(key: Tuple[str, str], paths: List[Sequence[str]]) -> str:
-    """That a key is ignored, at its first place, and how often more; and which one may be meant."""
-    section, word = key
-    where = f"{section[:-1]} {paths[0][1]}: " if section else ""
-    more = f", and {len(paths) - 1} more" if len(paths) > 1 else ""
-    meant = difflib.get_close_matches(word, KEYS.get(section, KEYS), 1)
-    hint = f": is {meant[0]} meant?" if meant and meant[0] != word else HINTS.get(key, "")
-    return f"{where}{word} is ignored{more}{hint}"
-
-
-def type_of(row: Dict[str, Any]) -> Dict[str, Any]:
-    check = row.get("check", "none")
-    if check not in CHECKS:
-        raise BadFile("check is none of none, hours and jobs")
-    if check == "none":
-        return {}
-    every = words.whole_of(row.get("every"), "every")
-    if not 1 <= every <= LONGEST_EVERY:
-        raise BadFile(f"every is {every}, and is 1 to {LONGEST_EVERY:,}")
-    return {"check": check, "every": every}
-
-
-def board_of(row: Dict[str, Any]) -> Dict[str, Any]:
-    kind = words.name_of(row.get("type"), "type")
-    tags = words.tags_of(row.get("tags"))
-    for tag in tags:
-        if tag.split("=")[0] == "name":
-            raise BadFile(f"tag {tag} isn't a board's own: its name is its tag of this key")
-    return {"type": kind, "tags": tags}
 
 
 def import_lab(desk: calls.Desk, options: argparse.Namespace) -> int:
