@@ -28,6 +28,7 @@ def site(farm: Farm, make_site: Callable[..., Site]) -> Site:
 
 
 def lines_of(site: Site, name: str = "audit.log") -> List[Dict[str, Any]]:
+    site.settle()
     return [json.loads(it) for it in read(f"{site.folder}/{name}").splitlines()]
 
 
@@ -63,6 +64,27 @@ def test_a_body_is_one_line_whatever_is_in_it(site: Site, body: str) -> None:
     status = told(site, "--data-binary", body, "/reservations")
     rows = lines_of(site)
     assert [it["body"].encode() for it in rows] == [body.encode()] * (status == 200)
+
+
+def test_a_long_body_is_in_its_line(site: Site) -> None:
+    body = '{"tags":["name=b1"],"x":"' + "y" * 60_000 + '"}'
+    assert told(site, "--data-binary", body, "/reservations") == 200
+    assert [it["body"] for it in lines_of(site)] == [body]
+
+
+def test_who_doesnt_wait_for_an_answer_has_a_line(farm: Farm, site: Site) -> None:
+    """A command that was done, though nobody took its answer."""
+    line, fields = site.connection()
+    os.kill(farm.process.pid, signal.SIGSTOP)
+    try:
+        line.request("POST", "/reservations", body=RESERVE, headers=fields)
+        time.sleep(0.5)
+        line.close()
+        time.sleep(0.5)
+    finally:
+        os.kill(farm.process.pid, signal.SIGCONT)
+    wait_until("it is done", lambda: len(farm.look("/reservations")["reservations"]) == 1)
+    assert wait_until("its line", lambda: lines_of(site))[0]["body"] == RESERVE
 
 
 def test_a_command_is_in_the_log_of_requests_too(site: Site) -> None:

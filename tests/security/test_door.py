@@ -3,105 +3,16 @@ where it gives no answer."""
 from __future__ import annotations
 
 import os
-import shutil
 import sqlite3
-import subprocess
-import sys
-import tempfile
+import threading
 import time
-from typing import Any, Callable, Dict, Iterator, List, Sequence, Tuple
+from typing import Any, Callable, List, Sequence, Tuple
 
 import pytest
 
-from nginx_site import Site, write
-from served import STARTED, TOOLS, TOP, Farm, environment, read, wait_until
-
-RULES = """[limits]
-open_reservations = 3
-open_jobs = 4
-jobs_an_hour = 6
-[limits.few]
-open_reservations = 1
-[teams]
-few = ["dispatcher-2", "dispatcher-3"]
-[admins]
-logins = ["ann.admin"]
-"""
-RESERVE = ("-d", '{"tags":[]}')
-JOB = ("--data-binary", "job_name = 'x'\ndevice_type = 'bbb'\n")
-HOOK = "# include /etc/nginx/farm-door.conf;"
-
-
-class Door:
-    """A site with its farm-door."""
-
-    def __init__(self, farm: Farm, make_site: Callable[..., Site], folder: str, rules: str, login: str = ""):
-        """`login` is what says who asks, where no password does."""
-        self.farm, self.folder = farm, folder
-        self.room = tempfile.mkdtemp(prefix="door")  # (a socket's path is short)
-        self.socket = os.path.join(self.room, "socket")
-        write(folder, "door.toml", rules, 0o644)
-        text = read(os.path.join(TOP, "examples", "nginx-door.conf")).replace("/run/farm-door/socket", self.socket)
-        changes = [(HOOK, f"include {folder}/nginx-door.conf;")]
-        if login:
-            text = text.replace("x-login $remote_user;", f"x-login {login};")
-            changes.append(("auth_basic $farm_realm;", "auth_basic off;"))
-        write(folder, "nginx-door.conf", text, 0o644)
-        self.start()
-        self.site = make_site(farm, *changes)
-
-    def start(self) -> None:
-        words = ["--rules", f"{self.folder}/door.toml", "--socket", self.socket, "--state", f"{self.folder}/kept.db"]
-        with open(f"{self.folder}/door.log", "ab") as log:
-            self.process = subprocess.Popen(
-                [sys.executable, os.path.join(TOOLS, "farm-door"), *words, "--server", self.farm.server, "--group", "root"],
-                stdout=subprocess.PIPE, stderr=log, env=environment(),
-            )
-        STARTED.append(self.process)
-        assert self.process.stdout is not None and self.process.stdout.readline()
-        time.sleep(0.3)  # (its first look at the desk)
-
-    def kill(self) -> None:
-        self.process.kill()
-        self.process.communicate()
-
-    def told(self, *words: str, user: str = "ann") -> Tuple[int, Any]:
-        status, _, said = self.site.said(*words, user=user)
-        return status, said
-
-    def by_token(self, token: str, *words: str) -> Tuple[int, Any]:
-        status, _, said = self.site.said("-H", f"authorization: Bearer {token}", *words, user="")
-        return status, said
-
-    def owners(self) -> List[str]:
-        return [it["owner"] for it in self.farm.look("/reservations")["reservations"]]
-
-
-@pytest.fixture
-def make_door(
-    make_farm: Callable[..., Farm], make_site: Callable[..., Site], folder: str, monkeypatch: pytest.MonkeyPatch
-) -> Iterator[Callable[..., Door]]:
-    made: List[Door] = []
-    monkeypatch.setattr("nginx_site.WORDS", {
-        "ann": "open sesame", "bob": "b", "ann.admin": "a", "dispatcher": "pass on", "dispatcher-2": "c", "dispatcher-3": "d",
-    })
-
-    def make(rules: str = RULES, login: str = "") -> Door:
-        made.append(Door(make_farm([("b1", "bbb", []), ("b2", "bbb", [])]), make_site, folder, rules, login))
-        return made[-1]
-
-    yield make
-    for it in made:
-        shutil.rmtree(it.room)
-
-
-@pytest.fixture
-def door(make_door: Callable[..., Door]) -> Door:
-    return make_door()
-
-
-def limit(text: str) -> Tuple[int, Dict[str, Any]]:
-    return 429, {"code": 429, "text": text}
+from door_site import JOB, RESERVE, RULES, Door, limit
+from nginx_site import write
+from served import read, wait_until
 
 
 def test_a_user_has_so_many_reservations_open_and_more_where_some_end(door: Door) -> None:
@@ -136,10 +47,6 @@ def test_the_members_of_a_team_share_its_limit(door: Door) -> None:
 
 
 def test_many_at_once_are_no_more(door: Door) -> None:
-    line, fields = door.site.connection()
-    line.close()
-    import threading
-
     statuses: List[int] = []
 
     def ask() -> None:
@@ -157,7 +64,7 @@ def test_many_at_once_are_no_more(door: Door) -> None:
     for it in threads:
         it.join()
     assert sorted(statuses) == [200] * 3 + [429] * 37
-    assert door.owners() == ["ann"] * 3 and fields
+    assert door.owners() == ["ann"] * 3
 
 
 def test_an_admin_of_several_is_admin_to_the_desk_and_himself_in_the_audit(door: Door) -> None:
@@ -174,7 +81,7 @@ def test_a_token_stands_for_its_owner_until_it_is_ended(door: Door) -> None:
     assert (status, made["number"], made["name"]) == (200, 1, "nightly")
     token = made["token"]
     assert door.by_token(token, *RESERVE, "/reservations")[0] == 200 and door.owners() == ["ann"]
-    assert '"login":"ann (token)"' in read(f"{door.folder}/audit.log")
+    assert '"login":"ann (token 1 nightly)"' in read(f"{door.folder}/audit.log")
     assert door.by_token(token, "/queue")[0] == 200
     assert door.site.got("/whoami", "-H", f"authorization: Bearer {token}", user="")[2] == b"ann"
     assert [it["name"] for it in door.told("/tokens")[1]["tokens"]] == ["nightly"]
@@ -219,11 +126,20 @@ def test_a_wrong_password_never_reaches_it_and_a_claimed_name_is_nobodys(door: D
     assert door.told("-H", "x-login: ann.admin", "-H", "x-farm-user: admin", "-d", '{"health":"Bad"}', "/boards/b1/health")[0] == 403
 
 
-def test_where_it_gives_no_answer_nothing_is_let_through(door: Door) -> None:
+def test_where_it_gives_no_answer_no_command_is_let_through_and_looks_go_on(door: Door) -> None:
+    token = door.told("-d", '{"name":"ci"}', "/tokens")[1]["token"]
     door.kill()
-    for words in (["/queue"], [*RESERVE, "/reservations"], ["/whoami"], ["/tokens"]):
-        status = door.site.got(words[-1], *words[:-1])[0]
-        assert status in (500, 502), words
+    away = (503, {"code": 503, "text": "farm-door gives no answer"})
+    cancel, remove = ["-X", "POST", "/reservations/1/cancel"], ["-X", "DELETE", "/queue"]
+    for words in (cancel, remove, [*RESERVE, "/reservations"], ["-d", "{}", "/tokens"]):
+        assert door.told(*words) == away, words
+    assert door.by_token(token, "/queue") == away, "whose token it is nobody knows"
+    assert door.site.got("/whoami")[0] == 503
+    for path in ("/queue", "/boards", "/status", "/reservations?x=1"):
+        assert door.told(path)[0] == 200, path
+    for path in ("/", "/farm.js"):
+        assert door.site.got(path)[0] == 200, path
+    assert door.site.got("/queue", "-u", "ann:guess", user="")[0] == 401
     assert door.owners() == []
     door.start()
     assert door.told(*RESERVE, "/reservations")[0] == 200
@@ -232,15 +148,20 @@ def test_where_it_gives_no_answer_nothing_is_let_through(door: Door) -> None:
 def test_where_the_desk_gives_it_no_answer_what_has_a_limit_isnt_let_through(
     door: Door, monkeypatch: pytest.MonkeyPatch
 ) -> None:
-    from farm_door import counts, kept, main, rules
+    from farm_door import commands, counts, door as doors, kept, rules
 
     monkeypatch.setattr(counts, "TOO_OLD", 0.0)
-    asked = main.Door(rules.rules_in("/nowhere/door.toml"), kept.Kept(":memory:"), counts.Counts(None))  # type: ignore[arg-type]
-    with pytest.raises(main.Refused, match="your limits can't be told"):
-        asked.passes("ann", "", "POST", "/jobs")
-    assert asked.passes("ann", "", "POST", "/jobs/1/cancel") == ("ann", "ann")
-    assert asked.passes("dispatcher", "", "POST", "/jobs") == ("dispatcher", "dispatcher")
-    del door
+    known = counts.Counts(None)  # type: ignore[arg-type]
+    asked = doors.Door(rules.rules_in("/nowhere/door.toml"), kept.Kept(":memory:"), known, commands.Desk(door.farm.server))
+
+    def gives(user: str, path: str, body: bytes) -> int:
+        return asked.command(commands.Command(user, user, "POST", path, (), body)).status
+
+    job = b"job_name = 'x'\ndevice_type = 'bbb'"
+    with pytest.raises(commands.Refused, match="your limits can't be told") as refused:
+        gives("ann", "/jobs", job)
+    assert refused.value.status == 503
+    assert gives("ann", "/jobs/1/cancel", b"") == 404 and gives("admin", "/jobs", job) == 200
 
 
 def test_another_proxy_may_say_who_asks(make_door: Callable[..., Door]) -> None:
@@ -268,9 +189,9 @@ def test_what_is_no_name_of_a_token_makes_none(door: Door, body: str) -> None:
     assert sqlite3.connect(f"{door.folder}/kept.db").execute("select count(*) from tokens").fetchone() == (0,)
 
 
-def test_a_request_takes_five_milliseconds_more_at_most_in_processor_time(make_door: Callable[..., Door]) -> None:
-    """Of farm-door's, over two hundred requests."""
-    door = make_door("")
+def test_a_command_takes_five_milliseconds_more_at_most_in_processor_time(make_door: Callable[..., Door]) -> None:
+    """Of farm-door's, over eighty commands of a user's; looks by a password take none."""
+    door = make_door("[limits]\nopen_reservations = 1000\n")
     line, fields = door.site.connection()
 
     def spent() -> float:
@@ -279,8 +200,8 @@ def test_a_request_takes_five_milliseconds_more_at_most_in_processor_time(make_d
         return (int(parts[11]) + int(parts[12])) / os.sysconf("SC_CLK_TCK")
 
     before = spent()
-    for _ in range(200):
-        line.request("GET", "/status", headers=fields)
-        line.getresponse().read()
+    for _ in range(80):
+        line.request("POST", "/reservations", body='{"tags":[]}', headers=fields)
+        assert line.getresponse().read().startswith(b'{"number":')
     line.close()
-    assert (spent() - before) / 200 < 0.005
+    assert (spent() - before) / 80 < 0.005

@@ -104,12 +104,16 @@ def test_what_a_stranger_put_in_the_dispatchers_folder_holds_up_no_metrics(lab: 
 def test_the_door_answers_nginx_alone(lab: MachineLab) -> None:
     lab.machine.run("systemctl", "start", "farm-door")
     ask = ["curl", "-s", "-o", "/dev/null", "-w", "%{http_code}", "--unix-socket", "/run/farm-door/socket"]
-    ask += ["-H", "x-what: pass", "-H", "x-method: POST", "-H", "x-path: /jobs", "http://door/"]
-    named = [*ask, "-H", "x-login: ann"]
-    lab.machine.wait("it sees the desk", "sh", "-c", f"[ \"$({' '.join(map(repr, named))})\" = 200 ] && echo yes")
+    who = [*ask, "-H", "x-what: who", "http://door/"]
+    named = [*who, "-H", "x-login: ann"]
+    lab.machine.wait("it answers", *named)
     assert lab.machine.run(*named, user="www-data").stdout == "200"
-    assert lab.machine.run(*ask, user="www-data").stdout == "401"
+    assert lab.machine.run(*who, user="www-data").stdout == "401"
     assert lab.machine.run(*named, user="ann", check=False).returncode == 7
+    command = [*ask, "-H", "x-what: command", "-H", "x-user: ann", "-H", "x-login: ann", "-d", '{"tags":[]}', "http://door/reservations"]
+    before = len(lab.look("/reservations")["reservations"])
+    lab.machine.wait("it sees the desk", "sh", "-c", f"[ \"$({' '.join(map(repr, command))})\" = 200 ] && echo yes")
+    assert len(lab.look("/reservations")["reservations"]) == before + 1
     assert lab.machine.run("stat", "-c", "%a %U %G", "/run/farm-door/socket").stdout == "660 farm-door www-data\n"
 
 

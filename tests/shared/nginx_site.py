@@ -86,8 +86,13 @@ class Site:
             site = site.replace(old, new)
         return site
 
+    def settle(self) -> None:
+        """Has one more request answered: nginx, which is one process, has then logged all that it answered before."""
+        assert self.curl("-o", "/dev/null", "/") == 0
+
     def asked_of_desk(self, since: float = 0) -> List[str]:
         """What was asked of the desk since a moment: a list of methods and paths."""
+        self.settle()
         with open(f"{self.folder}/asked.log", encoding="utf-8") as lines:
             rows = [line.split() for line in lines]
         return [f"{row[2]} {row[3]}" for row in rows if float(row[0]) >= since and row[4] != "-"]

@@ -1,9 +1,12 @@
 """How much each user has open at the desk, as it was seen a moment ago, and what was let through since."""
+import dataclasses
+import math
 import re
 import threading
 import time
-from typing import Dict, FrozenSet, List, Tuple
+from typing import Dict, List, Optional, Tuple
 
+from farm_door.rules import Group
 from fizgruk import calls
 from fizgruk.errors import Refused, Unreachable
 
@@ -11,6 +14,18 @@ EVERY = 2.0
 TOO_OLD = 30.0  # seconds after which nobody knows any more
 HOLDER = re.compile(r"(job|reservation) ([1-9][0-9]*)")
 JOBS, RESERVATIONS = "job", "reservation"
+WORDS = {JOBS: "open_jobs", RESERVATIONS: "open_reservations"}  # of the rules
+
+
+@dataclasses.dataclass(eq=False)
+class Passed:
+    """What was let through: of which kind, whose, of how many boards, and when it was answered, from when on a look at
+    the desk shows it."""
+
+    kind: str
+    owner: str
+    boards: int
+    answered: float = math.inf
 
 
 class Counts:
@@ -21,7 +36,7 @@ class Counts:
         self.lock = threading.Lock()
         self.owners: Dict[Tuple[str, int], str] = {}
         self.open: Dict[Tuple[str, str], int] = {}
-        self.passed: List[Tuple[float, str, str]] = []
+        self.passed: List[Passed] = []
         self.seen = float("-inf")
 
     def run(self) -> None:
@@ -49,7 +64,7 @@ class Counts:
             found[key[0], owner] = found.get((key[0], owner), 0) + 1
         with self.lock:
             self.owners, self.open, self.seen = held, found, began
-            self.passed = [it for it in self.passed if it[0] >= began]
+            self.passed = [it for it in self.passed if it.answered >= began]
 
     def _owner_of(self, key: Tuple[str, int], held: Dict[Tuple[str, int], str]) -> str:
         kind, number = key
@@ -61,17 +76,23 @@ class Counts:
                 self.owners[RESERVATIONS, row["number"]] = row["owner"]
         return self.owners.get(key, "")
 
-    def let(self, kind: str, login: str, groups: "List[tuple[str, FrozenSet[str], int]]") -> str:
-        """Lets one more through, and counts it until it is seen; or says whose limit is met."""
-        now = time.monotonic()
+    def let(self, asked: Passed, groups: List[Group]) -> Optional[Group]:
+        """Lets one more through, and counts it until it is seen; or returns whose limit is met."""
         with self.lock:
-            for name, members, most in groups:
-                count = sum(self.open.get((kind, it), 0) for it in members)
-                count += sum(it[1] == kind and it[2] in members for it in self.passed)
-                if count >= most:
-                    return name
-            self.passed.append((now, kind, login))
-        return ""
+            for it in groups:
+                count = sum(self.open.get((asked.kind, name), 0) for name in it.members)
+                count += sum(one.boards for one in self.passed if one.kind == asked.kind and one.owner in it.members)
+                if count + asked.boards > getattr(it.limits, WORDS[asked.kind]):
+                    return it
+            self.passed.append(asked)
+        return None
+
+    def answer(self, asked: Passed, is_done: bool) -> None:
+        """What was let through was answered; where it isn't done, it counts no more."""
+        with self.lock:
+            if not is_done:
+                self.passed.remove(asked)
+            asked.answered = time.monotonic()
 
     def are_known(self) -> bool:
         return time.monotonic() - self.seen < TOO_OLD

@@ -1,23 +1,35 @@
 """The file of rules: limits of users and teams, and who is an admin."""
 import dataclasses
-from typing import Any, Dict, FrozenSet, List, Tuple
+from typing import Any, Dict, FrozenSet, Iterable, List
 
 from fizgruk import toml_text
 from fizgruk._tools import disk
+from fizgruk.bounds import HIGHEST_PRIORITY
 from fizgruk.words import NAMES, BadFile
 
 LONGEST = 1_048_576
-WORDS = ("open_reservations", "open_jobs", "jobs_an_hour")
+# Each limit, and the most that it can be.
+WORDS = {"open_reservations": 1_000_000, "open_jobs": 1_000_000, "jobs_an_hour": 1_000_000, "highest_priority": HIGHEST_PRIORITY}
 UNLIMITED = ("admin", "dispatcher")
 
 
 @dataclasses.dataclass(frozen=True)
 class Limits:
-    """How much may be open, and asked for, at most. A lab of twenty meets none of these."""
+    """How much may be open, and asked for, at most, and how far ahead of others. A lab of twenty meets none of these."""
 
     open_reservations: int = 20
     open_jobs: int = 1000
     jobs_an_hour: int = 1000
+    highest_priority: int = HIGHEST_PRIORITY
+
+
+@dataclasses.dataclass(frozen=True)
+class Group:
+    """A user, or a team, whose members' requests count together."""
+
+    name: str
+    members: FrozenSet[str]
+    limits: Limits
 
 
 @dataclasses.dataclass(frozen=True)
@@ -30,12 +42,12 @@ class Rules:
     teams: Dict[str, FrozenSet[str]]
     admins: FrozenSet[str]
 
-    def groups_of(self, user: str) -> List[Tuple[str, FrozenSet[str], Limits]]:
-        """What a user's requests count for: the user, and each team with limits, by name, members and limits."""
-        found = [(user, frozenset((user,)), self.own.get(user, self.limits))]
+    def groups_of(self, user: str) -> List[Group]:
+        """What a user's requests count for: the user, and each team with limits."""
+        found = [Group(user, frozenset((user,)), self.own.get(user, self.limits))]
         for name, members in self.teams.items():
             if user in members and name in self.own:
-                found.append((f"team {name}", members, self.own[name]))
+                found.append(Group(f"team {name}", members, self.own[name]))
         return found
 
     def is_unlimited(self, user: str) -> bool:
@@ -63,8 +75,8 @@ def rules_in(file: str) -> Rules:
 def _limits_of(table: Dict[str, Any], usual: Limits, what: str) -> Limits:
     _knows(table, WORDS, f"[{what}]")
     for word, value in table.items():
-        if type(value) is not int or not 0 <= value <= 1_000_000:
-            raise BadFile(f"{what}.{word} is no number from 0 to 1,000,000")
+        if type(value) is not int or not 0 <= value <= WORDS[word]:
+            raise BadFile(f"{what}.{word} is no number from 0 to {WORDS[word]:,}")
     return dataclasses.replace(usual, **table)
 
 
@@ -75,7 +87,7 @@ def _table(tree: Dict[str, Any], name: str) -> Dict[str, Any]:
     return found
 
 
-def _knows(table: Dict[str, Any], words: Tuple[str, ...], what: str) -> None:
+def _knows(table: Dict[str, Any], words: Iterable[str], what: str) -> None:
     for word in table:
         if word not in words:
             raise BadFile(f"{what} has no key {word!r}: there are {', '.join(words)}")

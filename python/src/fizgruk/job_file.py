@@ -48,7 +48,10 @@ def limit_fault_of(data: bytes) -> Optional[str]:
 
 def wants_of(data: bytes) -> List[Want]:
     """The boards that a job file which follows the rules asks for."""
-    tree = toml_text.tree_of(data.decode())
+    return wants_in(toml_text.tree_of(data.decode()))
+
+
+def wants_in(tree: Dict[str, Any]) -> List[Want]:
     if "roles" not in tree:
         return [Want(tree["device_type"], tuple(tree.get("tags", ())))]
     roles = [tree["roles"][it] for it in sorted(tree["roles"], key=str.encode)]

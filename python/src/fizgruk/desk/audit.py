@@ -15,12 +15,15 @@ LAST = 50
 LONGEST = 262_144  # bytes of a line
 MOST_LOOKS = 2_000  # at jobs, which the desk is asked for one by one
 NUMBERED = re.compile(r"[A-Z]+ /(jobs|reservations)/([1-9][0-9]{0,8})/")
+NUMBER = re.compile("[1-9][0-9]{0,8}")
+MADE = {"POST /jobs": "jobs", "POST /reservations": "reservations"}
 COLUMNS: List[tables.Column] = [
     ("AT", lambda it: it["at"]),
     ("LOGIN", lambda it: it["login"]),
     ("FROM", lambda it: it["from"]),
     ("COMMAND", lambda it: tables.printable(it["command"])),
     ("BODY", lambda it: tables.printable(it["body"])),
+    ("ANSWER", lambda it: tables.printable(number_in(it) or "-")),
 ]
 Row = Dict[str, Any]
 
@@ -59,13 +62,22 @@ def row_of(line: bytes) -> Optional[Row]:
 
 
 def is_about(row: Row, board: str, board_of: Callable[[str, int], str]) -> bool:
-    """Whether a command concerns a board: by its path, by its body, or by what it is a command to."""
+    """Whether a command concerns a board: by its path, by its body, or by what it is a command to, or made."""
     if f"{row['command']}/".partition(" /boards/")[2].partition("/")[0] == board:
         return True
     numbered = NUMBERED.match(row["command"])
     if numbered:
         return board_of(numbered.group(1), int(numbered.group(2))) == board
+    made, number = MADE.get(row["command"]), number_in(row)
+    if made and number and board_of(made, int(number)) == board:
+        return True
     return _names(row["body"], board)
+
+
+def number_in(row: Row) -> str:
+    """The number of the job or the reservation that a command was answered, where the line has it."""
+    number = row.get("number")
+    return number if isinstance(number, str) and NUMBER.fullmatch(number) else ""
 
 
 def _names(body: str, board: str) -> bool:
