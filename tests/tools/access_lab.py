@@ -27,6 +27,7 @@ SLOW = "slow"  # a board as slow as a serial line of 115200 baud
 PYTHON = "/usr/bin/python3"
 # What starts farm-access. {before} may spoil it, in trials that have to fail.
 LAUNCHER = """\
+#!/usr/bin/python3
 import sys
 sys.path.insert(0, {tools!r})
 {before}
@@ -144,6 +145,7 @@ class Lab:
         self.write("pdudaemon.conf", json.dumps(self.pdus()))
         launcher = self.path("farm-access.py")
         self.write("farm-access.py", LAUNCHER.format(tools=TOOLS, before=before, file=launcher))
+        os.chmod(launcher, 0o755)
         self.access = f"{PYTHON} {launcher} --file {self.path('access.toml')}"
         self.write("sshd.conf", self.sshd_conf())
         # (the lab's account may not write bytecode, and would read the sources at each start)

@@ -1,16 +1,20 @@
-"""Jobs of farm-dispatch go to their boards by the same locks as people, and leave nothing behind."""
+"""Jobs of farm-dispatch go to their boards by the same locks and ways as people, and leave nothing behind: those of
+labgrid and of LAVA's dispatcher too."""
 from __future__ import annotations
 
+import contextlib
 import os
 import signal
 import subprocess
+import threading
 import time
 from typing import Any, Iterator
 
 import access_lab
 import pytest
 from access_lab import PYTHON, Lab, until
-from served import STARTED, TOOLS, Farm
+from served import STARTED, TOOLS, TOP, Farm
+from test_boards_run import wants_way
 
 pytestmark = [pytest.mark.xdist_group("access"), pytest.mark.slow(60)]
 # Runs the line `run` of a job's text.
@@ -18,6 +22,48 @@ RUNS = """\
 #!/bin/sh
 eval "$(sed -n "s/^run = '\\(.*\\)'$/\\1/p" "$FARM_JOB_FILE")"
 """
+# b1 says that it is up once it is switched on, and has what runs between two holds among what it received.
+OF_B1 = """
+[[ways]]
+boards = "b1"
+power = {{ on = ["/bin/sh", "-c", "printf 'the board is up\\\\r\\\\nboard:/# ' > {place}/b1.tty"], off = ["/bin/true"] }}
+after = ["/bin/sh", "-c", "echo b1 >> {place}/after; printf '<after>' > {place}/b1.tty"]
+
+[[ways]]
+boards = "b2"
+gone = ["/no/such/command"]
+"""
+LABGRID = """[labgrid]
+test = \'\'\'
+from labgrid.protocol import ConsoleProtocol, PowerProtocol
+
+def test_answers(target):
+    console = target.get_driver(ConsoleProtocol)
+    target.get_driver(PowerProtocol).cycle()
+    console.expect("the board is up", timeout=60)
+    console.sendline("typed by a test")
+    console.expect("typed by a test", timeout=60)
+\'\'\'
+"""
+DEVICE = """\
+device_info: {}
+available_architectures: [amd64]
+actions:
+  deploy: {connections: {serial: {}}, methods: {}}
+  boot: {connections: {serial: {}}, methods: {minimal: {}}}
+commands: {connect: telnet lab 7001, hard_reset: /bin/false}
+constants: {boot_retry: 1, failure_retry: 1, kernel-start-message: '', spawn_maxread: 4092, default-shell-prompt: '#'}
+timeouts: {actions: {}, connections: {}}
+"""
+LAVA = """[lava]
+definition = \'\'\'
+job_name: boots
+timeouts: {job: {minutes: 5}, action: {minutes: 3}, connection: {minutes: 3}}
+actions:
+- boot: {method: minimal, prompts: ['board:/#']}
+\'\'\'
+"""
+OF_WAYS = {"labgrid": LABGRID, "lava": LAVA}
 
 
 @pytest.fixture(scope="module")
@@ -25,7 +71,9 @@ def lab(program: str, tmp_path_factory: pytest.TempPathFactory) -> Iterator[Lab]
     def farm(boards: Any) -> Farm:
         return Farm(program, str(tmp_path_factory.mktemp("farm")), boards)
 
-    made = access_lab.make(farm, after="echo {board} >> PLACE/after")
+    ways = access_lab.WAYS + OF_B1
+    made = access_lab.make(farm, after="echo {board} >> PLACE/after", ways=ways)
+    made.write("device.yaml", DEVICE)
     made.write("run-job", RUNS)
     os.chmod(made.path("run-job"), 0o755)
     words = [PYTHON, os.path.join(TOOLS, "farm-dispatch"), "--folder", made.path("dispatch"), "--every", "0.3"]
@@ -47,6 +95,15 @@ def submit(lab: Lab, run: str, board: str = "b2") -> int:
 def log_of(lab: Lab, number: int) -> str:
     with open(lab.path("dispatch", "jobs", str(number), "log"), encoding="utf-8", errors="replace") as file:
         return file.read()
+
+
+def feed(line: "subprocess.Popen[bytes]") -> None:
+    """Types without pause, as long as anybody reads it."""
+    assert line.stdin
+    with contextlib.suppress(OSError, ValueError):
+        while True:
+            line.stdin.write(b"ann")
+            line.stdin.flush()
 
 
 def test_a_job_has_its_board_s_lock_and_its_own_environment(lab: Lab) -> None:
@@ -132,3 +189,48 @@ def test_without_a_job_or_with_bad_words_nothing_runs(lab: Lab) -> None:
     for words in (["--", "touch", mark], ["job 1", "--", "touch", mark], ["job 1", "b1"], ["job 999", "b1", "--", "touch", mark]):
         assert lab.try_words([*lab.access.split(), "run", *words]).status in (2, 6)
     assert not os.path.exists(mark)
+
+
+# ---- the ways within a job
+
+
+@pytest.mark.parametrize("way", ["labgrid", "lava"])
+def test_what_drives_boards_goes_by_their_ways(lab: Lab, way: str) -> None:
+    """A person who types until the hold's end is out, and `after` has run, before the job's first byte; what the console
+    said in the job is the owner's to read."""
+    wants_way(way)
+    held = lab.reserve("ann", "b1")
+    line = lab.begin("ann", "b1", "console")
+    threading.Thread(target=feed, args=(line,), daemon=True).start()
+    until(lambda: lab.text("b1").endswith(b"ann"))
+    number = lab.farm.submit(f"exec {TOP}/examples/run-job-{way} --ways {lab.place}", more=f'tags = ["name=b1"]\n{OF_WAYS[way]}')
+    before = len(lab.text("b1"))
+    lab.cancel("ann", held)
+    assert ended(lab, number) == "Complete", log_of(lab, number)
+    said = lab.text("b1")[before:]
+    assert said.count(b"<after>the board is up") == 1 and said.rindex(b"ann") < said.index(b"<after>"), said
+    assert way == "lava" or b"typed by a test" in said
+    log = lab.session(lab.farm.job(number)["owner"], "b1", "console", "--log")
+    assert b"the board is up" in log.output, log
+
+
+def test_a_job_s_ways_are_its_own_boards_alone(lab: Lab) -> None:
+    """And of its session nothing is left but that of the job itself."""
+    held = lab.reserve("ann", "b1")
+    run = "$FARM_WAY b2 say one; $FARM_WAY b1 say two; echo =$?; $FARM_WAY b2 say --as-admin; echo =$?; $FARM_WAY b2 ways"
+    number = submit(lab, f"{run}; $FARM_WAY b2 gone; echo =$?; echo files=$(ls {lab.path('run')} | grep -c session)")
+    assert ended(lab, number) == "Complete"
+    assert log_of(lab, number).replace("\r", "").splitlines() == [
+        "one", "farm-access: b1 is no board of this job's", "=5", "farm-access: b2 is no board of this job's", "=5",
+        "console", "env", "gone", "nasty", "power on|off|cycle", "say", "sleep", f"tcp {lab.echo}",
+        "farm-access: /no/such/command: No such file or directory", "=127", "files=1",
+    ]
+    lab.cancel("ann", held)
+
+
+def test_a_job_s_console_ends_as_it_is_told_and_with_who_reads_it(lab: Lab) -> None:
+    begins = "$FARM_WAY b2 console < /dev/zero"
+    many = "while ls {0} | grep -q session && [ $(ls {0} | grep -c session) -gt 1 ]; do sleep 0.1; done".format(lab.path("run"))
+    number = submit(lab, f"timeout --preserve-status 3 {begins} > /dev/null; echo =$?; {begins} | head -c 9 > /dev/null; {many}; echo ended")
+    assert ended(lab, number) == "Complete"
+    assert log_of(lab, number).splitlines() == ["=4", "ended"]

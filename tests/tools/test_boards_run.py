@@ -8,6 +8,7 @@ from __future__ import annotations
 
 import glob
 import gzip
+import json
 import os
 import runpy
 import shutil
@@ -381,14 +382,14 @@ def test_check(
 # ---- the commands without a dispatcher, nor a board that boots
 
 
-def status_of(way: str, folder: str, text: str, boards: str = "q1") -> int:
+def status_of(way: str, folder: str, text: str, boards: str = "q1", *options: str) -> int:
     """The status of a command for a text; the folder has the files of the board."""
     place = os.path.join(folder, "job")
     os.makedirs(place, exist_ok=True)
     file = os.path.join(place, "job.toml")
     write(file, text)
     ran = subprocess.run(
-        [os.path.join(TOP, "examples", f"run-job-{way}"), folder],
+        [os.path.join(TOP, "examples", f"run-job-{way}"), *options, folder],
         env={**os.environ, "FARM_FOLDER": place, "FARM_BOARDS": boards, "FARM_JOB": "1", "FARM_JOB_FILE": file},
         cwd=place, check=False, capture_output=True, text=True, timeout=300,
     )
@@ -413,6 +414,28 @@ def test_what_isnt_asked(way: str, table: str, folder: str) -> None:
     other, number = f"[{way}]\nother = 'x'", f"[{way}]\n{table[:-2]}1"
     bad = ("", "= no TOML", f"{way} = 3", other, number)
     assert {it: status_of(way, folder, it) for it in bad} == dict.fromkeys(bad, 1)
+
+
+@pytest.mark.usefixtures("debians_python")
+@pytest.mark.parametrize("way, text", [("labgrid", "[labgrid]\ntest = ''\n"), ("lava", "[lava]\ndefinition = 'actions: []'\n")])
+def test_no_ways_without_farm_access(way: str, text: str, folder: str) -> None:
+    write(os.path.join(folder, "device.yaml"), "{}")
+    assert status_of(way, folder, text, "q1", "--ways") == 75
+
+
+@pytest.mark.usefixtures("debians_python")
+def test_lava_has_a_board_s_ways_in_the_place_of_its_device_s_own(folder: str, monkeypatch: pytest.MonkeyPatch) -> None:
+    monkeypatch.setenv("FARM_WAY", "farm-access way")
+    other = {"connect": "telnet lab 7002", "tags": ["logs"]}
+    connections = {"uart0": {"connect": "telnet lab 7001", "tags": ["primary", "telnet"]}, "uart1": other}
+    device = os.path.join(folder, "of_lab.yaml")
+    write(device, json.dumps({"commands": {"connections": connections, "hard_reset": "x", "pre_os_command": "usb"}}))
+    by_ways = runpy.run_path(os.path.join(TOP, "examples", "run-job-lava"))["by_ways"]
+    assert json.loads(read(by_ways(device, "q1", folder)))["commands"] == {
+        "connections": {"way": {"connect": "farm-access way q1 console", "tags": ["primary"]}, "uart1": other},
+        "hard_reset": "farm-access way q1 power cycle", "power_on": "farm-access way q1 power on",
+        "power_off": "farm-access way q1 power off", "pre_os_command": "usb",
+    }
 
 
 UP = "import pytest\n@pytest.fixture\ndef up():\n    raise {}\ndef test(up): pass\n"

@@ -83,6 +83,19 @@ def code_of(status: int) -> int:
     return code if code >= 0 else 128 - code
 
 
+def become(words: Sequence[str], environment: Dict[str, str]) -> None:
+    """Becomes a command, within a child: it may have all signals."""
+    for number in USUAL:
+        signal.signal(number, signal.SIG_DFL)
+    try:
+        os.execvpe(words[0], list(words), environment)
+    except OSError as fault:
+        with contextlib.suppress(OSError):
+            os.write(2, f"farm-access: {words[0]}: {fault.strerror}\r\n".encode())
+    finally:
+        os._exit(NO_COMMAND)
+
+
 def _pids(mark: str) -> List[int]:
     kind, _, value = mark.partition(":")
     if kind == "pidns":
@@ -127,13 +140,13 @@ def _enter(form: str, cgroup: str) -> str:
 def _run(words: Sequence[str], environment: Dict[str, str]) -> None:
     """Becomes the command, or, as the first of a namespace, waits for it and for whom it leaves
     behind."""
-    for number in USUAL:
-        signal.signal(number, signal.SIG_DFL)
     if os.getpid() != 1:
-        _become(words, environment)
+        become(words, environment)
     command = os.fork()
     if command == 0:
-        _become(words, environment)
+        become(words, environment)
+    for number in USUAL:
+        signal.signal(number, signal.SIG_DFL)
     for number in (signal.SIGINT, signal.SIGQUIT):
         signal.signal(number, signal.SIG_IGN)
     signal.signal(signal.SIGHUP, _hand_on)
@@ -141,16 +154,6 @@ def _run(words: Sequence[str], environment: Dict[str, str]) -> None:
         pid, status = os.wait()
         if pid == command:
             os._exit(code_of(status))
-
-
-def _become(words: Sequence[str], environment: Dict[str, str]) -> None:
-    try:
-        os.execvpe(words[0], list(words), environment)
-    except OSError as fault:
-        with contextlib.suppress(OSError):
-            os.write(2, f"farm-access: {words[0]}: {fault.strerror}\r\n".encode())
-    finally:
-        os._exit(NO_COMMAND)
 
 
 def _hand_on(number: int, _frame: object) -> None:

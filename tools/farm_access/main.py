@@ -10,7 +10,8 @@ from fizgruk._tools import parsers
 from fizgruk.words import BadFile
 
 BAD_WORDS, FAULT = 2, 4
-SESSION, KEYS, GUARD, TIDY, RUN, CHECK = "session", "keys", "guard", "tidy", "run", "check"
+SESSION, KEYS, GUARD, TIDY, RUN, WAY = "session", "keys", "guard", "tidy", "run", "way"
+CHECK = "check"
 ABOUT = """\
 Lets people to the boards that they hold, and to no others: to a board's console, its power, ports \
 of its address, and a lab's own commands, which FILE has. It is what an sshd of its own runs, \
@@ -39,6 +40,9 @@ COMMANDS = {
     RUN: """\
 Run a job's command under its boards' locks. Within a job of farm-dispatch(8) the boards are that \
 job's, and 'farm-access run -- COMMAND' is the command that farm-dispatch runs.""",
+    WAY: """\
+Serve a session's words within such a job, whose environment has in 'FARM_WAY' what goes before them: \
+as '$FARM_WAY b1 console', '$FARM_WAY b1 power cycle'.""",
     CHECK: "Say for each board which way answers. A board that is in use isn't tried.",
 }
 
@@ -59,6 +63,9 @@ def parser_of() -> parsers.Parser:
     about = "HOLD and the boards, as '\"job 12\" b1', or none within farm-dispatch; '--'; the command."
     made[RUN].add_argument("words", metavar="WORD", nargs=argparse.REMAINDER, help=about)
     made[RUN].forms = ("farm-access run [HOLD BOARD ..] -- COMMAND ..",)
+    about = "A session's words, the board first."
+    made[WAY].add_argument("words", metavar="WORD", nargs=argparse.REMAINDER, help=about)
+    made[WAY].forms = ("farm-access way BOARD WORD ..",)
     return parser
 
 
@@ -97,7 +104,9 @@ def serve(found: Site, options: argparse.Namespace) -> int:
         if options.command == TIDY:
             return guard.tidy(found, options.board)
         if options.command == RUN:
-            return run.run(found, options.words, usual)
+            return run.run(found, options.file, options.words, usual)
+        if options.command == WAY:
+            return run.way(found, options.words)
         return check.check(found, options.boards)
     except work.Refusal as refusal:
         work.say(str(refusal))

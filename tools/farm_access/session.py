@@ -186,7 +186,7 @@ class At:
         self.work.end(self.run(command), "")
 
     def run(self, command: Sequence[str]) -> int:
-        child = self.work.start(command)
+        child = self.work.command(command)
         return self.work.wait_for(lambda: cage.status_of(child))
 
 

@@ -49,6 +49,8 @@ def session_of(holds: Dict[str, str], person: str, way: str, folder: str = "") -
 class Work:
     """A session, from before it waits for its boards to its end, which ends the process."""
 
+    heeds = True  # it ends where it is told to, or nobody takes what it says
+
     def __init__(
         self, site: Site, lookout: Lookout, session: Session, patience: float = 1e9,
         sees: bool = True,
@@ -123,6 +125,10 @@ class Work:
             found["TERM"] = os.environ["TERM"]
         return found
 
+    def command(self, words: Sequence[str]) -> int:
+        """Starts a command of the session's. Returns the process to wait for."""
+        return self.start(words)
+
     def after(self, board: str) -> bool:
         """What the lab runs between two parties, in a cage too. Returns whether the board may be
         used."""
@@ -155,7 +161,7 @@ class Work:
             found = status()
             if found is not None:
                 return found
-            if self.told_to_end or (gone.poll(STEP * 1000) and not self.session.folder):
+            if self.told_to_end or (gone.poll(STEP * 1000) and self.heeds):
                 self.end(FAULT, "")
             if not self.is_mine():
                 names = " ".join(self.session.holds)
@@ -165,34 +171,27 @@ class Work:
                 time.sleep(STEP)
 
     def _told(self, number: int, _frame: object) -> None:
-        """A job's command is told by farm-dispatch itself, and has its grace."""
-        if not self.session.folder:
+        if self.heeds:
             self.told_to_end = number
 
     def end(self, status: int, text: str) -> NoReturn:
         """Ends the session and all that it started, whatever hangs."""
         if text:
             say(text)
-        is_empty = self._ended_job() if self.session.folder else self._ended_cages()
+        is_empty = self.ended()
         sessions.write_down(self.site.log, self.session, f"status {status}")
         if is_empty:
             self.own.drop()
         os._exit(status)
 
-    def _ended_cages(self) -> bool:
+    def ended(self) -> bool:
+        """Ends what the session started. Returns whether nothing of it can be left."""
         for mark in self.session.marks:
             cage.hang_up(mark)
         until = time.monotonic() + HANGUP
         while self.child and time.monotonic() < until and cage.status_of(self.child) is None:
             time.sleep(STEP / 2)
         return self._emptied(list(self.session.marks))
-
-    def _ended_job(self) -> bool:
-        """Ends a job's command. Its cage is farm-dispatch's, which empties it; until the job has
-        ended there the session's file says so."""
-        if self.child and cage.status_of(self.child) is None:
-            os.kill(self.child, signal.SIGKILL)
-        return not self.session.marks
 
     def _emptied(self, marks: Sequence[str]) -> bool:
         done = True
