@@ -230,7 +230,8 @@ def test_a_job_s_ways_are_its_own_boards_alone(lab: Lab) -> None:
 
 def test_a_job_s_console_ends_as_it_is_told_and_with_who_reads_it(lab: Lab) -> None:
     begins = "$FARM_WAY b2 console < /dev/zero"
-    many = "while ls {0} | grep -q session && [ $(ls {0} | grep -c session) -gt 1 ]; do sleep 0.1; done".format(lab.path("run"))
-    number = submit(lab, f"timeout --preserve-status 3 {begins} > /dev/null; echo =$?; {begins} | head -c 9 > /dev/null; {many}; echo ended")
+    others = f"while [ $(ls {lab.path('run')} | grep -c session) -gt 1 ]; do sleep 0.1; done"
+    run = f"timeout --preserve-status 3 {begins} > /dev/null; echo =$?; {begins} | head -c 9 > /dev/null; {others}; echo ended"
+    number = submit(lab, run)
     assert ended(lab, number) == "Complete"
     assert log_of(lab, number).splitlines() == ["=4", "ended"]
