@@ -40,7 +40,8 @@ stands() {
 
 does lintian --allow-root --fail-on error,warning ./*.deb
 echo "package: lintian has no warning"
-apt-get install -qq -y --no-install-recommends python3-yaml > "$log" 2>&1 || fail "$(tail -n 3 "$log")"
+apt-get install -qq -y --no-install-recommends openssh-server python3-argcomplete python3-prometheus-client \
+    python3-yaml > "$log" 2>&1 || fail "$(tail -n 3 "$log")"
 stands > /tmp/before
 
 # ---- the client alone
@@ -203,7 +204,7 @@ dpkg -S /etc/farm/run-job | grep -q '^fizgruk-farm:' || fail "whose the admin's 
 systemctl enable -q --now farm-dispatch
 upgrade
 unit farm-dispatch enabled active 'an upgrade after the one from 2.0'
-does apt-get purge -y fizgruk-farm fizgruk-desk python3-fizgruk
+does apt-get purge -y fizgruk-access fizgruk-farm fizgruk-desk python3-fizgruk
 rm -rf $home
 stands | diff /tmp/before - || fail "purging after 2.0 leaves files"
 install ../old.deb

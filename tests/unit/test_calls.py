@@ -276,9 +276,9 @@ def test_a_job_that_is_open_has_its_texts_name(view: Dict[str, Any], name: str) 
 
 def test_a_desk_that_refuses_a_view_isnt_taken_for_one_without_the_job() -> None:
     desk = Served(**{"jobs/7": Refused(404, Code.NO_SUCH_JOB, "no such job"), "jobs/8": Refused(401, 0, "no")})
-    assert history.view_of(desk, 7) is None
+    assert calls.job_of(desk, 7) is None
     with pytest.raises(Refused, match="401"):
-        history.view_of(desk, 8)
+        calls.job_of(desk, 8)
 
 
 # ---- a reservation

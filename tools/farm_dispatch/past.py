@@ -6,10 +6,9 @@ import time
 from typing import Any, Dict, Iterable, List, Optional, Set, Tuple
 
 from farm_dispatch import folders, strangers
-from fizgruk import calls, records, toml_text
+from fizgruk import calls, job_file, records
 from fizgruk._tools import disk
 from fizgruk.bounds import MOST_WANTS
-from fizgruk.errors import Code, Refused
 from fizgruk.submissions import Submissions
 
 LONGEST_NAME = 200
@@ -110,12 +109,10 @@ class Past:
             return _checked(json.loads(said))
         boards = json.loads(strangers.text_in(os.path.join(folder, folders.BOARD_ROWS)) or "[]")
         numbers = [it["job"] for it in boards]
-        try:
-            return _about([self.desk.look(f"/jobs/{it}") for it in numbers])
-        except Refused as refusal:
-            if refusal.code != Code.NO_SUCH_JOB:
-                raise
+        views = [it for it in (calls.job_of(self.desk, number) for number in numbers) if it]
+        if len(views) < len(numbers):
             return {"owner": "", "name": "", "members": []}  # another farm's
+        return _about(views)
 
     def _submitted(self, number: int, began: int) -> Optional[int]:
         """When a group that began then was submitted, where that is known."""
@@ -126,14 +123,9 @@ class Past:
 
     def _result_of(self, member: Dict[str, Any], owner: str) -> str:
         """How a job ended, as the desk says; nothing where that doesn't know it any more."""
-        try:
-            view = self.desk.look(f"/jobs/{member['job']}")
-        except Refused as refusal:
-            if refusal.code != Code.NO_SUCH_JOB:
-                raise
-            return ""
-        is_it = (view["owner"], view["board"]) == (owner, member["board"])
-        return str(view["result"]) if is_it else ""
+        view = calls.job_of(self.desk, member["job"])
+        is_it = view and (view["owner"], view["board"]) == (owner, member["board"])
+        return str(view["result"]) if view and is_it else ""
 
 
 def _about(members: List[Dict[str, Any]]) -> Dict[str, Any]:
@@ -141,7 +133,7 @@ def _about(members: List[Dict[str, Any]]) -> Dict[str, Any]:
     first = members[0]
     return {
         "owner": first["owner"],
-        "name": records.CHECK if first["kind"] == "check" else _name_in(first["text"]),
+        "name": records.CHECK if first["kind"] == "check" else job_file.name_of(first["text"])[:LONGEST_NAME],
         "members": [
             {"job": it["number"], "board": it["board"], "type": it["type"]} for it in members
         ],
@@ -155,15 +147,6 @@ def _checked(about: Any) -> Dict[str, Any]:
     if not all(isinstance(it, str) for it in texts) or not all(type(it) is int for it in numbers):
         raise strangers.Strange(f"{folders.ABOUT} isn't what the dispatcher wrote")
     return dict(about)
-
-
-def _name_in(text: str) -> str:
-    """The name that a job's text has."""
-    try:
-        name = toml_text.tree_of(text).get("job_name")
-    except toml_text.NotToml:
-        return ""
-    return name[:LONGEST_NAME] if isinstance(name, str) else ""
 
 
 def _members_of(groups: Iterable[int]) -> Set[int]:

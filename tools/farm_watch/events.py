@@ -4,7 +4,7 @@ from typing import Any, Dict, List, Sequence, Tuple
 
 from farm_watch.rules import Rules
 from farm_watch.store import Event
-from fizgruk import limits, toml_text
+from fizgruk import job_file, limits
 from fizgruk._tools import tables
 
 MOST_JOBS, MOST_RESERVATIONS, MOST_REPLIES = 100_000, 100_000, 300_000
@@ -174,13 +174,7 @@ class Events:
         )
 
 
-ENDED = [
-    ("NUMBER", lambda it: it["number"]),
-    ("RESULT", lambda it: it["result"]),
-    ("BOARD", lambda it: it["board"] or "-"),
-    ("TYPE", lambda it: it["type"]),
-    ("ROLE", lambda it: it["role"] or "-"),
-]
+ENDED = tables.of("number", "result", "board", "type", "role")
 
 
 def fullness(status: Dict[str, Any]) -> float:
@@ -203,10 +197,6 @@ def moment(at: float) -> str:
 
 def title_of(text: str) -> str:
     """The job_name of a job's text, in one line."""
-    try:
-        title = toml_text.tree_of(text).get("job_name")
-    except toml_text.NotToml:
-        return ""
-    words = title if isinstance(title, str) else ""
+    words = job_file.name_of(text)
     short = " ".join("".join(it if it.isprintable() else " " for it in words).split())
     return short if len(short) <= LONGEST_TITLE else f"{short[:LONGEST_TITLE - 2]}.."

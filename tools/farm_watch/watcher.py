@@ -15,7 +15,6 @@ from farm_watch.room import Room
 from farm_watch.rules import Rules
 from farm_watch.store import Seen, Store, nothing
 from fizgruk import calls, wants
-from fizgruk.errors import Code, Refused
 
 MOST_JOBS = 200  # jobs that a look asks for one by one; the next look goes on
 
@@ -153,14 +152,6 @@ class Watcher:
         self.left -= jobs
         return True
 
-    def _job(self, number: int) -> Optional[Dict[str, Any]]:
-        try:
-            return self.desk.look(f"/jobs/{number}")
-        except Refused as refusal:
-            if refusal.code != Code.NO_SUCH_JOB:
-                raise
-            return None
-
     def _new_jobs(self, seen: Seen, look: Look) -> None:
         """Takes up the jobs whose numbers were given since the look before: also one that has ended
         already is found so."""
@@ -191,7 +182,7 @@ class Watcher:
 
     def _take_up(self, seen: Seen, number: int) -> None:
         """Takes up a job's group. A health check is told by its board."""
-        job = self._job(number)
+        job = calls.job_of(self.desk, number)
         if job is None or job["kind"] == "check":
             return
         group = str(job["group"])
@@ -212,7 +203,7 @@ class Watcher:
                     events.board_free("group", group, owner, boards)
                     seen["groups"][key] = [owner, size, False]
             elif self.may_ask(size):
-                members = [self._job(it) for it in range(group, group + size)]
+                members = [calls.job_of(self.desk, it) for it in range(group, group + size)]
                 found = [it for it in members if it is not None and it["group"] == group]
                 if all(it["state"] == "Finished" for it in found):
                     del seen["groups"][key]
@@ -240,7 +231,7 @@ class Watcher:
     def _why_bad(self, name: str) -> str:
         """The health check that ended on a board, as far as the look before saw it."""
         kind, _, number = self.before.get(name, {}).get("holder", "none").partition(" ")
-        job = self._job(int(number)) if kind == "job" else None
+        job = calls.job_of(self.desk, int(number)) if kind == "job" else None
         if job is None or job["kind"] != "check" or not job["result"]:
             return ""
         return f"Its health check, job {number}, has ended {job['result']}."

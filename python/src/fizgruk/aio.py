@@ -10,45 +10,24 @@ answers, restarts and losses is the same. A wait that is canceled ends within it
 """
 import asyncio
 import contextlib
-import datetime
 import functools
 import threading
 from types import TracebackType
 from typing import (
-    Any,
-    AsyncIterator,
-    Awaitable,
-    Callable,
-    List,
-    Literal,
-    Optional,
-    Sequence,
-    Type,
-    TypeVar,
-    Union,
+    TYPE_CHECKING, Any, AsyncIterator, Awaitable, Callable, Coroutine, Optional, Type, TypeVar, Union
 )
 
 from fizgruk import waiting
-from fizgruk.client import HOUR, LAST, LOG, Client
+from fizgruk.client import HOUR, LOG, Client
 from fizgruk.errors import HoldLost
 from fizgruk.holding import Hold, Priority
-from fizgruk.models import (
-    Board,
-    BoardView,
-    Check,
-    Claim,
-    Health,
-    HealthChange,
-    JobView,
-    Outcome,
-    PassCounts,
-    PastJob,
-    ReservationView,
-    Status,
-    TypeView,
-    Use,
-)
+from fizgruk.models import Board
 from fizgruk.waiting import Tell
+
+if TYPE_CHECKING:  # (Python 3.9 hasn't these, and type checkers know them of themselves)
+    from typing_extensions import Concatenate, ParamSpec
+
+    Given = ParamSpec("Given")
 
 Found = TypeVar("Found")
 Own = TypeVar("Own", bound="AsyncClient")
@@ -145,6 +124,18 @@ class AsyncHold:
             self._task.cancel()
 
 
+def awaited(
+    method: "Callable[Concatenate[Client, Given], Found]",
+) -> "Callable[Concatenate[AsyncClient, Given], Coroutine[Any, Any, Found]]":
+    """A method of Client's, of the same name, words and type, to be awaited."""
+
+    @functools.wraps(method)
+    async def call(self: "AsyncClient", /, *words: "Given.args", **more: "Given.kwargs") -> Found:
+        return await in_thread(method, self._client, *words, **more)
+
+    return call
+
+
 class AsyncClient:
     """A desk, as one user sees it; what it is given is what `Client` is."""
 
@@ -168,131 +159,50 @@ class AsyncClient:
     async def __aexit__(self, *_: object) -> None:
         self.close()
 
-    # ---- views
+    types = awaited(Client.types)
+    boards = awaited(Client.boards)
+    queue = awaited(Client.queue)
+    reservations = awaited(Client.reservations)
+    job = awaited(Client.job)
+    group = awaited(Client.group)
+    status = awaited(Client.status)
 
-    async def types(self) -> List[TypeView]:
-        return await in_thread(self._client.types)
+    add_type = awaited(Client.add_type)
+    add_board = awaited(Client.add_board)
+    set_tags = awaited(Client.set_tags)
+    set_health = awaited(Client.set_health)
 
-    async def boards(self, *tags: str) -> List[BoardView]:
-        return await in_thread(self._client.boards, *tags)
+    submit = awaited(Client.submit)
+    resubmit = awaited(Client.resubmit)
+    run = awaited(Client.run)
+    cancel_job = awaited(Client.cancel_job)
+    wait_for_job = awaited(Client.wait_for_job)
 
-    async def queue(self) -> List[Claim]:
-        return await in_thread(self._client.queue)
+    log = awaited(Client.log)
+    history = awaited(Client.history)
+    usage = awaited(Client.usage)
 
-    async def reservations(self) -> List[ReservationView]:
-        return await in_thread(self._client.reservations)
+    reserve = awaited(Client.reserve)
+    wait_for_board = awaited(Client.wait_for_board)
+    acquire = awaited(Client.acquire)
+    release = awaited(Client.release)
+    refresh = awaited(Client.refresh)
+    cancel_reservation = awaited(Client.cancel_reservation)
 
-    async def job(self, number: int) -> JobView:
-        return await in_thread(self._client.job, number)
-
-    async def group(self, number: int) -> List[JobView]:
-        return await in_thread(self._client.group, number)
-
-    async def status(self) -> Status:
-        return await in_thread(self._client.status)
-
-    # ---- the admin's commands
-
-    async def add_type(
-        self, name: str, check: Check = "none", every: Optional[int] = None, *,
-        key: Optional[str] = None,
-    ) -> None:
-        await in_thread(self._client.add_type, name, check, every, key=key)
-
-    async def add_board(
-        self, name: str, type: str, tags: Sequence[str] = (), *, key: Optional[str] = None
-    ) -> None:
-        await in_thread(self._client.add_board, name, type, tags, key=key)
-
-    async def set_tags(
-        self, board: str, tags: Sequence[str], *, key: Optional[str] = None
-    ) -> None:
-        await in_thread(self._client.set_tags, board, tags, key=key)
-
-    async def set_health(
-        self, board: str, health: Health, *, key: Optional[str] = None
-    ) -> None:
-        await in_thread(self._client.set_health, board, health, key=key)
-
-    # ---- jobs
-
-    async def submit(self, text: Union[str, bytes], *, key: Optional[str] = None) -> int:
-        return await in_thread(self._client.submit, text, key=key)
-
-    async def resubmit(self, number: int, *, key: Optional[str] = None) -> int:
-        return await in_thread(self._client.resubmit, number, key=key)
-
-    async def run(
-        self, text: Union[str, bytes], timeout: Optional[float] = HOUR, *, every: float = 2.0,
-        tell: Tell = LOG.info, key: Optional[str] = None,
-    ) -> List[JobView]:
-        return await in_thread(
-            self._client.run, text, timeout, every=every, tell=tell, key=key
-        )
-
-    async def cancel_job(self, number: int, *, key: Optional[str] = None) -> int:
-        return await in_thread(self._client.cancel_job, number, key=key)
-
-    async def wait_for_job(
-        self, number: int, timeout: Optional[float] = HOUR, *, every: float = 2.0,
-        tell: Tell = LOG.info, cancel: bool = False,
-    ) -> List[JobView]:
-        return await in_thread(
-            self._client.wait_for_job, number, timeout, every=every, tell=tell, cancel=cancel
-        )
-
-    # ---- logs and the past
-
-    async def log(self, number: int) -> str:
-        return await in_thread(self._client.log, number)
+    call_pass = awaited(Client.call_pass)
+    start_job = awaited(Client.start_job)
+    finish_job = awaited(Client.finish_job)
 
     async def follow(
         self, number: int, timeout: Optional[float] = HOUR, *, every: float = 2.0
     ) -> AsyncIterator[str]:
+        """What a job says, piece by piece, as `Client.follow` gives it."""
         pieces = self._client.follow(number, timeout, every=every)
         while True:
             said: str = await in_thread(next, pieces, "")
             if not said:
                 return
             yield said
-
-    async def history(
-        self, board: Optional[str] = None, last: int = LAST
-    ) -> List[Union[PastJob, HealthChange]]:
-        return await in_thread(self._client.history, board, last)
-
-    async def usage(
-        self, since: Union[datetime.datetime, datetime.timedelta] = datetime.timedelta(days=30),
-        by: Literal["owner", "board", "type"] = "owner",
-    ) -> List[Use]:
-        return await in_thread(self._client.usage, since, by)
-
-    # ---- reservations
-
-    async def reserve(
-        self, *tags: str, priority: Priority = None, key: Optional[str] = None
-    ) -> int:
-        return await in_thread(self._client.reserve, *tags, priority=priority, key=key)
-
-    async def wait_for_board(
-        self, number: int, timeout: Optional[float] = HOUR, *, every: float = 2.0,
-        tell: Tell = LOG.info,
-    ) -> BoardView:
-        return await in_thread(
-            self._client.wait_for_board, number, timeout, every=every, tell=tell
-        )
-
-    async def acquire(self, number: int, *, key: Optional[str] = None) -> None:
-        await in_thread(self._client.acquire, number, key=key)
-
-    async def release(self, number: int, *, key: Optional[str] = None) -> None:
-        await in_thread(self._client.release, number, key=key)
-
-    async def refresh(self, number: int) -> None:
-        await in_thread(self._client.refresh, number)
-
-    async def cancel_reservation(self, number: int, *, key: Optional[str] = None) -> None:
-        await in_thread(self._client.cancel_reservation, number, key=key)
 
     def board(
         self, *tags: str, priority: Priority = None, timeout: Optional[float] = HOUR,
@@ -302,16 +212,3 @@ class AsyncClient:
         return AsyncHold(self._client.board(
             *tags, priority=priority, timeout=timeout, every=every, tell=tell, **wants
         ))
-
-    # ---- the dispatcher's commands
-
-    async def call_pass(self) -> PassCounts:
-        return await in_thread(self._client.call_pass)
-
-    async def start_job(self, number: int, *, key: Optional[str] = None) -> int:
-        return await in_thread(self._client.start_job, number, key=key)
-
-    async def finish_job(
-        self, number: int, outcome: Outcome, *, key: Optional[str] = None
-    ) -> int:
-        return await in_thread(self._client.finish_job, number, outcome, key=key)

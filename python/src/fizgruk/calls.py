@@ -325,6 +325,16 @@ def rows_of(desk: Looker, name: str) -> List[Row]:
     return rows
 
 
+def job_of(desk: Looker, number: int) -> Optional[Row]:
+    """A job's view, or None where there is no such job."""
+    try:
+        return desk.look(f"/jobs/{number}")
+    except Refused as refusal:
+        if refusal.code != Code.NO_SUCH_JOB:
+            raise
+        return None
+
+
 def members_of(desk: Looker, number: int) -> List[Row]:
     """The views of all members of a job's group, whether they hold boards or not: they have the
     numbers from the group's own on, and roles, if they are more than one."""
@@ -333,13 +343,8 @@ def members_of(desk: Looker, number: int) -> List[Row]:
         first = desk.look(f"/jobs/{first['group']}")
     found = [first]
     while first["role"] and len(found) < MOST_WANTS:
-        try:
-            view = desk.look(f"/jobs/{first['number'] + len(found)}")
-        except Refused as refusal:
-            if refusal.code != Code.NO_SUCH_JOB:
-                raise
-            break
-        if view["group"] != first["group"]:
+        view = job_of(desk, first["number"] + len(found))
+        if view is None or view["group"] != first["group"]:
             break
         found.append(view)
     return found

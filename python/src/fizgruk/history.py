@@ -120,23 +120,13 @@ def past_of(desk: calls.Desk, place: Optional[str]) -> Past:
 
 def is_to_come(desk: calls.Desk, number: int) -> bool:
     """Whether a job hasn't ended."""
-    view = view_of(desk, number)
+    view = calls.job_of(desk, number)
     return view is not None and view["state"] != "Finished"
-
-
-def view_of(desk: calls.Desk, number: int) -> Optional[calls.Row]:
-    """A job's view, or None where there is no such job."""
-    try:
-        return desk.look(f"/jobs/{number}")
-    except Refused as refusal:
-        if refusal.code != Code.NO_SUCH_JOB:
-            raise
-        return None
 
 
 def why_no_log(desk: calls.Desk, number: int) -> str:
     """Why a job has no log."""
-    view = view_of(desk, number)
+    view = calls.job_of(desk, number)
     if view is None:
         return f"there is no job {number}"
     if view["state"] == "Finished":

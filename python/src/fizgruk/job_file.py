@@ -17,22 +17,28 @@ def fault_of(data: bytes) -> Optional[str]:
     if len(data) > LONGEST_JOB_FILE:
         return f"it has more than {LONGEST_JOB_FILE:,} bytes"
     try:
-        text = data.decode()
+        text = toml_text.text_of(data)
         read(toml_text.tree_of(text))
-    except UnicodeDecodeError as fault:
-        return f"it isn't UTF-8 at byte {fault.start}"
-    except toml_text.NotToml as fault:
-        return str(fault)
+        return None
     except BadFile as fault:
-        return f"{fault}{toml_text.told_at(text, fault.path)}"
-    return None
+        where = toml_text.told_at(text, fault.path) if fault.path else ""
+        return f"{fault}{where}"
+
+
+def name_of(text: str) -> str:
+    """The name that a job's text has, or nothing."""
+    try:
+        name = toml_text.tree_of(text).get("job_name")
+    except toml_text.NotToml:
+        return ""
+    return name if isinstance(name, str) else ""
 
 
 def limit_fault_of(data: bytes) -> Optional[str]:
     """Why the time limit that a job file asks for can't be one, of which the desk knows nothing;
     None where it asks for none, or can't be read."""
     try:
-        text = data.decode()
+        text = toml_text.text_of(data)
         timeouts = toml_text.tree_of(text).get("timeouts", {})
         if not isinstance(timeouts, dict):
             return f"timeouts isn't a table{toml_text.told_at(text, ['timeouts'])}"
@@ -41,7 +47,7 @@ def limit_fault_of(data: bytes) -> Optional[str]:
     except limits.BadTime as fault:
         where = toml_text.told_at(text, ["timeouts", "job"])
         return f"timeouts.job can't be read: {fault}{where}"
-    except (UnicodeDecodeError, toml_text.NotToml):
+    except toml_text.NotToml:
         pass  # the desk refuses it
     return None
 

@@ -2,6 +2,7 @@
 TOML 1.0, which the later ones read. Moments are given as Moment, since no file of the desk's has
 one that counts."""
 import datetime
+import functools
 import re
 from typing import (
     Any, Callable, Dict, List, Match, NamedTuple, Optional, Pattern, Set, Tuple, Union
@@ -31,6 +32,10 @@ NUMBER = re.compile(
 )
 
 
+Path = Tuple[str, ...]
+ELEMENT = "[]"  # the key of all that an array has, in a path
+
+
 class Moment(NamedTuple):
     """A date, a time, or both, as they are written."""
 
@@ -48,6 +53,8 @@ class Reader:
     def __init__(self, text: str):
         self.text = text.replace("\r\n", "\n")
         self.at = 0
+        self.places: Dict[Path, int] = {}  # where the keys of a path stand first
+        self.begun = 0  # where the line, or the lines of one value, began that is read
         self.headed: Set[int] = set()  # tables that a line of their own named
         self.dotted: Set[int] = set()  # tables that a key with dots made
         self.closed: Set[int] = set()  # tables and arrays that stand as values
@@ -82,29 +89,33 @@ class Reader:
             raise self.fault("a byte stands there that no text has")
         root: Dict[str, Any] = {}
         table = root
+        path: Path = ()
         while True:
             self.take(BLANK)
+            self.begun = self.at
             if self.at == len(self.text):
                 return root
             if self.passed("[["):
                 keys = self.keys()
                 self.demand("]]")
-                table = self.added_to_array(root, keys)
+                table, path = self.added_to_array(root, keys), (*keys, ELEMENT)
             elif self.passed("["):
-                keys = self.keys()
+                path = self.keys()
                 self.demand("]")
-                table = self.headed_table(root, keys)
+                table = self.headed_table(root, path)
             else:
-                self.pair(table)
+                self.pair(table, path)
             if not self.take(LINE_END):
                 raise self.fault("something stands behind the end of a line")
 
-    def keys(self) -> List[str]:
-        found = []
+    def keys(self, above: Path = ()) -> Path:
+        """The keys that stand here, with dots between, in the table of a path."""
+        found: Path = ()
         while True:
             self.take(SPACE)
-            bare = self.take(BARE)
-            found.append(bare.group() if bare else self.quoted_key())
+            at, bare = self.at, self.take(BARE)
+            found += (bare.group() if bare else self.quoted_key(),)
+            self.places.setdefault(above + found, at)
             self.take(SPACE)
             if not self.passed("."):
                 return found
@@ -125,30 +136,28 @@ class Reader:
             raise self.fault(f"{key} is a value already")
         return found
 
-    def headed_table(self, root: Dict[str, Any], keys: List[str]) -> Dict[str, Any]:
-        table = root
-        for key in keys[:-1]:
-            table = self.inner(table, key)
-        found = table.setdefault(keys[-1], {})
+    def headed_table(self, root: Dict[str, Any], keys: Path) -> Dict[str, Any]:
+        found = self.above(root, keys).setdefault(keys[-1], {})
         known = (self.headed, self.dotted, self.closed)
         if not isinstance(found, dict) or any(id(found) in it for it in known):
             raise self.fault(f"{'.'.join(keys)} is there already")
         self.headed.add(id(found))
         return found
 
-    def added_to_array(self, root: Dict[str, Any], keys: List[str]) -> Dict[str, Any]:
-        table = root
-        for key in keys[:-1]:
-            table = self.inner(table, key)
-        found = table.setdefault(keys[-1], [])
+    def added_to_array(self, root: Dict[str, Any], keys: Path) -> Dict[str, Any]:
+        found = self.above(root, keys).setdefault(keys[-1], [])
         if not isinstance(found, list) or id(found) in self.closed:
             raise self.fault(f"{'.'.join(keys)} is no array of tables")
         added: Dict[str, Any] = {}
         found.append(added)
         return added
 
-    def pair(self, table: Dict[str, Any]) -> None:
-        keys = self.keys()
+    def above(self, root: Dict[str, Any], keys: Path) -> Dict[str, Any]:
+        """The table that has the last of these keys."""
+        return functools.reduce(self.inner, keys[:-1], root)
+
+    def pair(self, table: Dict[str, Any], above: Path) -> None:
+        keys = self.keys(above)
         self.demand("=")
         for key in keys[:-1]:
             table = self.inner(table, key)
@@ -157,7 +166,7 @@ class Reader:
             self.dotted.add(id(table))
         if keys[-1] in table:
             raise self.fault(f"{keys[-1]} is there already")
-        table[keys[-1]] = self.value()
+        table[keys[-1]] = self.value(above + keys)
 
     # ---- values
 
@@ -170,16 +179,16 @@ class Reader:
             (LITERAL, str),
         ]
 
-    def value(self) -> Any:
+    def value(self, path: Path) -> Any:
         self.take(SPACE)
         for pattern, read in self.quoted():
             found = self.take(pattern)
             if found:
                 return read(found.group(1))
         if self.passed("["):
-            return self.array()
+            return self.array((*path, ELEMENT))
         if self.passed("{"):
-            return self.inline_table()
+            return self.inline_table(path)
         for word, value in (("true", True), ("false", False)):
             if self.passed(word):
                 return value
@@ -206,26 +215,26 @@ class Reader:
             raise self.fault(f"{text} is no moment") from fault
         return Moment(text)
 
-    def array(self) -> List[Any]:
+    def array(self, path: Path) -> List[Any]:
         found: List[Any] = []
         self.closed.add(id(found))
         while True:
             self.take(BLANK)
             if self.passed("]"):
                 return found
-            found.append(self.value())
+            found.append(self.value(path))
             self.take(BLANK)
             if not self.passed(","):
                 self.demand("]")
                 return found
 
-    def inline_table(self) -> Dict[str, Any]:
+    def inline_table(self, path: Path) -> Dict[str, Any]:
         found: Dict[str, Any] = {}
         while True:
             self.take(BLANK)
             if self.passed("}"):
                 break
-            self.pair(found)
+            self.pair(found, path)
             self.take(BLANK)
             if not self.passed(","):
                 self.demand("}")

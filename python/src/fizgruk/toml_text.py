@@ -1,11 +1,12 @@
 """TOML texts, read by Python's own reader where there is one, which reads TOML 1.0; what it doesn't
 read, by the small one of these tools, so that 1.1 is read as the desk reads it."""
-import bisect
-import re
+import contextlib
+import functools
 import sys
 from typing import Any, Callable, Dict, List, Sequence
 
 from fizgruk import small_toml
+from fizgruk.words import BadFile
 
 READERS: List[Callable[[str], Dict[str, Any]]] = [small_toml.loads]
 if sys.version_info >= (3, 11):
@@ -14,8 +15,16 @@ if sys.version_info >= (3, 11):
     READERS.insert(0, tomllib.loads)
 
 
-class NotToml(Exception):
+class NotToml(BadFile):
     """A text isn't TOML."""
+
+
+def text_of(data: bytes) -> str:
+    """The text of a file, which is to be TOML."""
+    try:
+        return data.decode()
+    except UnicodeDecodeError as fault:
+        raise NotToml(f"it isn't UTF-8 at byte {fault.start}") from fault
 
 
 def tree_of(text: str) -> Dict[str, Any]:
@@ -31,50 +40,31 @@ def tree_of(text: str) -> Dict[str, Any]:
 
 def line_of(text: str, path: Sequence[str]) -> int:
     """The line of a TOML text, counted from 1, in which what stands under the keys of this path
-    begins: the text up to there has it, and before it not."""
-    return bisect.bisect_left(_Prefixes(text.split("\n"), path), True) + 1
+    begins. Where the text isn't TOML, that is the first line behind what is."""
+    reader = _read(text)
+    return _line(reader, reader.places.get(tuple(path), reader.begun))
 
 
 def told_at(text: str, path: Sequence[str]) -> str:
-    """Where in a TOML text what stands under these keys begins, or under the first of them where
-    there is no more: ` (at line 3, column 1)`."""
-    tree, there = tree_of(text), 0
-    while there < len(path) and isinstance(tree, dict) and path[there] in tree:
-        tree = tree[path[there]]
-        there += 1
-    if there == 0:
+    """Where in a TOML text the last of these keys stands, or the last of those that are there:
+    ` (at line 3, column 1)`."""
+    reader = _read(text)
+    there = [tuple(path[:it]) for it in range(len(path), 0, -1)]
+    at = next((reader.places[it] for it in there if it in reader.places), None)
+    if at is None:
         return ""
-    first = line_of(text, path[:there])
-    form = re.compile(rf"""(?<![\w-])["']?{re.escape(path[there - 1])}["']?\s*[]=.]""")
-    # (of a value that goes over several lines the key may stand on a later one)
-    for line, said in enumerate(text.split("\n")[first - 1 :], first):
-        key = form.search(said)
-        if key:
-            return f" (at line {line}, column {key.start() + 1})"
-    return f" (at line {first})"
+    column = at - reader.text.rfind("\n", 0, at)
+    return f" (at line {_line(reader, at)}, column {column})"
 
 
-class _Prefixes(Sequence[bool]):
-    """Whether a text's first lines have something under a path, for each count of lines from 1 on;
-    a value that goes over several lines counts with its first one."""
+@functools.lru_cache(maxsize=1)
+def _read(text: str) -> small_toml.Reader:
+    """The small reader, which knows places, after a text."""
+    reader = small_toml.Reader(text)
+    with contextlib.suppress(ValueError, RecursionError):
+        reader.document()
+    return reader
 
-    def __init__(self, lines: Sequence[str], path: Sequence[str]):
-        self.lines, self.path = lines, path
 
-    def __len__(self) -> int:
-        return len(self.lines)
-
-    def __getitem__(self, place: Any) -> Any:
-        for count in range(place + 1, len(self.lines) + 1):
-            try:
-                return self._has(tree_of("\n".join(self.lines[:count])))
-            except NotToml:
-                continue  # a value isn't at its end
-        return True
-
-    def _has(self, tree: object) -> bool:
-        for key in self.path:
-            if not isinstance(tree, dict) or key not in tree:
-                return False
-            tree = tree[key]
-        return True
+def _line(reader: small_toml.Reader, at: int) -> int:
+    return reader.text.count("\n", 0, at) + 1

@@ -32,10 +32,7 @@ class Addition(NamedTuple):
 def additions_of(text: str) -> List[Addition]:
     """The commands of a lab file in the order of `farm import`: the types in the byte order of
     their names, then the boards in theirs. The first fault is raised as BadFile."""
-    try:
-        tree = toml_text.tree_of(text)
-    except toml_text.NotToml as fault:
-        raise BadFile(str(fault)) from fault
+    tree = toml_text.tree_of(text)
     found = []
     for section, body_of in (("types", type_of), ("boards", board_of)):
         rows = words.table_of(tree.get(section, {}), section)

@@ -1,63 +1,27 @@
 """Views of the desk as lines of text."""
+import functools
 import time
 from typing import Any, Callable, Dict, List, Sequence, Tuple
 
 from fizgruk import limits
 
-# The columns of each view: title, and what a row has there.
-Column = Tuple[str, Callable[[Dict[str, Any]], Any]]
-BOARDS: List[Column] = [
-    ("NAME", lambda it: it["name"]),
-    ("TYPE", lambda it: it["type"]),
-    ("HEALTH", lambda it: it["health"]),
-    ("STATE", lambda it: it["state"]),
-    ("HOLDER", lambda it: it["holder"].replace("none", "-")),
-    ("CHECKED", lambda it: moment(it["last_check"]) if it["last_check"] else "-"),
-    ("TAGS", lambda it: " ".join(it["tags"])),
-]
-TYPES: List[Column] = [
-    ("NAME", lambda it: it["name"]),
-    ("CHECK", lambda it: check_of(it)),
-]
-QUEUE: List[Column] = [
-    ("PLACE", lambda it: it["place"]),
-    ("NUMBER", lambda it: it["number"]),
-    ("KIND", lambda it: it["kind"]),
-    ("PRIORITY", lambda it: it["priority"]),
-    ("BOARDS", lambda it: it["boards"]),
-    ("OWNER", lambda it: it["owner"]),
-    ("TYPE", lambda it: it["type"]),
-    ("WAITED", lambda it: it["waited"]),
-    ("NAME", lambda it: printable(it["name"])),
-]
-# where a claim of the queue has one
-NOTE: List[Column] = [("NOTE", lambda it: it["note"])]
-JOBS: List[Column] = [
-    ("NUMBER", lambda it: it["number"]),
-    ("GROUP", lambda it: it["group"]),
-    ("KIND", lambda it: it["kind"]),
-    ("STATE", lambda it: it["state"]),
-    ("RESULT", lambda it: it["result"] or "-"),
-    ("BOARD", lambda it: it["board"] or "-"),
-    ("TYPE", lambda it: it["type"]),
-    ("ROLE", lambda it: it["role"] or "-"),
-    ("PRIORITY", lambda it: it["priority"]),
-    ("OWNER", lambda it: it["owner"]),
-    ("TAGS", lambda it: " ".join(it["tags"])),
-]
-RESERVATIONS: List[Column] = [
-    ("NUMBER", lambda it: it["number"]),
-    ("STATE", lambda it: it["state"]),
-    ("LEFT", lambda it: time_left(it, time.time())),
-    ("BOARD", lambda it: it["board"] or "-"),
-    ("PRIORITY", lambda it: it["priority"]),
-    ("OWNER", lambda it: it["owner"]),
-    ("TAGS", lambda it: " ".join(it["tags"])),
-]
+Column = Tuple[str, Callable[[Dict[str, Any]], Any]]  # its title, and what a row has there
 LEASED = ("waiting", "allocated")
 ENDED = ("expired", "canceled")
 WIDEST = 60  # a job's name, or a reason
 SHORT = 120  # seconds that are shown as such
+
+
+def of(*keys: str) -> List[Column]:
+    """Columns of what rows have under these keys, which are their titles too."""
+    return [(it.upper(), functools.partial(_shown, it)) for it in keys]
+
+
+def _shown(key: str, row: Dict[str, Any]) -> Any:
+    value = row[key]
+    if isinstance(value, list):
+        return " ".join(value)
+    return "-" if value == "" else value
 
 
 def time_left(reservation: Dict[str, Any], now: float) -> str:
@@ -91,6 +55,28 @@ def printable(text: str) -> str:
     """A text of somebody else's as it is shown on a terminal."""
     shown = "".join(it if it.isprintable() else "?" for it in text)
     return shown if len(shown) <= WIDEST else f"{shown[: WIDEST - 2]}.."
+
+
+BOARDS = [
+    *of("name", "type", "health", "state"),
+    ("HOLDER", lambda it: it["holder"].replace("none", "-")),
+    ("CHECKED", lambda it: moment(it["last_check"]) if it["last_check"] else "-"),
+    *of("tags"),
+]
+TYPES = [*of("name"), ("CHECK", check_of)]
+QUEUE = [
+    *of("place", "number", "kind", "priority", "boards", "owner", "type", "waited"),
+    ("NAME", lambda it: printable(it["name"]) or "-"),
+]
+NOTE = of("note")  # where a claim of the queue has one
+JOBS = of(
+    "number", "group", "kind", "state", "result", "board", "type", "role", "priority", "owner", "tags"
+)
+RESERVATIONS = [
+    *of("number", "state"),
+    ("LEFT", lambda it: time_left(it, time.time())),
+    *of("board", "priority", "owner", "tags"),
+]
 
 
 def lines_of(rows: Sequence[Dict[str, Any]], columns: Sequence[Column]) -> List[str]:

@@ -68,8 +68,8 @@ def row_of(looker: calls.Looker, claim: Row, moments: submissions.Looks, note: s
     since = submissions.moment_in(moments, claim["number"])
     return {
         **claim,
-        "type": " ".join(kinds_of(looker, claim)) or "-",
+        "type": " ".join(kinds_of(looker, claim)),
         "waited": "-" if since is None else tables.span(max(0, int(time.time()) - since)),
-        "name": (past_jobs.name_of(members[0]) if members else "") or "-",
+        "name": past_jobs.name_of(members[0]) if members else "",
         "note": note,
     }

@@ -21,9 +21,9 @@ def import_lab(desk: calls.Desk, options: argparse.Namespace) -> int:
     try:
         if len(data) > LONGEST_LAB_FILE:
             raise BadFile(f"it has more than {LONGEST_LAB_FILE:,} bytes")
-        text = data.decode()
+        text = toml_text.text_of(data)
         additions = additions_of(text)
-    except (BadFile, UnicodeDecodeError) as fault:
+    except BadFile as fault:
         return told(options.file, f"bad lab file: {fault}")
     for warning in warnings_of(text):
         told(options.file, warning)

@@ -454,12 +454,7 @@ def await_board(
 def wait_for(desk: calls.Desk, options: argparse.Namespace) -> int:
     """Waits for a job's end or a reservation's board: both draw their numbers from one counter."""
     options.clock.look()
-    try:
-        desk.look(f"/jobs/{options.number}")
-    except Refused as refusal:
-        if refusal.code != Code.NO_SUCH_JOB:
-            raise
-    else:
+    if calls.job_of(desk, options.number):
         return await_end(desk, options, options.number)
     desk.nudge(f"/reservations/{options.number}/refresh")
     options.clock.note_own()

@@ -5,7 +5,7 @@ import sys
 import time
 from typing import Any, Dict, Iterable, List, Optional, Set
 
-from fizgruk import calls, history, records, toml_text, wants
+from fizgruk import calls, history, job_file, records, wants
 from fizgruk._tools import interrupts, tables, terminal
 from fizgruk.desk import tell, views
 from fizgruk.errors import NoLog, Refused, Unreachable
@@ -47,11 +47,11 @@ def open_jobs(desk: calls.Desk, owner: Optional[str]) -> List[Dict[str, Any]]:
     claims = [it for it in desk.look("/queue")["queue"] if it["kind"] == "group"]
     for place, claim in enumerate(it for it in claims if owner in (None, it["owner"])):
         is_asked = place < wants.MOST_ASKED and time.monotonic() < until
-        found[claim["number"]] = history.view_of(desk, claim["number"]) if is_asked else claim
+        found[claim["number"]] = calls.job_of(desk, claim["number"]) if is_asked else claim
     for board in desk.look("/boards")["boards"]:
         kind, _, number = board["holder"].partition(" ")
         if kind == "job":
-            found[int(number)] = history.view_of(desk, int(number))
+            found[int(number)] = calls.job_of(desk, int(number))
     rows = [it for it in found.values() if it and owner in (None, it["owner"])]
     rows = [it for it in rows if it.get("state") != "Finished"]
     return sorted(rows, key=lambda it: -int(it["number"]))
@@ -69,52 +69,29 @@ def last_jobs(past: history.Past, owner: Optional[str], count: int) -> List[Dict
 
 def row_of_open(view: Dict[str, Any]) -> Dict[str, Any]:
     """A row of a job that hasn't ended: its view, or its claim in the queue."""
-    return {
-        "number": view["number"],
-        "state": view.get("state", "Submitted"),
-        "owner": view["owner"],
-        "type": view.get("type", "-"),
-        "board": view.get("board") or "-",
-        "began": "-",
-        "took": "-",
-        "name": name_of(view),
-        "reason": "",
-    }
+    known = {"state": "Submitted", "type": "", "board": "", **view}
+    return {**known, **NOTHING, "name": name_of(view)}
 
 
 def name_of(view: Dict[str, Any]) -> str:
     """The name of a job that hasn't ended, where its view has it."""
-    if view.get("kind") == "check":
-        return records.CHECK
-    try:
-        return str(toml_text.tree_of(view.get("text", "")).get("job_name", ""))
-    except toml_text.NotToml:
-        return ""
+    return records.CHECK if view.get("kind") == "check" else job_file.name_of(view.get("text", ""))
 
 
 def row_of_ended(row: Dict[str, Any]) -> Dict[str, Any]:
     return {
+        **row,
         "number": row["job"],
         "state": row["outcome"],
-        "owner": row["owner"],
-        "type": row["type"],
-        "board": " ".join(row["boards"]) or "-",
+        "board": " ".join(row["boards"]),
         "began": tables.moment(row["began"]),
         "took": tables.span(row["ended"] - row["began"]),
-        "name": row["name"],
-        "reason": row["reason"],
     }
 
 
 NOTHING = {"began": "-", "took": "-", "reason": ""}
 COLUMNS = [
-    ("NUMBER", lambda it: it["number"]),
-    ("STATE", lambda it: it["state"]),
-    ("OWNER", lambda it: it["owner"]),
-    ("TYPE", lambda it: it["type"]),
-    ("BOARD", lambda it: it["board"]),
-    ("BEGAN", lambda it: it["began"]),
-    ("TOOK", lambda it: it["took"]),
+    *tables.of("number", "state", "owner", "type", "board", "began", "took"),
     ("NAME", lambda it: tables.printable(it["name"]) or "-"),
     ("REASON", lambda it: tables.printable(it["reason"])),
 ]

@@ -3,7 +3,7 @@ import argparse
 import operator
 import re
 import time
-from typing import List, Optional
+from typing import Optional
 
 from fizgruk import calls, usage
 from fizgruk._tools import tables
@@ -38,9 +38,8 @@ def waited(seconds: Optional[int]) -> str:
     return "-" if seconds is None else tables.span(seconds)
 
 
-COLUMNS: List[tables.Column] = [
-    ("JOBS", lambda it: it["jobs"]),
-    *[(name.upper(), operator.itemgetter(name.lower())) for name in usage.OUTCOMES],
+COLUMNS = [
+    *tables.of("jobs", *(it.lower() for it in usage.OUTCOMES)),
     ("HOURS", lambda it: f"{it['hours']:.1f}"),
     ("WAITED", lambda it: waited(it["waited_median"])),
     ("NINTH", lambda it: waited(it["waited_ninth"])),
