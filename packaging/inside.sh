@@ -40,8 +40,8 @@ stands() {
 
 does lintian --allow-root --fail-on error,warning ./*.deb
 echo "package: lintian has no warning"
-apt-get install -qq -y --no-install-recommends openssh-server python3-argcomplete python3-prometheus-client \
-    python3-yaml > "$log" 2>&1 || fail "$(tail -n 3 "$log")"
+apt-get install -qq -y --no-install-recommends openssh-server python3-apsw python3-argcomplete \
+    python3-prometheus-client python3-yaml > "$log" 2>&1 || fail "$(tail -n 3 "$log")"
 stands > /tmp/before
 
 # ---- the client alone

@@ -80,17 +80,21 @@ def test_pages_are_those_of_the_log_before_those_of_the_file(made: Made, tmp_pat
 def test_rows_are_read_as_sqlite_reads_them(made: Made) -> None:
     """The last one of each table, and one in the middle with a text of many pages."""
     made.add(150)
-    with made.pages() as found:
-        roots = pages.roots_of(found)
-        for table, wanted in (("jobs", 150), ("kept", 150), ("jobs", 77), ("jobs", 1)):
-            row = pages.row_of(found, roots[table], None if wanted == 150 else wanted)
-            listed = made.conn.execute(f"select * from {table} where rowid = ?", (wanted,)).fetchone()
-            assert row is not None and row[0] == wanted
-            # (a number that is the key isn't in the row)
-            assert row[1][1:] == list(listed)[1:]
-        assert pages.row_of(found, roots["jobs"], 151) is None
-        assert pages.row_of(found, roots["reservations"]) is None
-        assert {row[0]: row[1] for _, row in pages.rows_of(found, roots["meta"])}["count"] == 150
+    with made.pages() as found, pages.tables_of(found) as tables:
+        for table, last in (("jobs", 150), ("kept", 150)):
+            for number in (last, 77, 1, last + 1):
+                words = f"select rowid, * from {table} where rowid = ?", (number,)
+                assert list(tables.execute(*words)) == made.conn.execute(*words).fetchall()
+            assert list(tables.execute(f"select max(rowid) from {table}")) == [(last,)]
+        assert list(tables.execute("select * from reservations")) == []
+        assert dict(tables.execute("select name, value from meta"))["count"] == 150
+
+
+def test_nothing_is_written_over_pages(made: Made) -> None:
+    made.add(3)
+    with made.pages() as found, pytest.raises(pages.NoDatabase, match="readonly"):
+        with pages.tables_of(found) as tables:
+            tables.execute("delete from jobs")
 
 
 def test_sums_follow_each_commit(made: Made) -> None:

@@ -41,7 +41,7 @@ def refused(capsys: pytest.CaptureFixture[str], call: Callable[[Sequence[str]], 
     (("--follow", "--demote", "to"), "--follow and --demote don't go together"), ((), "there is no DIR"),
     (("--now", "--to", "file", "to"), "--now has no DIR"), (("--now",), "--now wants one of --to and --report"),
     (("--now", "--report", "queue", "--east", "1440"), "argument --east"),
-    (("--keep", "0", "to"), "argument --keep: invalid _number value: '0'"), (("--every", "0", "to"), "argument --every"),
+    (("--keep", "0", "to"), "argument --keep: 0 is no number from 1"), (("--every", "0", "to"), "argument --every"),
     (("--every", "3601", "to"), "argument --every"), (("--server", "desk", "to"), "desk is no address of a server"),
 ])
 def test_bad_words_of_a_backup_are_told(capsys: pytest.CaptureFixture[str], words: Sequence[str], told: str) -> None:
@@ -120,9 +120,9 @@ def test_a_desk_that_gives_no_answer_keeps_no_copy_away(copies: Copies, capsys: 
 
 
 def test_a_port_is_one(capsys: pytest.CaptureFixture[str]) -> None:
-    assert metrics.options_of(["--listen", "0"]).listen == 0
+    assert metrics.parser_of().parse_args(["--listen", "0"]).listen == 0
     for port in ("65536", "-1", "http"):
-        assert "argument --listen" in refused(capsys, metrics.options_of, "--listen", port)
+        assert "argument --listen" in refused(capsys, metrics.parser_of().parse_args, "--listen", port)
 
 
 class Collector:

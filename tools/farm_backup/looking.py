@@ -5,12 +5,10 @@ import subprocess
 import tempfile
 from typing import Callable, List
 
-from farm_backup import copying, replica
+from farm_backup import copying, pages, replica
 from fizgruk._tools import disk
 
 TOPICS = ("queue", "boards", "reservations")
-VERSIONS = 18  # where a file says whether it goes with a log
-ALONE = b"\1\1"
 
 
 def copy_to(farm: copying.Farm, file: str, tell: Callable[[str], None]) -> None:
@@ -37,7 +35,7 @@ def _put_together(name: str) -> None:
     with open(name, "r+b") as file, open(f"{name}-wal", "r+b") as log:
         made = replica.Replica(file.fileno(), log.fileno())
         made.carry()
-        replica.write_at(file.fileno(), ALONE, VERSIONS)
+        replica.write_at(file.fileno(), pages.ALONE, pages.VERSIONS)
         os.fsync(file.fileno())
     os.unlink(f"{name}-wal")
 

@@ -94,7 +94,7 @@ def parser_of() -> parsers.Parser:
     about = "The program that checks a copy (default %(default)s, as the shell finds it)."
     option("--program", metavar="FILE", default="farm", help=about)
     about = "Tell on standard error why a copy is made again, and with which desk it is compared."
-    option("--verbose", action="store_true", help=about)
+    parser.flag("--verbose", about)
     about = "Where the copies or the standby are."
     option("folder", metavar="DIR", nargs="?", help=about)
     return parser
@@ -104,7 +104,7 @@ def _add_copies(parser: parsers.Parser) -> None:
     about = """\
 Once the new copy has its name, remove all but the newest N, by what they hold; without it none \
 is."""
-    parser.add_argument("--keep", metavar="N", type=_number, help=about)
+    parser.add_argument("--keep", metavar="N", type=parsers.whole(1, 1_000_000), help=about)
     about = """\
 Ask the desk there before the copying how many commands it has done, and throw the copy away where
 it has fewer. Where no answer comes this is told, and the copy is kept."""
@@ -113,8 +113,7 @@ it has fewer. Where no answer comes this is told, and the copy is kept."""
 
 def _add_looks(parser: parsers.Parser) -> None:
     option = parser.add_argument
-    about = "Copy once, for one who looks at the farm while its desk serves."
-    option("--now", action="store_true", help=about)
+    parser.flag("--now", "Copy once, for one who looks at the farm while its desk serves.")
     about = """\
 Where the copy is, as one file that 'farm report' and SQLite's shell open; none may be there."""
     option("--to", metavar="FILE", help=about)
@@ -122,28 +121,28 @@ Where the copy is, as one file that 'farm report' and SQLite's shell open; none 
 Print a report over the copy, which is removed then: 'queue', 'boards' or 'reservations'."""
     option("--report", metavar="TOPIC", choices=looking.TOPICS, help=about)
     about = "The report's moments, so many minutes east of UTC."
-    option("--east", metavar="N", type=_minutes, help=about)
-    option("--west", metavar="N", type=_minutes, help="The same, west of UTC.")
+    option("--east", metavar="N", type=parsers.whole(0, 1439), help=about)
+    option("--west", metavar="N", type=parsers.whole(0, 1439), help="The same, west of UTC.")
 
 
 def _add_standby(parser: parsers.Parser) -> None:
     option = parser.add_argument
-    option("--follow", action="store_true", help="Keep a standby in DIR.")
+    parser.flag("--follow", "Keep a standby in DIR.")
     about = "Between two shippings to the standby (default 1)."
-    option("--every", metavar="SECONDS", type=_seconds, default=1.0, help=about)
+    option("--every", metavar="SECONDS", type=parsers.decimal(0.001, 3600), default=1.0, help=about)
     about = """\
 Make the standby in DIR this machine's farm: FILE and its log are a copy of it then, and what stood
 there is set aside beside them, in fenced-N. The farm that the standby followed is fenced from then
 on: a follower of it, or '--demote', sets it aside where it comes back. It can be run again."""
-    option("--promote", action="store_true", help=about)
+    parser.flag("--promote", about)
     about = """\
 Set FILE and its log aside, in fenced-N beside them, where the standby in DIR was promoted over
 them; a desk that has them open ends. Else nothing is done."""
-    option("--demote", action="store_true", help=about)
+    parser.flag("--demote", about)
     about = """\
 Stop the units farm-dispatch and farm before '--promote', and enable and start them after it;
 disable and stop them after '--demote' has set something aside."""
-    option("--units", action="store_true", help=about)
+    parser.flag("--units", about)
 
 
 def options_of(words: Optional[Sequence[str]]) -> argparse.Namespace:
@@ -162,27 +161,6 @@ def options_of(words: Optional[Sequence[str]]) -> argparse.Namespace:
     if options.now and (options.to is None) == (options.report is None):
         parser.error("--now wants one of --to and --report")
     return options
-
-
-def _number(text: str) -> int:
-    number = int(text)
-    if number < 1:
-        raise ValueError
-    return number
-
-
-def _minutes(text: str) -> int:
-    number = int(text)
-    if not 0 <= number < 1440:
-        raise ValueError
-    return number
-
-
-def _seconds(text: str) -> float:
-    seconds = float(text)
-    if not 0 < seconds <= 3600:
-        raise ValueError
-    return seconds
 
 
 def _server(text: str) -> str:

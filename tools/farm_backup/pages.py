@@ -1,11 +1,14 @@
 """The pages of a farm as whoever opens its two files finds them: the newest form that the log's
-whole commits have of each, and the file's own of the others. Nothing is opened by SQLite for that,
-which would write; so a copy stays as it is, byte for byte."""
+whole commits have of each, and the file's own of the others. SQLite reads the tables in them by a
+file system of its own (apsw): over the two files themselves it would write; so a copy stays as it is,
+byte for byte."""
+import contextlib
 import hashlib
 import os
 import struct
-from typing import Dict, Iterable, List, Optional, Protocol, Tuple
+from typing import Any, Dict, Iterator, List, Optional, Protocol
 
+import apsw
 from farm_backup import wal
 
 MAGIC = b"SQLite format 3\0"
@@ -126,121 +129,64 @@ def sum_of_all(pages: Readable) -> int:
     return sum(sum_of(it, pages.page(it)) for it in range(1, pages.count + 1)) % SUMS
 
 
-# ---- tables
+# ---- tables, as SQLite reads them
 
-INTERIOR, LEAF = 5, 13
-DEEPEST, MOST_ROWS, MOST_PAYLOAD = 20, 1000, 1 << 20
-Row = List[object]
-INTEGERS = {1: 1, 2: 2, 3: 3, 4: 4, 5: 6, 6: 8}
+VFS = "farm-pages"
+HEADER, VERSIONS, ALONE = 100, 18, b"\1\1"  # of a file; its bytes that say whether it goes with a log
 
 
-def roots_of(pages: Readable) -> Dict[str, int]:
-    """The first page of each table."""
-    found = {}
-    for _, row in rows_of(pages, 1):
-        kind, name, _, root = row[:4]
-        if kind == "table" and isinstance(name, str) and isinstance(root, int):
-            found[name] = root
-    return found
+class _File:
+    """Pages as a file of SQLite's that has no log, since they are what the log came to."""
+
+    def __init__(self, pages: Readable):
+        self.pages = pages
+
+    def xRead(self, amount: int, offset: int) -> bytes:
+        number, at = offset // self.pages.size + 1, offset % self.pages.size
+        page = self.pages.page(number) if number <= self.pages.count else b""
+        if number == 1:
+            page = page[:VERSIONS] + ALONE + page[VERSIONS + len(ALONE) :]
+        return page[at : at + amount]
+
+    def xFileSize(self) -> int:
+        return self.pages.count * self.pages.size
+
+    def xFileControl(self, *_: object) -> bool:
+        return False
+
+    def xDeviceCharacteristics(self) -> int:
+        return 0
+
+    def xSectorSize(self) -> int:
+        return self.pages.size
+
+    def xClose(self) -> None:
+        """(Whoever has the files closes them.)"""
 
 
-def rows_of(pages: Readable, root: int) -> Iterable[Tuple[int, Row]]:
-    """The rows of a small table with their numbers."""
-    found: List[Tuple[int, Row]] = []
-    left, seen = [root], 0
-    while left:
-        page, at = _tree_page(pages, left.pop())
-        seen += 1
-        if seen > MOST_ROWS or len(found) > MOST_ROWS:
-            raise NoDatabase("a small table has too many rows")
-        if page[at] == LEAF:
-            found += [_cell(pages, page, it) for it in _cells(page, at)]
-        else:
-            left += [struct.unpack_from(">I", page, it)[0] for it in _cells(page, at)]
-            left.append(struct.unpack_from(">I", page, at + 8)[0])
-    return sorted(found, key=lambda it: it[0])
+class _Files(apsw.VFS):
+    """Where SQLite opens what it is to read."""
+
+    pages: Optional[Readable] = None
+
+    def xOpen(self, *_: object) -> Any:
+        assert self.pages
+        return _File(self.pages)
+
+    def xFullPathname(self, name: str) -> str:
+        return name
 
 
-def row_of(pages: Readable, root: int, number: Optional[int] = None) -> Optional[Tuple[int, Row]]:
-    """The row of a table with a number, or the last."""
-    for _ in range(DEEPEST):
-        page, at = _tree_page(pages, root)
-        if page[at] == LEAF:
-            cells = _cells(page, at)
-            if number is None:
-                return _cell(pages, page, cells[-1]) if cells else None
-            for it in cells:
-                if _varint(page, _varint(page, it)[1])[0] == number:
-                    return _cell(pages, page, it)
-            return None
-        root = struct.unpack_from(">I", page, at + 8)[0]
-        for it in _cells(page, at) if number is not None else ():
-            if number is not None and number <= _varint(page, it + 4)[0]:
-                root = struct.unpack_from(">I", page, it)[0]
-                break
-    raise NoDatabase("a table is too deep")
+_FILES = _Files(VFS, "")
 
 
-def _tree_page(pages: Readable, number: int) -> Tuple[bytes, int]:
-    """A page of a table, and where its own header begins."""
-    page, at = pages.page(number), 100 if number == 1 else 0
-    if page[at] not in (INTERIOR, LEAF):
-        raise NoDatabase(f"page {number} is none of a table")
-    return page, at
-
-
-def _cells(page: bytes, at: int) -> Tuple[int, ...]:
-    """Where the cells of a page begin."""
-    count = struct.unpack_from(">H", page, at + 3)[0]
-    return struct.unpack_from(f">{count}H", page, at + (8 if page[at] == LEAF else 12))
-
-
-def _varint(page: bytes, at: int) -> Tuple[int, int]:
-    """A number of one to nine bytes, and where the next thing begins."""
-    number = 0
-    for byte in page[at : at + 8]:
-        at += 1
-        number = number << 7 | byte & 0x7F
-        if byte < 0x80:
-            return number, at
-    return number << 8 | page[at], at + 1
-
-
-def _cell(pages: Readable, page: bytes, at: int) -> Tuple[int, Row]:
-    """The number and the values of a row that begins here."""
-    length, at = _varint(page, at)
-    number, at = _varint(page, at)
-    if length > MOST_PAYLOAD:
-        raise NoDatabase(f"a row has {length} bytes")
-    usable = pages.size - pages.page(1)[20]
-    least = (usable - 12) * 32 // 255 - 23
-    here = length
-    if length > usable - 35:
-        here = least + (length - least) % (usable - 4)
-        here = here if here <= usable - 35 else least
-    payload = page[at : at + here]
-    following = page[at + here : at + here + 4]
-    while len(payload) < length:
-        more = pages.page(struct.unpack(">I", following)[0])
-        following = more[:4]
-        payload += more[4 : min(usable, 4 + length - len(payload))]
-    return number, _values(payload)
-
-
-def _values(payload: bytes) -> Row:
-    end, at = _varint(payload, 0)
-    kinds = []
-    while at < end:
-        kind, at = _varint(payload, at)
-        kinds.append(kind)
-    values: Row = []
-    for kind in kinds:
-        length = INTEGERS.get(kind, (kind - 12) // 2 if kind >= 12 else 8 if kind == 7 else 0)
-        raw, end = payload[end : end + length], end + length
-        if kind in INTEGERS:
-            values.append(int.from_bytes(raw, "big", signed=True))
-        elif kind >= 13 and kind % 2:
-            values.append(raw.decode(errors="replace"))
-        else:
-            values.append({0: None, 8: 0, 9: 1}.get(kind, raw))
-    return values
+@contextlib.contextmanager
+def tables_of(pages: Readable) -> Iterator[apsw.Connection]:
+    """The tables of a farm. What isn't as SQLite has it is raised as NoDatabase."""
+    _FILES.pages = pages
+    flags = apsw.SQLITE_OPEN_READONLY | apsw.SQLITE_OPEN_URI
+    try:
+        with contextlib.closing(apsw.Connection("file:/farm?immutable=1", flags, VFS)) as tables:
+            yield tables
+    except (apsw.Error, UnicodeDecodeError) as fault:
+        raise NoDatabase(f"its tables can't be read ({fault})") from fault

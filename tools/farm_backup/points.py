@@ -5,12 +5,11 @@ A farm only grows. Its commands are counted, its clock never falls back, and a k
 and a reservation once made stay. So of each table the last row is noted, which another line of
 history doesn't have there: keys are their clients' own."""
 import hashlib
-import struct
-from typing import Any, Callable, Dict, List, NamedTuple, Optional, Tuple, TypeVar
+from typing import Any, Dict, List, NamedTuple, Optional, Tuple
 
+import apsw
 from farm_backup import pages
 
-Read = TypeVar("Read")
 Note = Tuple[int, str]
 NOTHING: Note = (0, "")
 # The columns of a table that stay as they are made.
@@ -35,12 +34,27 @@ class Point(NamedTuple):
 
 def point_of(found: pages.Readable) -> Point:
     """The point of a farm. Raises NoDatabase where it is none."""
-    return _read(_point_of, found)
+    with pages.tables_of(found) as tables:
+        meta = dict(tables.execute("SELECT name, value FROM meta"))
+        notes = {it: _note_of(tables, it) for it in STAYING}
+    count, clock = meta.get("count"), meta.get("clock")
+    if not isinstance(count, int) or not isinstance(clock, int):
+        raise pages.NoDatabase("its numbers are none")
+    return Point(count, clock, notes)
 
 
 def why_other(before: Point, found: pages.Readable) -> str:
     """Why a farm isn't a later one of the same history; nothing where it is."""
-    return _read(lambda it: _why_other(before, it), found)
+    now = point_of(found)
+    if now.commands < before.commands:
+        return f"it has {now.commands} commands, which are fewer"
+    if now.clock < before.clock:
+        return "its clock is earlier"
+    with pages.tables_of(found) as tables:
+        for table, note in before.notes.items():
+            if note != NOTHING and _note_of(tables, table, note[0]) != note:
+                return f"{table} has another row with number {note[0]}, or none"
+    return ""
 
 
 def point_in(said: Any) -> Point:
@@ -54,43 +68,13 @@ def point_in(said: Any) -> Point:
         raise ValueError(f"no point: {fault}") from fault
 
 
-def _read(call: Callable[[pages.Readable], Read], found: pages.Readable) -> Read:
-    """What is read of pages that may be anything."""
-    try:
-        return call(found)
-    except (struct.error, IndexError, KeyError, TypeError) as fault:
-        raise pages.NoDatabase(f"its tables can't be read ({fault!r})") from fault
-
-
-def _point_of(found: pages.Readable) -> Point:
-    roots = pages.roots_of(found)
-    meta = {str(row[0]): row[1] for _, row in pages.rows_of(found, roots["meta"])}
-    notes = {it: _note_of(it, pages.row_of(found, roots[it])) for it in STAYING}
-    count, clock = meta["count"], meta["clock"]
-    if not isinstance(count, int) or not isinstance(clock, int):
-        raise pages.NoDatabase("its numbers are none")
-    return Point(count, clock, notes)
-
-
-def _note_of(table: str, row: Optional[Tuple[int, pages.Row]]) -> Note:
-    """What a row is known by."""
-    if row is None:
-        return NOTHING
-    number, values = row
-    text = repr([values[it] for it in STAYING[table]])
-    return number, hashlib.blake2b(text.encode(), digest_size=16).hexdigest()
-
-
-def _why_other(before: Point, found: pages.Readable) -> str:
-    now = _point_of(found)
-    if now.commands < before.commands:
-        return f"it has {now.commands} commands, which are fewer"
-    if now.clock < before.clock:
-        return "its clock is earlier"
-    roots = pages.roots_of(found)
-    for table, (number, wanted) in before.notes.items():
-        if (number, wanted) == NOTHING:
-            continue
-        if _note_of(table, pages.row_of(found, roots[table], number)) != (number, wanted):
-            return f"{table} has another row with number {number}, or none"
-    return ""
+def _note_of(tables: apsw.Connection, table: str, number: Optional[int] = None) -> Note:
+    """What a table's row with a number, or its last, is known by."""
+    which = "ORDER BY rowid DESC LIMIT 1" if number is None else "WHERE rowid = ?"
+    words = () if number is None else (number,)
+    for found, *values in tables.execute(f"SELECT rowid, * FROM {table} {which}", words):
+        if len(values) <= max(STAYING[table]):
+            raise pages.NoDatabase(f"{table} has other columns")
+        text = repr([values[it] for it in STAYING[table]])
+        return found, hashlib.blake2b(text.encode(), digest_size=16).hexdigest()
+    return NOTHING

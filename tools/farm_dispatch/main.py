@@ -17,6 +17,7 @@ from fizgruk._tools.telling import Teller
 from fizgruk.errors import BadSettings, Refused, Unreachable
 
 HOUR = 3600
+seconds, count_of = parsers.decimal(0.001, 1e9), parsers.whole(1, 10**9 - 1)
 end = Teller("farm-dispatch").told
 REFUSED, FAULT, NOT_STARTED = 3, 4, 5
 STANDS = (
@@ -306,24 +307,7 @@ def cage_of(word: str) -> str:
 
 def numbers_of(text: str) -> List[int]:
     """Numbers of jobs, with commas between."""
-    numbers = [int(it) for it in text.split(",")]
-    if not all(0 < it < 10**9 for it in numbers):
-        raise ValueError
-    return numbers
-
-
-def count_of(text: str) -> int:
-    number = int(text)
-    if not 0 < number < 10**9:
-        raise ValueError
-    return number
-
-
-def seconds(text: str) -> float:
-    number = float(text)
-    if not 0 < number <= 1e9:
-        raise ValueError
-    return number
+    return [count_of(it) for it in text.split(",")]
 
 
 def time_of(text: str) -> float:

@@ -1,5 +1,4 @@
 """farm-from-desk: a lab file from a desk's boards, for the farm that comes after it."""
-import argparse
 import re
 from typing import Any, Dict, NamedTuple, Optional, Sequence, Tuple
 
@@ -37,7 +36,7 @@ FIRST_HEALTH = "Maintenance"
 
 def main(words: Optional[Sequence[str]] = None) -> int:
     terminal.guard()
-    options = options_of(words)
+    options = parser_of().parse_args(words)
     try:
         desk = calls.Desk(asking.settings_of("desk", options, "admin"), PATIENCE)
         if options.set_health is not None:
@@ -68,10 +67,6 @@ import made them. Done again it does no harm."""
     parser.add_argument("--set-health", metavar="FILE", help=about)
     asking.add_options(parser, "desk", "default admin")
     return parser
-
-
-def options_of(words: Optional[Sequence[str]]) -> argparse.Namespace:
-    return parser_of().parse_args(words)
 
 
 # ---- writing

@@ -25,7 +25,7 @@ NOTHING: Tuple[object, ...] = (None, "", "null", "Null", "NULL", "~", [], {})
 
 def main(words: Optional[Sequence[str]] = None) -> int:
     terminal.guard()
-    return lab_file.status_of(PROGRAM, lab_of, options_of(words))
+    return lab_file.status_of(PROGRAM, lab_of, parser_of().parse_args(words))
 
 
 def parser_of() -> parsers.Parser:
@@ -37,10 +37,6 @@ The tag whose value is the board's type (default %(default)s). The tag stays a t
     about = "The type of places without that tag, which are not told then (default place)."
     parser.add_argument("--type", metavar="NAME", help=about)
     return parser
-
-
-def options_of(words: Optional[Sequence[str]]) -> argparse.Namespace:
-    return parser_of().parse_args(words)
 
 
 def lab_of(options: argparse.Namespace) -> lab_file.LabFile:

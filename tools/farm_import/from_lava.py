@@ -20,30 +20,20 @@ COMMENT = re.compile(r"{#.*?#}", re.DOTALL)
 
 def main(words: Optional[Sequence[str]] = None) -> int:
     terminal.guard()
-    return lab_file.status_of(PROGRAM, lab_of, options_of(words))
+    return lab_file.status_of(PROGRAM, lab_of, parser_of().parse_args(words))
 
 
 def parser_of() -> parsers.Parser:
     parser = lab_file.parser_of(PROGRAM, ABOUT, lab_file.statuses_of(FAULT))
     parser.add_argument("folder", metavar="FOLDER", help="The server's dispatcher-config.")
     about = "Between two checks of a board, 1 to 10000 (default %(default)s)."
+    hours = parsers.whole(1, 10_000)
     parser.add_argument("--hours", metavar="N", type=hours, default=24, help=about)
     about = """\
 The devices' tags, which stand in LAVA's database: a line 'DEVICE TAG ..' for each device that has
 some."""
     parser.add_argument("--tags", metavar="FILE", help=about)
     return parser
-
-
-def options_of(words: Optional[Sequence[str]]) -> argparse.Namespace:
-    return parser_of().parse_args(words)
-
-
-def hours(text: str) -> int:
-    number = int(text)
-    if not 1 <= number <= 10_000:
-        raise ValueError
-    return number
 
 
 def lab_of(options: argparse.Namespace) -> lab_file.LabFile:

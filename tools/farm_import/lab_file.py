@@ -43,8 +43,7 @@ def parser_of(program: str, about: str, statuses: parsers.Statuses) -> parsers.P
     parser = parsers.parser_of(program, about, statuses)
     about = "The lab file; without it, the output."
     parser.add_argument("--output", metavar="FILE", help=about)
-    about = "Tell also what is left out of every file."
-    parser.add_argument("--verbose", action="store_true", help=about)
+    parser.flag("--verbose", "Tell also what is left out of every file.")
     return parser
 
 

@@ -1,5 +1,4 @@
 """farm-metrics: what a desk shows, in Prometheus' text format."""
-import argparse
 import http.server
 import os
 import threading
@@ -40,7 +39,7 @@ STATUSES = (
 
 def main(words: Optional[Sequence[str]] = None) -> int:
     terminal.guard()
-    options = options_of(words)
+    options = parser_of().parse_args(words)
     try:
         interrupts.catch_signals()
         desk = calls.Desk(asking.settings_of("desk", options, "metrics"), patience=0)
@@ -77,7 +76,7 @@ def parser_of() -> parsers.Parser:
     about = """\
 Serve http://127.0.0.1:PORT/metrics, and print 'listening PORT' first; 0 takes a port that is
 free."""
-    where.add_argument("--listen", metavar="PORT", type=_port, help=about)
+    where.add_argument("--listen", metavar="PORT", type=parsers.whole(0, 65535), help=about)
     about = """\
 The dispatcher's history (default %(default)s). It is read once, and then each time only what is
 new."""
@@ -95,17 +94,6 @@ PATH.state with --textfile; else nothing is kept)."""
         parser, "desk", "default metrics, which the desk lets look", timeout=timeout
     )
     return parser
-
-
-def options_of(words: Optional[Sequence[str]]) -> argparse.Namespace:
-    return parser_of().parse_args(words)
-
-
-def _port(text: str) -> int:
-    port = int(text)
-    if not 0 <= port <= 65535:
-        raise ValueError
-    return port
 
 
 class Metrics(Collector):

@@ -45,7 +45,7 @@ STATUSES = (
 
 def main(words: Optional[Sequence[str]] = None) -> int:
     terminal.guard()
-    options = options_of(words)
+    options = parser_of().parse_args(words)
     try:
         rules = read_file(options.file)
         if options.check:
@@ -72,12 +72,11 @@ Where it keeps what it has seen and told, in watch.db (default %(default)s). Eve
 days. Without this file it begins as at its first look."""
     parser.add_argument("--folder", metavar="DIR", default=FOLDER, help=about)
     about = "Between two looks, 5 at most (default 5)."
-    parser.add_argument(
-        "--every", metavar="SECONDS", type=seconds, default=LONGEST_EVERY, help=about
-    )
-    parser.add_argument("--check", action="store_true", help="Read FILE, and print its rules.")
+    every = parsers.decimal(0.05, LONGEST_EVERY)
+    parser.add_argument("--every", metavar="SECONDS", type=every, default=LONGEST_EVERY, help=about)
+    parser.flag("--check", "Read FILE, and print its rules.")
     about = "Send the admins a word by each way, and say who took it."
-    parser.add_argument("--try", action="store_true", dest="try_ways", help=about)
+    parser.flag("--try", about, dest="try_ways")
     asking.add_options(
         parser,
         "watch",
@@ -88,17 +87,6 @@ days. Without this file it begins as at its first look."""
     about = "The rules (default %(default)s)."
     parser.add_argument("file", metavar="FILE", nargs="?", default=FILE, help=about)
     return parser
-
-
-def options_of(words: Optional[Sequence[str]]) -> argparse.Namespace:
-    return parser_of().parse_args(words)
-
-
-def seconds(text: str) -> float:
-    given = float(text)
-    if not 0.05 <= given <= LONGEST_EVERY:
-        raise ValueError
-    return given
 
 
 def summary(rules: Rules) -> str:

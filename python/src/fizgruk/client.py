@@ -4,29 +4,13 @@ import copy
 import datetime
 import logging
 import time
-from types import TracebackType
-from typing import Callable, Dict, Iterator, List, Literal, Optional, Sequence, Type, TypeVar, Union
+from typing import Callable, Dict, Iterator, List, Literal, Optional, Sequence, TypeVar, Union
 
 from fizgruk import calls, history, job_file, models, records, settings, usage, waiting
 from fizgruk.calls import Body, Desk, Row, fresh_key, part
 from fizgruk.errors import BadJobFile, Code, FizgrukError, NoLog, Refused
 from fizgruk.history import Past
 from fizgruk.holding import Hold, Priority
-from fizgruk.models import (
-    BoardView,
-    Check,
-    Claim,
-    Health,
-    HealthChange,
-    JobView,
-    Outcome,
-    PassCounts,
-    PastJob,
-    ReservationView,
-    Status,
-    TypeView,
-    Use,
-)
 from fizgruk.waiting import Tell, Wait
 
 LOG = logging.getLogger("fizgruk")
@@ -77,10 +61,7 @@ class Client:
     def __enter__(self: Own) -> Own:
         return self
 
-    def __exit__(
-        self, kind: Optional[Type[BaseException]], fault: Optional[BaseException],
-        trace: Optional[TracebackType],
-    ) -> None:
+    def __exit__(self, *_: object) -> None:
         self.close()
 
     def of_patience(self: Own, seconds: float) -> Own:
@@ -94,35 +75,35 @@ class Client:
 
     # ---- views
 
-    def types(self) -> List[TypeView]:
-        return self._rows("types", TypeView)
+    def types(self) -> List[models.TypeView]:
+        return self._rows("types", models.TypeView)
 
-    def boards(self, *tags: str) -> List[BoardView]:
+    def boards(self, *tags: str) -> List[models.BoardView]:
         """The boards, or those that have all of these tags."""
-        return [it for it in self._rows("boards", BoardView) if it.fits(*tags)]
+        return [it for it in self._rows("boards", models.BoardView) if it.fits(*tags)]
 
-    def queue(self) -> List[Claim]:
+    def queue(self) -> List[models.Claim]:
         """What waits for boards, in the order in which it is served."""
-        return self._rows("queue", Claim)
+        return self._rows("queue", models.Claim)
 
-    def reservations(self) -> List[ReservationView]:
+    def reservations(self) -> List[models.ReservationView]:
         """All reservations that ever were."""
-        return self._rows("reservations", ReservationView)
+        return self._rows("reservations", models.ReservationView)
 
-    def job(self, number: int) -> JobView:
-        return models.view_of(JobView, self._desk.look(f"/jobs/{number}"))
+    def job(self, number: int) -> models.JobView:
+        return models.view_of(models.JobView, self._desk.look(f"/jobs/{number}"))
 
-    def group(self, number: int) -> List[JobView]:
+    def group(self, number: int) -> List[models.JobView]:
         """All members of a job's group, which have consecutive numbers."""
-        return [models.view_of(JobView, it) for it in calls.members_of(self._desk, number)]
+        return [models.view_of(models.JobView, it) for it in calls.members_of(self._desk, number)]
 
-    def status(self) -> Status:
-        return models.view_of(Status, self._desk.look("/status"))
+    def status(self) -> models.Status:
+        return models.view_of(models.Status, self._desk.look("/status"))
 
     # ---- the admin's commands
 
     def add_type(
-        self, name: str, check: Check = "none", every: Optional[int] = None, *,
+        self, name: str, check: models.Check = "none", every: Optional[int] = None, *,
         key: Optional[str] = None,
     ) -> None:
         """Adds a type, whose boards are checked every so many hours or jobs, or never."""
@@ -141,7 +122,7 @@ class Client:
         """Gives a board these tags in the place of those that it has."""
         self._tell(f"/boards/{part(board)}/tags", {"tags": list(tags)}, key)
 
-    def set_health(self, board: str, health: Health, *, key: Optional[str] = None) -> None:
+    def set_health(self, board: str, health: models.Health, *, key: Optional[str] = None) -> None:
         self._tell(f"/boards/{part(board)}/health", {"health": health}, key)
 
     # ---- jobs
@@ -165,7 +146,7 @@ class Client:
     def run(
         self, text: Union[str, bytes], timeout: Optional[float] = HOUR, *, every: float = 2.0,
         tell: Tell = LOG.info, key: Optional[str] = None,
-    ) -> List[JobView]:
+    ) -> List[models.JobView]:
         """Submits a job, and gives the members of its group once they have ended. Where the wait is
         interrupted, or lasts too long, the job is canceled."""
         number = self.submit(text, key=key)
@@ -178,12 +159,13 @@ class Client:
     def wait_for_job(
         self, number: int, timeout: Optional[float] = HOUR, *, every: float = 2.0,
         tell: Tell = LOG.info, cancel: bool = False,
-    ) -> List[JobView]:
+    ) -> List[models.JobView]:
         """Waits until all members of a job's group have ended, and gives them. With `cancel` the job
         is canceled where the wait is interrupted, or lasts too long."""
         wait = Wait(self._desk, f"job {number} hasn't ended", timeout, every, tell)
         try:
-            return [models.view_of(JobView, it) for it in waiting.wait_for_group(wait, number)]
+            rows = waiting.wait_for_group(wait, number)
+            return [models.view_of(models.JobView, it) for it in rows]
         except BaseException:
             if cancel:
                 self._cancel_left(number)
@@ -236,7 +218,7 @@ class Client:
 
     def history(
         self, board: Optional[str] = None, last: int = LAST
-    ) -> List[Union[PastJob, HealthChange]]:
+    ) -> List[Union[models.PastJob, models.HealthChange]]:
         """The last jobs that ended, the newest first; of a board its jobs and the changes of its
         health."""
         past = self._past()
@@ -248,12 +230,12 @@ class Client:
     def usage(
         self, since: Union[datetime.datetime, datetime.timedelta] = datetime.timedelta(days=30),
         by: Literal["owner", "board", "type"] = "owner",
-    ) -> List[Use]:
+    ) -> List[models.Use]:
         """What owners used, or of boards or types was used, since a moment or for so long; the most
         hours first."""
         ago = since.total_seconds() if isinstance(since, datetime.timedelta) else 0
         moment = since.timestamp() if isinstance(since, datetime.datetime) else time.time() - ago
-        return [Use(**it) for it in usage.uses_of(self._past().rows(), int(moment), by)]
+        return [models.Use(**it) for it in usage.uses_of(self._past().rows(), int(moment), by)]
 
     def _past(self) -> Past:
         return history.past_of(self._desk, self._place)
@@ -273,11 +255,11 @@ class Client:
     def wait_for_board(
         self, number: int, timeout: Optional[float] = HOUR, *, every: float = 2.0,
         tell: Tell = LOG.info,
-    ) -> BoardView:
+    ) -> models.BoardView:
         """Waits until a reservation has a board, and refreshes it meanwhile. The board is to be
         acquired within a minute."""
         wait = Wait(self._desk, f"no board for reservation {number}", timeout, every, tell)
-        return models.view_of(BoardView, waiting.wait_for_board(wait, number, None))
+        return models.view_of(models.BoardView, waiting.wait_for_board(wait, number, None))
 
     def acquire(self, number: int, *, key: Optional[str] = None) -> None:
         """Takes the board that a reservation was given, until it is released or canceled."""
@@ -315,15 +297,15 @@ class Client:
 
     # ---- the dispatcher's commands
 
-    def call_pass(self) -> PassCounts:
+    def call_pass(self) -> models.PassCounts:
         """Gives boards to what waits for them. Done twice it does no harm, so it has no key."""
-        return models.view_of(PassCounts, self._desk.nudge("/pass"))
+        return models.view_of(models.PassCounts, self._desk.nudge("/pass"))
 
     def start_job(self, number: int, *, key: Optional[str] = None) -> int:
         """Starts a job's group. Gives the group's number."""
         return self._number(f"/jobs/{number}/start", None, key)
 
-    def finish_job(self, number: int, outcome: Outcome, *, key: Optional[str] = None) -> int:
+    def finish_job(self, number: int, outcome: models.Outcome, *, key: Optional[str] = None) -> int:
         """Says how a job ended. Gives its number."""
         return self._number(f"/jobs/{number}/finish", {"outcome": outcome}, key)
 
@@ -339,8 +321,8 @@ class Client:
         return calls.number_of(self._desk, self._tell(path, body, key))
 
 
-def past_of(row: Row) -> Union[PastJob, HealthChange]:
+def past_of(row: Row) -> Union[models.PastJob, models.HealthChange]:
     """What a line of the history says."""
     if row["kind"] == "job":
-        return models.view_of(PastJob, row)
-    return models.view_of(HealthChange, {**row, "before": row["from"], "after": row["to"]})
+        return models.view_of(models.PastJob, row)
+    return models.view_of(models.HealthChange, {**row, "before": row["from"], "after": row["to"]})

@@ -26,6 +26,11 @@ Priority = Union[int, str, None]
 OPEN: Set["Hold"] = set()
 
 
+def priority_of(text: str) -> Union[int, str]:
+    """The priority that a word names."""
+    return int(text) if text.isascii() and text.isdigit() else text
+
+
 class Reservation:
     """A reservation of one's own, from its asking to its end."""
 

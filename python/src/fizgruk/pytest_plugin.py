@@ -45,16 +45,13 @@ def pytest_addoption(parser: pytest.Parser) -> None:
         " tags are divided by spaces, '' is any board",
     )
     group.addoption(
-        "--farm-priority", metavar="P", help="low, medium, high, or 0 to 100 (50)", type=priority
+        "--farm-priority", metavar="P", help="low, medium, high, or 0 to 100 (50)",
+        type=holding.priority_of,
     )
     group.addoption(
         "--farm-timeout", metavar="SECONDS", help="wait so long for a board (3600)", type=float,
         default=HOUR,
     )
-
-
-def priority(text: str) -> Union[int, str]:
-    return int(text) if text.isascii() and text.isdigit() else text
 
 
 def pytest_report_header(config: pytest.Config) -> Optional[str]:

@@ -6,8 +6,7 @@ import shlex
 import subprocess
 import threading
 import time
-from types import TracebackType
-from typing import IO, List, Optional, Pattern, Sequence, Type, Union
+from typing import IO, List, Optional, Pattern, Sequence, Union
 
 from fizgruk import settings
 from fizgruk.errors import FizgrukError, HoldLost, TimedOut
@@ -120,10 +119,7 @@ class Console:
         threading.Thread(target=self._read, args=(self._process.stdout,), daemon=True).start()
         return self
 
-    def __exit__(
-        self, kind: Optional[Type[BaseException]], fault: Optional[BaseException],
-        trace: Optional[TracebackType],
-    ) -> None:
+    def __exit__(self, *_: object) -> None:
         self.close()
 
     def close(self) -> None:

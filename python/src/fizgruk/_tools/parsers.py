@@ -4,10 +4,11 @@ and docs/manual.py writes them into the tool's man page.
 In a text 'words' in quotes are typed or shown as they stand, and a word in capitals is the value
 that an option or an argument names so."""
 import argparse
+import contextlib
 import shutil
 import sys
 import textwrap
-from typing import Any, List, Optional, Sequence, Tuple
+from typing import Any, Callable, List, Optional, Sequence, Tuple
 
 from fizgruk.version import VERSION
 
@@ -31,6 +32,10 @@ class Parser(argparse.ArgumentParser):
         self.settings: Optional[argparse._ArgumentGroup] = None
         self.settings_about = ""
         self.add_argument("-h", "--help", action="help", help="Show this help.")
+
+    def flag(self, name: str, about: str, **more: Any) -> None:
+        """Adds an option that has no value."""
+        self.add_argument(name, action="store_true", help=about, **more)
 
     def add_settings(self, section: str, about: str) -> argparse._ArgumentGroup:
         """Adds the group of options that are settings of this section too."""
@@ -81,6 +86,33 @@ def one_of(
     """Adds an option whose value is one of these words."""
     words = f"{{{'|'.join(choices)}}}"
     parser.add_argument(name, metavar=words, choices=choices, default=default, help=about)
+
+
+class NoNumber(argparse.ArgumentTypeError, ValueError):
+    """A word is no number of a span."""
+
+
+def whole(least: int, most: int) -> Callable[[str], int]:
+    """What reads a word that is a whole number of this span."""
+
+    def number(text: str) -> int:
+        if text.isascii() and text.isdigit() and least <= int(text) <= most:
+            return int(text)
+        raise NoNumber(f"{text} is no number from {least:,} to {most:,}")
+
+    return number
+
+
+def decimal(least: float, most: float) -> Callable[[str], float]:
+    """What reads a word that is a number of this span."""
+
+    def number(text: str) -> float:
+        with contextlib.suppress(ValueError):
+            if least <= float(text) <= most:
+                return float(text)
+        raise NoNumber(f"{text} is no number from {least:g} to {most:g}")
+
+    return number
 
 
 # ---- what a parser has

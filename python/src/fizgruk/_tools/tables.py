@@ -68,7 +68,7 @@ QUEUE = [
     *of("place", "number", "kind", "priority", "boards", "owner", "type", "waited"),
     ("NAME", lambda it: printable(it["name"]) or "-"),
 ]
-NOTE = of("note")  # where a claim of the queue has one
+NOTE: List[Column] = [("NOTE", lambda it: it["note"])]  # where a claim of the queue has one
 JOBS = of(
     "number", "group", "kind", "state", "result", "board", "type", "role", "priority", "owner", "tags"
 )

@@ -21,11 +21,9 @@ def add_commands(command: Command) -> None:
     about = "The board; with --reserve, the tags that it has to have."
     console.add_argument("words", metavar="BOARD", nargs="*", help=about)
     about = "Reserve a board with these tags, wait for it, acquire it, and give it back at the end."
-    console.add_argument("--reserve", action="store_true", help=about)
-    about = "Only look at what another session of yours has there."
-    console.add_argument(WATCH, action="store_true", help=about)
-    about = "Print what the console said in your last hold, for a day."
-    console.add_argument(LOG, action="store_true", help=about)
+    console.flag("--reserve", about)
+    console.flag(WATCH, "Only look at what another session of yours has there.")
+    console.flag(LOG, "Print what the console said in your last hold, for a day.")
     add_as_admin(console)
     console.set_defaults(parser=console, priority=None, every=2.0)
     power = command("power", switch_power)

@@ -5,7 +5,7 @@ from typing import Any, Callable, Dict, List
 
 from fizgruk import calls
 from fizgruk._tools import lab_text
-from fizgruk._tools.parsers import Parser, one_of
+from fizgruk._tools.parsers import Parser, one_of, whole
 from fizgruk.bounds import LONGEST_EVERY
 from fizgruk.desk import lab_import, tell, views
 from fizgruk.errors import Code, Refused
@@ -21,18 +21,17 @@ def add_commands(command: Callable[..., Parser]) -> None:
     health.add_argument("boards", metavar="BOARD", nargs="+", help="A board's name.")
     about = f"{', '.join(HEALTHS[:-1])}, or {HEALTHS[-1]}, which is for good."
     health.add_argument("health", metavar="HEALTH", type=health_called, help=about)
-    about = f"Ask nothing before boards are {RETIRED}, at a terminal too."
-    health.add_argument("--yes", action="store_true", help=about)
+    health.flag("--yes", f"Ask nothing before boards are {RETIRED}, at a terminal too.")
     tags = command("tags", set_tags)
     tags.add_argument("board", metavar="BOARD", help="The board's name.")
     tags.add_argument("tags", metavar="TAG", nargs="*", help="A tag of the board.")
-    tags.add_argument("--none", action="store_true", help="It has no tags from now on.")
+    tags.flag("--none", "It has no tags from now on.")
     kind = command("add-type", add_type)
     kind.add_argument("name", metavar="NAME", help="The type's name.")
     about = "What its checks are counted by, with --every (default none)."
     one_of(kind, "--check", lab_text.CHECKS, about)
     about = f"How many hours or jobs lie between two checks, 1 to {LONGEST_EVERY}."
-    kind.add_argument("--every", metavar="N", type=frequency, help=about)
+    kind.add_argument("--every", metavar="N", type=whole(1, LONGEST_EVERY), help=about)
     board = command("add-board", add_board)
     board.add_argument("name", metavar="NAME", help="The board's name.")
     board.add_argument("type", metavar="TYPE", help="Its type.")
@@ -49,12 +48,6 @@ def health_called(text: str) -> str:
         if health.lower() == text.lower():
             return health
     raise argparse.ArgumentTypeError(f"{text} is none of {', '.join(HEALTHS)}")
-
-
-def frequency(text: str) -> int:
-    if not (text.isascii() and text.isdigit() and 1 <= int(text) <= LONGEST_EVERY):
-        raise argparse.ArgumentTypeError(f"{text} is no number from 1 to {LONGEST_EVERY:,}")
-    return int(text)
 
 
 def set_health(desk: calls.Desk, options: argparse.Namespace) -> int:

@@ -2,7 +2,7 @@
 import argparse
 import os
 import sys
-from typing import Any, Callable, Dict, Optional, Sequence, TextIO, Tuple, Union
+from typing import Any, Callable, Dict, Optional, Sequence, TextIO, Tuple
 
 from fizgruk import calls, history, job_file, settings, wants
 from fizgruk._tools import asking, interrupts, parsers, terminal
@@ -23,7 +23,7 @@ from fizgruk.desk import (
     waiting,
 )
 from fizgruk.errors import BadSettings, Code, NoText, Refused, ReservationEnded, Unreachable
-from fizgruk.holding import Reservation
+from fizgruk.holding import Reservation, priority_of
 from fizgruk.usage import BY
 from fizgruk.waiting import row_of, wait_for_board, wait_for_group
 
@@ -37,6 +37,7 @@ AWAITS_BOARD = """\
 Wait until a pass gives it a board, refresh the reservation meanwhile, tell on standard error its \
 place in the queue, and why no board comes where none that fits is free, and print the board."""
 PATIENCE = 15
+NUMBER = parsers.whole(1, 10**9 - 1)
 # what the desk calls a change of a reservation that has another name here
 ACTIONS = {"extend": "refresh", "cancel-reservation": "cancel"}
 
@@ -172,7 +173,7 @@ its lines that was put aside; without it, the server is asked."""
     about = "Where ssh(1) goes for boards (default 'ssh://board@HOST:2222', the server's host)."
     group.add_argument("--access", metavar="DESTINATION", help=about)
     about = "Print what the desk answered, as JSON, an object a line; also behind the command."
-    parser.add_argument("--json", action="store_true", help=about)
+    parser.flag("--json", about)
     parser.set_defaults(asks_as=None)
     commands = parser.add_subparsers(metavar="COMMAND", required=True)
 
@@ -184,9 +185,7 @@ its lines that was put aside; without it, the server is asked."""
         about = "Print what the desk answered, as JSON."
         if does in (past_jobs.show_log, holding.run_with_board, *access.COMMANDS):
             about = argparse.SUPPRESS  # it is taken, and there is nothing to be printed so
-        added.add_argument(
-            "--json", action="store_true", default=argparse.SUPPRESS, help=about
-        )
+        added.flag("--json", about, default=argparse.SUPPRESS)
         return added
 
     add_views(command)
@@ -204,20 +203,20 @@ def add_views(command: Command) -> None:
     queue = command("queue", claims.show_queue)
     about = "Those that want a board of this type; reservations want none."
     queue.add_argument("type", metavar="TYPE", nargs="?", default="", help=about)
-    queue.add_argument("--mine", action="store_true", help="Those of the user alone.")
+    queue.flag("--mine", "Those of the user alone.")
     about = f"How many, at most (default {claims.LAST}; with --json all)."
-    queue.add_argument("--limit", metavar="N", type=number, help=about)
+    queue.add_argument("--limit", metavar="N", type=NUMBER, help=about)
     rows = command("reservations", views.show_reservations)
-    rows.add_argument("--all", action="store_true", help="Those that have ended too.")
-    rows.add_argument("--mine", action="store_true", help="Those of the user alone.")
+    rows.flag("--all", "Those that have ended too.")
+    rows.flag("--mine", "Those of the user alone.")
 
 
 def add_jobs(command: Command) -> None:
     jobs = command("jobs", show_jobs)
-    jobs.add_argument("--text", action="store_true", help="Print the texts that were submitted.")
-    jobs.add_argument("--mine", action="store_true", help="Those of the user alone.")
+    jobs.flag("--text", "Print the texts that were submitted.")
+    jobs.flag("--mine", "Those of the user alone.")
     add_last(jobs, "How many of those that ended")
-    jobs.add_argument("numbers", metavar="N", nargs="*", type=number, help="A job's number.")
+    jobs.add_argument("numbers", metavar="N", nargs="*", type=NUMBER, help="A job's number.")
     jobs.set_defaults(parser=jobs)
     submit = command("submit", submit_job)
     submit.add_argument("file", metavar="FILE", help="The job file, or - for the input.")
@@ -235,10 +234,9 @@ at another time or with another text, this prints the same number."""
 def add_past(command: Command) -> None:
     log = command("log", past_jobs.show_log)
     add_number(log, "A job's number.")
-    about = "Print also what it says from then on, until the job has ended."
-    log.add_argument("--follow", action="store_true", help=about)
+    log.flag("--follow", "Print also what it says from then on, until the job has ended.")
     about = "On a terminal, print its escapes too, by which it may do there what it likes."
-    log.add_argument("--raw", action="store_true", help=about)
+    log.flag("--raw", about)
     add_every(log)
     past = command("history", past_jobs.show_history)
     past.add_argument("board", metavar="BOARD", help="The board's name.")
@@ -251,24 +249,21 @@ def add_past(command: Command) -> None:
     used = command("usage", usage.show_usage)
     about = """\
 A span, as 30d, 12h, 90m or 2w, or a date, as 2026-11-30 (default %(default)s)."""
-    used.add_argument(
-        "--since", metavar="WHEN", type=usage.moment_of, default="30d", help=about
-    )
+    used.add_argument("--since", metavar="WHEN", type=usage.moment_of, default="30d", help=about)
     about = "What has a line each: owners, boards or types (default %(default)s)."
     one_of(used, "--by", BY, about, default="owner")
 
 
 def add_last(parser: Parser, about: str) -> None:
     about = f"{about}, at most (default {past_jobs.LAST})."
-    parser.add_argument("--last", metavar="N", type=number, help=about)
+    parser.add_argument("--last", metavar="N", type=NUMBER, help=about)
 
 
 def add_reservations(command: Command) -> None:
     reserve = command("reserve", reserve_board)
     add_wants(reserve)
     add_waiting(reserve, AWAITS_BOARD)
-    about = "Wait, and then acquire the board."
-    reserve.add_argument("--acquire", action="store_true", help=about)
+    reserve.flag("--acquire", "Wait, and then acquire the board.")
     wait = command("wait", wait_for)
     add_number(wait, "The number of a job or a reservation.")
     add_every(wait)
@@ -283,7 +278,7 @@ def add_reservations(command: Command) -> None:
 
 
 def add_number(parser: Parser, about: str) -> None:
-    parser.add_argument("number", metavar="N", type=number, help=about)
+    parser.add_argument("number", metavar="N", type=NUMBER, help=about)
 
 
 def add_tags(parser: Parser) -> None:
@@ -294,34 +289,18 @@ def add_tags(parser: Parser) -> None:
 def add_wants(parser: Parser) -> None:
     add_tags(parser)
     about = "Its place in the queue: 'low', 'medium', 'high', or 0 to 100 (default 50)."
-    parser.add_argument("--priority", metavar="P", type=priority, help=about)
+    parser.add_argument("--priority", metavar="P", type=priority_of, help=about)
 
 
 def add_waiting(parser: Parser, about: str) -> None:
-    parser.add_argument("--wait", action="store_true", help=about)
+    parser.flag("--wait", about)
     add_every(parser)
 
 
 def add_every(parser: Parser) -> None:
     about = "Between two looks, while it waits (default %(default)s)."
-    parser.add_argument("--every", metavar="SECONDS", type=seconds, default=2, help=about)
-
-
-def number(text: str) -> int:
-    if not (text.isascii() and text.isdigit() and 0 < int(text) < 10**9):
-        raise ValueError
-    return int(text)
-
-
-def priority(text: str) -> Union[int, str]:
-    return int(text) if text.isascii() and text.isdigit() else text
-
-
-def seconds(text: str) -> float:
-    given = float(text)
-    if not 0.05 <= given <= 60:
-        raise ValueError
-    return given
+    every = parsers.decimal(0.05, 60)
+    parser.add_argument("--every", metavar="SECONDS", type=every, default=2, help=about)
 
 
 # ---- jobs
