@@ -1,5 +1,4 @@
 """farm-from-desk: a lab file from a desk's boards, for the farm that comes after it."""
-import re
 from typing import Any, Dict, NamedTuple, Optional, Sequence, Tuple
 
 from farm_import import lab_file
@@ -7,6 +6,7 @@ from fizgruk import calls, clocks, toml_text
 from fizgruk._tools import asking, parsers, terminal
 from fizgruk._tools.telling import Teller
 from fizgruk.errors import BadSettings, Refused, Unreachable
+from fizgruk.words import BadFile, table_of
 
 PROGRAM = "farm-from-desk"
 tell = Teller(PROGRAM)
@@ -47,7 +47,7 @@ def main(words: Optional[Sequence[str]] = None) -> int:
         return tell.told(REFUSED, f"refused: {refusal}")
     except Unreachable as fault:
         return tell.told(lab_file.FAULT, f"no answer from the desk at {fault}")
-    except (BadSettings, lab_file.Unreadable, OSError, UnicodeDecodeError) as fault:
+    except (BadFile, BadSettings, lab_file.Unreadable, OSError, UnicodeDecodeError) as fault:
         return tell.told(lab_file.FAULT, str(fault))
 
 
@@ -172,16 +172,10 @@ def set_health(desk: calls.Desk, file: str) -> int:
 
 
 def healths_of(text: str) -> Dict[str, str]:
-    """The health of each board of a lab file that has one, in the lines that LabFile writes."""
-    healths: Dict[str, str] = {}
-    board = None
-    for line in text.splitlines():
-        section = re.fullmatch(r'\s*\[(?:boards\."?([A-Za-z0-9_.-]+?)"?|.*)\]\s*(#.*)?', line)
-        health = re.fullmatch(r'\s*health\s*=\s*"(\w+)"\s*(#.*)?', line)
-        if section:
-            board = section.group(1)
-        elif health and board:
-            healths[board] = health.group(1)
+    """The health of each board of a lab file that has one."""
+    boards = table_of(toml_text.tree_of(text).get("boards", {}), "boards")
+    rows = {name: table_of(row, name) for name, row in boards.items()}
+    healths = {name: str(row["health"]) for name, row in rows.items() if "health" in row}
     if not healths:
         raise lab_file.Unreadable("the lab file says no board's health")
     return healths

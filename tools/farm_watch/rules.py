@@ -3,7 +3,6 @@ line and with what is allowed."""
 import dataclasses
 import email.errors
 import email.headerregistry
-import re
 import urllib.parse
 from typing import Any, Callable, Dict, Optional, Tuple
 
@@ -12,8 +11,6 @@ from fizgruk.words import BadFile, name_of
 
 CHANNELS = ("mail", "webhook")
 OUTCOMES = ("Complete", "Incomplete", "Infra", "Canceled")
-SHORT = re.compile(r"([0-9]+(?:\.[0-9]+)?)([dhms])")
-SECONDS = {"d": 86400, "h": 3600, "m": 60, "s": 1}
 LONGEST_HOLD, LONGEST_LATE = 365 * 86400, 86400
 SHORTEST_HOLD, SHORTEST_LATE = 60, 10
 OWNER = "{owner}"
@@ -92,10 +89,8 @@ def seconds_of(value: Any) -> float:
     """The seconds of a time: `4h`, `1h30m`, or as a job file has it."""
     if not isinstance(value, str):
         raise limits.BadTime(f"{value!r} has no unit")
-    parts = SHORT.findall(value)
-    if parts and "".join(count + unit for count, unit in parts) == value:
-        return sum(float(count) * SECONDS[unit] for count, unit in parts)
-    return limits.time_of(value)
+    short = limits.short_time_of(value, "dhms")
+    return limits.time_of(value) if short is None else short
 
 
 def flag_of(value: Any) -> bool:
@@ -229,16 +224,9 @@ PATHS = ("/var/lib/farm", "/var/lib/farm-dispatch")  # whose room counts where n
 def read_file(file: str) -> Rules:
     """The rules of a file. A fault is told as BadFile, behind the file's name and its line."""
     try:
-        with open(file, encoding="utf-8") as opened:
-            text = opened.read()
-    except UnicodeDecodeError as fault:
-        raise BadFile(f"{file}: it isn't UTF-8 at byte {fault.start}") from fault
-    try:
-        tree = toml_text.tree_of(text)
-    except toml_text.NotToml as fault:
-        raise BadFile(f"{file}: {fault}") from fault
-    try:
-        return Reader(text, tree).rules()
+        with open(file, "rb") as opened:
+            text = toml_text.text_of(opened.read())
+        return Reader(text, toml_text.tree_of(text)).rules()
     except BadFile as fault:
         raise BadFile(f"{file}: {fault}") from fault
 

@@ -81,14 +81,9 @@ class Store:
     @contextlib.contextmanager
     def _change(self) -> Iterator[sqlite3.Connection]:
         """One commit."""
-        with self.lock:
+        with self.lock, self.line:
             self.line.execute("BEGIN IMMEDIATE")
-            try:
-                yield self.line
-            except BaseException:
-                self.line.execute("ROLLBACK")
-                raise
-            self.line.execute("COMMIT")
+            yield self.line
 
     def _seen(self) -> Seen:
         found: Seen = {}

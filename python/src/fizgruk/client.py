@@ -8,7 +8,7 @@ from typing import Callable, Dict, Iterator, List, Literal, Optional, Sequence, 
 
 from fizgruk import calls, history, job_file, models, records, settings, usage, waiting
 from fizgruk.calls import Body, Desk, Row, fresh_key, part
-from fizgruk.errors import BadJobFile, Code, FizgrukError, NoLog, Refused
+from fizgruk.errors import BadJobFile, Code, FizgrukError, Refused
 from fizgruk.history import Past
 from fizgruk.holding import Hold, Priority
 from fizgruk.waiting import Tell, Wait
@@ -183,7 +183,8 @@ class Client:
 
     def log(self, number: int) -> str:
         """What a job has said so far. Raises NoLog where it has no log."""
-        return b"".join(self._log(number, 0)).decode(errors="replace")
+        said = history.log_of(self._past(), self._desk, number)
+        return b"".join(said).decode(errors="replace")
 
     def follow(
         self, number: int, timeout: Optional[float] = HOUR, *, every: float = 2.0
@@ -192,29 +193,10 @@ class Client:
         for."""
         wait = Wait(self._desk, f"job {number} hasn't ended", timeout, every, LOG.info)
         decoder = codecs.getincrementaldecoder("utf-8")(errors="replace")
-        begin = 0
-        while True:
-            # (a log to which something may be added is looked at once more)
-            is_open = wait.answer_of(lambda: history.is_to_come(wait.desk, number))
-            try:
-                for said in self._log(number, begin):
-                    begin += len(said)
-                    text = decoder.decode(said)
-                    if text:
-                        yield text
-            except NoLog as fault:
-                wait.say(str(fault))
-                if not is_open:
-                    raise
-            if not is_open:
-                return
-            wait.pause()
-
-    def _log(self, number: int, begin: int) -> Iterator[bytes]:
-        try:
-            yield from self._past().log(number, begin)
-        except NoLog as fault:
-            raise NoLog(history.why_no_log(self._desk, number)) from fault
+        for said in history.followed(self._past(), number, wait):
+            text = decoder.decode(said)
+            if text:
+                yield text
 
     def history(
         self, board: Optional[str] = None, last: int = LAST

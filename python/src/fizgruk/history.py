@@ -6,12 +6,12 @@ from typing import Any, Dict, Iterator, List, Optional, Union
 
 from fizgruk import calls, records, submissions
 from fizgruk.errors import BadSettings, Code, NoLog, NoText, Refused, Unreachable
+from fizgruk.waiting import Wait
 
 NONE_SERVED = (
     "{} serves no history: ask through the proxy (examples/nginx.conf), or on the dispatcher's "
     "machine with --history FOLDER"
 )
-
 
 # So many bytes from a history's end the newest jobs are looked for, before all of it is read.
 TAIL = 500_000
@@ -101,11 +101,7 @@ class Kept:
         try:
             with open(os.path.join(self.folder, "logs", f"{number}"), "rb") as file:
                 file.seek(begin)
-                while True:
-                    said = file.read(calls.BLOCK)
-                    if not said:
-                        return
-                    yield said
+                yield from iter(lambda: file.read(calls.BLOCK), b"")
         except FileNotFoundError as fault:
             raise NoLog from fault
 
@@ -116,6 +112,37 @@ Past = Union[Served, Kept]
 def past_of(desk: calls.Desk, place: Optional[str]) -> Past:
     """The history of a desk: that of a folder, or the one that is served beside it."""
     return Kept(os.path.expanduser(place)) if place else Served(desk)
+
+
+def log_of(past: Past, desk: calls.Desk, number: int) -> Iterator[bytes]:
+    """What a job has said so far. Raises NoLog, which says why, where it has no log."""
+    try:
+        yield from past.log(number, 0)
+    except NoLog as fault:
+        raise NoLog(why_no_log(desk, number)) from fault
+
+
+def followed(past: Past, number: int, wait: Wait) -> Iterator[bytes]:
+    """What a job says, piece by piece, until it has ended; a job that hasn't begun is waited for, and
+    so is a desk that gives no answer."""
+    begin, is_open = 0, True
+    while is_open:
+        try:
+            # (a log to which something may be added is looked at once more)
+            is_open = is_to_come(wait.desk, number)
+            for said in past.log(number, begin):
+                begin += len(said)
+                yield said
+        except NoLog as fault:
+            why = wait.answer_of(lambda: why_no_log(wait.desk, number))
+            if not is_open:
+                raise NoLog(why) from fault
+            wait.say(why)
+        except Unreachable as fault:
+            is_open = True
+            wait.say(f"no answer from the desk, which is asked again: {fault.trouble}")
+        if is_open:
+            wait.pause()
 
 
 def is_to_come(desk: calls.Desk, number: int) -> bool:

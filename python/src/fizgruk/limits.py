@@ -9,6 +9,7 @@ from fizgruk import toml_text
 
 UNITS = {"days": 86400, "hours": 3600, "minutes": 60, "seconds": 1}
 PART = re.compile(r"([0-9]+(?:\.[0-9]+)?) *(day|hour|minute|second)s?(?: *,? *|$)")
+SHORT_UNITS = {"w": 7 * 86400, "d": 86400, "h": 3600, "m": 60, "s": 1}
 LONGEST = 1e9
 SIZES = {"kB": 1000, "MB": 1000**2, "GB": 1000**3, "TB": 1000**4}
 SIZE = re.compile(r"([0-9]+(?:\.[0-9]+)?) *(kB|MB|GB|TB)?")
@@ -44,6 +45,14 @@ def time_of(said: object) -> float:
     if not 0 < seconds <= LONGEST:
         raise BadTime(f"{said!r} is no time")
     return seconds
+
+
+def short_time_of(text: str, units: str) -> Optional[float]:
+    """The seconds of a short text as `4h` or `1h30m`, in these units, or None where it is none."""
+    parts = re.findall(rf"([0-9]{{1,6}}(?:\.[0-9]+)?)([{units}])", text)
+    if not parts or "".join(count + unit for count, unit in parts) != text:
+        return None
+    return sum(float(count) * SHORT_UNITS[unit] for count, unit in parts)
 
 
 def _number_of(unit: object, count: object) -> float:

@@ -6,9 +6,9 @@ import time
 from typing import Any, Dict, Iterable, List, Optional, Set
 
 from fizgruk import calls, history, job_file, records, wants
-from fizgruk._tools import interrupts, tables, terminal
-from fizgruk.desk import tell, views
-from fizgruk.errors import NoLog, Refused, Unreachable
+from fizgruk._tools import tables, terminal
+from fizgruk.desk import tell, views, waiting
+from fizgruk.errors import NoLog, Refused
 
 REFUSED = 3
 LAST = 50
@@ -183,65 +183,20 @@ BOARD_COLUMNS = [
 
 def show_log(desk: calls.Desk, options: argparse.Namespace) -> int:
     """Prints a job's log; with --follow all that is added to it until the job has ended."""
-    log = Log(views.history_of(desk, options), options.number, options.raw)
-    if not options.follow:
-        return 0 if log.print_more() else log.tell_none(desk)
-    is_open = history.is_to_come(desk, options.number)  # what is asked first has to be answered
-    while True:
-        try:
-            # (a log to which something may be added is looked at once more)
-            there = log.print_more()
-            if not is_open:
-                return log.finish() if there else log.tell_none(desk)
-            if not there:
-                log.tell_none(desk)
-            interrupts.check()
-            time.sleep(options.every)
-            is_open = history.is_to_come(desk, options.number)
-        except Unreachable as fault:
-            log.tell_once(f"no answer from the desk, which is asked again: {fault.trouble}")
-            time.sleep(options.every)
-
-
-class Log:
-    """A job's log as it is printed."""
-
-    def __init__(self, past: history.Past, number: int, is_raw: bool):
-        self.past = past
-        self.number = number
-        self.plain = None if is_raw or not sys.stdout.isatty() else terminal.Plain()
-        self.printed = 0
-        self.told: Set[str] = set()
-
-    def print_more(self) -> bool:
-        """Prints what the log has and wasn't printed yet. Returns whether there is a log."""
-        try:
-            for chunk in self.past.log(self.number, self.printed):
-                self._print(chunk)
-                self.printed += len(chunk)
-            return True
-        except NoLog:
-            return False
-
-    def _print(self, chunk: bytes) -> None:
-        if self.plain is None:
-            sys.stdout.buffer.write(chunk)
-            sys.stdout.buffer.flush()
-        else:
-            print(self.plain.of(chunk), end="", flush=True)
-
-    def finish(self) -> int:
-        """Prints what waited for more, of which there is none. Returns the exit status."""
-        if self.plain is not None:
-            print(self.plain.end(), end="", flush=True)
-        return 0
-
-    def tell_none(self, desk: calls.Desk) -> int:
-        """Tells why there is no log. Returns the exit status."""
-        self.tell_once(history.why_no_log(desk, self.number))
-        return REFUSED
-
-    def tell_once(self, text: str) -> None:
-        if text not in self.told:
-            self.told.add(text)
-            tell(f"{text}")
+    past, number = views.history_of(desk, options), options.number
+    log = history.log_of(past, desk, number)
+    if options.follow:
+        history.is_to_come(desk, number)  # what is asked first has to be answered
+        log = history.followed(past, number, waiting.Checked(desk, "", None, options.every, tell))
+    plain = None if options.raw or not sys.stdout.isatty() else terminal.Plain()
+    try:
+        for said in log:
+            if plain is None:
+                sys.stdout.buffer.write(said)
+                sys.stdout.buffer.flush()
+            else:
+                print(plain.of(said), end="", flush=True)
+    except NoLog as fault:
+        return tell.told(REFUSED, str(fault))
+    print(plain.end() if plain else "", end="", flush=True)
+    return 0

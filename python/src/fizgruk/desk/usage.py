@@ -1,16 +1,12 @@
 """What the jobs that ended have used, as it is shown."""
 import argparse
 import operator
-import re
 import time
 from typing import Optional
 
-from fizgruk import calls, usage
+from fizgruk import calls, limits, usage
 from fizgruk._tools import tables
 from fizgruk.desk import views
-
-UNITS = {"m": 60, "h": 3600, "d": 86400, "w": 7 * 86400}
-SPAN = re.compile(r"([0-9]{1,6})([mhdw])")
 
 
 def show_usage(desk: calls.Desk, options: argparse.Namespace) -> int:
@@ -24,9 +20,9 @@ def show_usage(desk: calls.Desk, options: argparse.Namespace) -> int:
 
 def moment_of(text: str) -> int:
     """The moment that a text names: `30d`, `12h`, `90m` or `2w` ago, or a date's begin."""
-    span = SPAN.fullmatch(text)
-    if span:
-        return int(time.time()) - int(span[1]) * UNITS[span[2]]
+    span = limits.short_time_of(text, "mhdw")
+    if span is not None:
+        return int(time.time() - span)
     try:
         return int(time.mktime(time.strptime(text, "%Y-%m-%d")))
     except (ValueError, OverflowError) as fault:

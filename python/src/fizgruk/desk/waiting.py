@@ -59,8 +59,16 @@ def columns() -> int:
         return WIDTH
 
 
-class Wait(waiting.Wait):
-    """A wait that shows its progress, until a signal comes."""
+class Checked(waiting.Wait):
+    """A wait until a signal comes."""
+
+    def pause(self) -> None:
+        interrupts.check()
+        super().pause()
+
+
+class Wait(Checked):
+    """A wait that shows its progress."""
 
     def __init__(self, desk: calls.Desk, clock: clocks.Watch, every: float) -> None:
         super().__init__(desk, "", None, every, print)
@@ -78,10 +86,6 @@ class Wait(waiting.Wait):
 
     def note_look(self) -> None:
         self.clock.look(self.progress.tell)
-
-    def pause(self) -> None:
-        interrupts.check()
-        super().pause()
 
     def __enter__(self) -> "Wait":
         return self
