@@ -30,7 +30,7 @@ Answer = Optional[Tuple[int, bytes]]
 def conversation(port: int, sent: bytes) -> Answer:
     """The answer's status and body; nothing where the program was gone before its end."""
     try:
-        with socket.create_connection(("127.0.0.1", port), timeout=20) as stream:
+        with socket.create_connection(("127.0.0.1", port), timeout=100) as stream:
             stream.sendall(sent)
             answer = b""
             while more := stream.recv(65536):

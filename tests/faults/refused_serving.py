@@ -59,7 +59,7 @@ def body_of(answer: bytes) -> bytes:
 def ask(port: int, request: bytes) -> bytes:
     """Returns the answer to a request, which is empty where the program has ended."""
     try:
-        with socket.create_connection(("127.0.0.1", port), timeout=20) as client:
+        with socket.create_connection(("127.0.0.1", port), timeout=100) as client:
             client.sendall(request)
             return b"".join(iter(lambda: client.recv(65536), b""))
     except OSError:

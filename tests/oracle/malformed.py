@@ -629,7 +629,7 @@ class Server:
 
     def ask(self, sent: bytes) -> Optional[bytes]:
         """All that is answered to bytes and the end of them; None where the connection was reset."""
-        with socket.create_connection(("127.0.0.1", self.port), timeout=20) as stream:
+        with socket.create_connection(("127.0.0.1", self.port), timeout=100) as stream:
             got = b""
             try:
                 stream.sendall(sent)

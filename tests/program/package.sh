@@ -1,18 +1,21 @@
 #!/bin/sh
-# Builds the Debian packages of a built program and looks into them: sh tests/program/package.sh bin/farm
-# What each has and does at its installation, that its tools say their help, each file's sum, each man page of
-# docs/, each document that is named, and what lintian says where that is there.
+# Looks into the Debian packages of a built program: sh tests/program/package.sh bin/farm [FOLDER]
+# FOLDER has them, where they are built. What each has and does at its installation, that its tools say their help,
+# each file's sum, each man page of docs/, each document that is named, and what lintian says where that is there.
 # packaging/try.sh installs them in a clean Debian.
 set -eu
 . "$(dirname "$0")/../shared/folder.sh"
 cd "$(dirname "$0")/../.."
-if ! built=$(sh packaging/build.sh "$farm" "$folder"); then
+if [ $# -gt 1 ]; then
+    cp "$2"/*.deb "$folder"
+elif ! built=$(sh packaging/build.sh "$farm" "$folder"); then
     case $built in
         'package: not built, since '*) left_out 'the packages' "${built#*since }" ;;
         *) fail "they aren't built: $built" ;;
     esac
     exit 0
 fi
+built=$(ls "$folder"/*.deb)
 tree=$folder/tree
 for deb in $built; do
     dpkg-deb -x "$deb" "$tree"

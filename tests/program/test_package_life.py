@@ -9,9 +9,9 @@ from typing import Dict, Iterator
 import pytest
 from machine import Machine
 from served import STARTED, TOP
-from wants import lacks, wants
+from wants import wants
 
-pytestmark = [pytest.mark.xdist_group("packages"), pytest.mark.slow(90)]
+pytestmark = [pytest.mark.xdist_group("packages"), pytest.mark.slow(90), pytest.mark.timeout(1200)]
 UNITS = ("farm.service", "farm-dispatch.service", "farm-backup.timer", "farm-metrics.timer")
 ON, OFF = "enabled active", "disabled inactive"
 
@@ -19,17 +19,14 @@ ON, OFF = "enabled active", "disabled inactive"
 class Debian(Machine):
     """A machine on which the packages are, in /tmp/packages, and nothing of them is installed."""
 
+    def __init__(self, folder: str, program: str, packages: str):
+        self.packages = packages
+        super().__init__(folder, program)
+
     def _set_up(self, program: str) -> None:
-        folder = os.path.dirname(self.room)
-        words = ["sh", os.path.join(TOP, "packaging", "build.sh"), program, folder]
-        built = subprocess.run(words, capture_output=True, text=True, check=False)
-        if built.returncode and "not built, since" in built.stdout:
-            self.end()
-            lacks(built.stdout.strip())
-        assert built.returncode == 0, built.stdout + built.stderr
         self.run("rm", "-f", "/usr/sbin/policy-rc.d")  # (by which images of containers start nothing)
-        names = [os.path.basename(it) for it in built.stdout.split() if "/fizgruk_" not in it]
-        with subprocess.Popen(["tar", "-cC", folder, *names], stdout=subprocess.PIPE) as packed:
+        names = [it for it in os.listdir(self.packages) if not it.startswith("fizgruk_")]
+        with subprocess.Popen(["tar", "-cC", self.packages, *names], stdout=subprocess.PIPE) as packed:
             self.run("sh", "-c", "mkdir /tmp/packages && tar -xC /tmp/packages", stdin=packed.stdout)
 
     def install(self) -> str:
@@ -48,9 +45,9 @@ class Debian(Machine):
 
 
 @pytest.fixture(scope="module")
-def debian(program: str, tmp_path_factory: pytest.TempPathFactory) -> Iterator[Debian]:
-    wants("dpkg", "dpkg-buildpackage", "nginx")
-    booted = Debian(str(tmp_path_factory.mktemp("debian")), program)
+def debian(program: str, packages: str, tmp_path_factory: pytest.TempPathFactory) -> Iterator[Debian]:
+    wants("dpkg", "nginx")
+    booted = Debian(str(tmp_path_factory.mktemp("debian")), program, packages)
     STARTED.remove(booted.process)  # (it lasts longer than a test)
     yield booted
     booted.end()

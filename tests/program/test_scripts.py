@@ -17,10 +17,13 @@ SECONDS = {"mistakes.sh": 10, "package.sh": 30, "statuses.sh": 10, "upgrade.sh":
 
 
 @pytest.mark.parametrize("name", [pytest.param(it, marks=pytest.mark.slow(SECONDS[it])) for it in SECONDS])
-def test_script(name: str, program: str, record_property: Callable[[str, object], None]) -> None:
+def test_script(name: str, program: str, request: pytest.FixtureRequest, record_property: Callable[[str, object], None]) -> None:
+    words = ["sh", os.path.join(FOLDER, name), program]
+    if name == "package.sh":
+        words.append(request.getfixturevalue("packages"))
     ran = subprocess.run(
-        ["sh", os.path.join(FOLDER, name), program], stdin=subprocess.DEVNULL, stdout=subprocess.PIPE,
-        stderr=subprocess.STDOUT, text=True, check=False, env=environment(),
+        words, stdin=subprocess.DEVNULL, stdout=subprocess.PIPE, stderr=subprocess.STDOUT, text=True, check=False,
+        env=environment(),
     )
     assert ran.returncode == 0, ran.stdout[-2000:]
     *said, last = ran.stdout.splitlines()

@@ -23,7 +23,7 @@ def test_a_user_has_so_many_reservations_open_and_more_where_some_end(door: Door
     time.sleep(5)
     assert door.told(*RESERVE, "/reservations")[0] == 429, "what holds a board is open too"
     assert door.told("-X", "POST", "/reservations/1/cancel")[0] == 200
-    wait_until("it is seen", lambda: door.told(*RESERVE, "/reservations")[0] == 200, 20)
+    wait_until("it is seen", lambda: door.told(*RESERVE, "/reservations")[0] == 200)
     assert door.told(*RESERVE, "/reservations")[0] == 429
 
 
@@ -32,7 +32,7 @@ def test_a_user_has_so_many_jobs_open_and_so_many_an_hour(door: Door) -> None:
     assert door.told(*JOB, "/jobs") == limit("the limit of ann is 4 open jobs")
     for number in (1, 2, 3, 4):
         assert door.told("-X", "POST", f"/jobs/{number}/cancel")[0] == 200
-    wait_until("they are seen to have ended", lambda: door.told(*JOB, "/jobs")[0] == 200, 20)
+    wait_until("they are seen to have ended", lambda: door.told(*JOB, "/jobs")[0] == 200)
     assert door.told(*JOB, "/jobs")[0] == 200
     assert door.told(*JOB, "/jobs") == limit("the limit of ann is 6 jobs an hour")
     door.kill()

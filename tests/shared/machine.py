@@ -129,7 +129,7 @@ class Machine:
         head = ["runuser", "-u", user, "--"] if user else []
         ran = subprocess.run(
             ["nsenter", "-t", str(self.first), "-a", "--wdns=/", *around, *head, *words],
-            stdin=stdin or subprocess.DEVNULL, capture_output=True, text=True, timeout=120, check=False,
+            stdin=stdin or subprocess.DEVNULL, capture_output=True, text=True, timeout=550, check=False,
         )
         assert not check or ran.returncode == 0, f"{words}: {ran.stdout}{ran.stderr}"
         return ran

@@ -270,7 +270,7 @@ class Lab:
         head = ["ssh", "-F", "none", "-p", str(self.port), "-i", key, *more, *options]
         return [*head, f"{account or self.account()}@127.0.0.1", *words]
 
-    def try_words(self, words: Sequence[str], seconds: float = 30, said: bytes = b"", **more: str) -> Tried:
+    def try_words(self, words: Sequence[str], seconds: float = 120, said: bytes = b"", **more: str) -> Tried:
         """What comes of a client that ends by itself."""
         around = [f"{name}={text}" for name, text in more.items()]
         try:
@@ -280,7 +280,7 @@ class Lab:
             return Tried(None, late.stdout or b"", (late.stderr or b"").decode(errors="replace"))
         return Tried(ran.returncode, ran.stdout, ran.stderr.decode(errors="replace").strip())
 
-    def session(self, person: str, *words: str, options: Sequence[str] = (), seconds: float = 30,
+    def session(self, person: str, *words: str, options: Sequence[str] = (), seconds: float = 120,
                 said: bytes = b"") -> Tried:
         return self.try_words(self.ssh(person, *words, options=options), seconds, said)
 
@@ -405,7 +405,7 @@ def kill(pid: int, number: int = signal.SIGKILL) -> None:
         pass
 
 
-def until(true: Callable[[], Any], seconds: float = 20) -> float:
+def until(true: Callable[[], Any], seconds: float = 100) -> float:
     """Waits until something is true, and says for how long it wasn't."""
     since = time.monotonic()
     while not true() and time.monotonic() < since + seconds:

@@ -18,9 +18,9 @@ from served import Farm, free_port
 
 pytestmark = [pytest.mark.xdist_group("access"), pytest.mark.slow(120)]
 BAD_WORDS, FAULT, NOT_YOURS, LOST, NO_SSH = 2, 4, 5, 6, 255
-# Seconds from a hold's end within which nothing of it is left: two, on a machine that isn't busy with other tests
+# Seconds from a hold's end within which nothing of it is left: two, where a machine isn't busy with other tests
 # (access_handovers.py measures that).
-OUT = 6.0
+OUT = 30.0
 
 
 @pytest.fixture(scope="module")
@@ -99,7 +99,7 @@ def test_an_admin_at_a_free_board_is_out_once_somebody_has_it(lab: Lab, held: Ca
     line = lab.begin("eve", "b1", "sleep", "--as-admin")
     running(lab, "sleep")
     held()
-    assert line.wait(10) == LOST
+    assert line.wait(OUT) == LOST
 
 
 def test_a_stranger_s_key_opens_nothing(lab: Lab, held: Callable[..., int]) -> None:
@@ -302,7 +302,7 @@ def test_a_second_session_watches_the_console(lab: Lab, held: Callable[..., int]
     first.stdin.flush()
     assert second.stdout.read(3) == b"two"
     lab.cancel("ann", number)
-    assert (first.wait(10), second.wait(10)) == (LOST, LOST)
+    assert (first.wait(OUT), second.wait(OUT)) == (LOST, LOST)
 
 
 def test_each_session_is_a_line_of_the_log(lab: Lab, held: Callable[..., int]) -> None:
@@ -336,8 +336,15 @@ def writer(lab: Lab, person: str = "ann") -> "subprocess.Popen[bytes]":
     """A session whose processes went away from it and write to b2 without end."""
     before = len(lab.got("b2"))
     line = lab.begin(person, "b2", "nasty", "mark", "0.01")
-    assert until(lambda: len(lab.got("b2")) > before + 3) < 20, lab.said("sshd")[-800:]
+    until(lambda: len(lab.got("b2")) > before + 3)
+    assert len(lab.got("b2")) > before + 3, lab.said("sshd")[-800:]
     return line
+
+
+def still_writes(lab: Lab, moment: float) -> bool:
+    """Whether b2 gets bytes after a moment."""
+    until(lambda: lab.got("b2")[-1].at > moment)
+    return lab.got("b2")[-1].at > moment
 
 
 def ends_in_time(lab: Lab, number: int, board: str = "b2", person: str = "ann") -> None:
@@ -353,7 +360,7 @@ def test_a_hold_s_end_ends_all(lab: Lab, held: Callable[..., int]) -> None:
     number = held("ann", "b2")
     line = writer(lab)
     ends_in_time(lab, number)
-    assert line.wait(5) == LOST
+    assert line.wait(OUT) == LOST
     assert line.stderr and b"has ended" in line.stderr.read()
 
 
@@ -361,7 +368,7 @@ def test_a_release_ends_it_too(lab: Lab, held: Callable[..., int]) -> None:
     number = held("ann", "b2")
     line = writer(lab)
     lab.tell("ann", f"/reservations/{number}/release")
-    assert line.wait(OUT + 3) == LOST
+    assert line.wait(OUT) == LOST
     assert until(lambda: not lab.nasty()) < OUT
 
 
@@ -402,8 +409,7 @@ def test_while_the_desk_is_down_a_session_goes_on_and_none_begins(lab: Lab, held
     number = held("ann", "b2")
     writer(lab)
     lab.farm.kill()
-    time.sleep(3)
-    goes_on = time.time() - lab.got("b2")[-1].at < 1
+    goes_on = still_writes(lab, time.time() + 3)
     tried = lab.session("ann", "b2", "say", "x")
     lab.restart_desk()
     assert goes_on
@@ -415,8 +421,7 @@ def test_while_the_desk_hangs_a_session_goes_on(lab: Lab, held: Callable[..., in
     number = held("ann", "b2")
     writer(lab)
     lab.farm.process.send_signal(signal.SIGSTOP)
-    time.sleep(3)
-    goes_on = time.time() - lab.got("b2")[-1].at < 1
+    goes_on = still_writes(lab, time.time() + 3)
     lab.farm.process.send_signal(signal.SIGCONT)
     assert goes_on
     ends_in_time(lab, number)
@@ -449,7 +454,7 @@ def test_a_console_on_a_terminal_ends_with_its_hold(lab: Lab, held: Callable[...
     until(lambda: typed(b"."))  # (what is typed before it has begun isn't for the board)
     assert typed(b"\x03typed\r")
     lab.cancel("ann", number)
-    assert line.wait(10) == LOST
+    assert line.wait(OUT) == LOST
 
 
 def test_after_runs_between_two_holds_and_where_it_fails_nobody_gets_in(make_farm: Callable[..., Farm]) -> None:
@@ -482,20 +487,19 @@ def test_after_runs_between_two_holds_and_where_it_fails_nobody_gets_in(make_far
 def test_of_a_long_paste_nothing_comes_after_the_hold_since_consoles_are_paced(
     make_farm: Callable[..., Farm]
 ) -> None:
-    """The board takes 11,500 bytes a second, and what waits in ser2net would come later: some three seconds of it,
-    where nothing else is at the machine."""
-    lab = access_lab.make(make_farm, slow=True)
+    """The board takes 11,500 bytes a second, and what waits in ser2net would come later: some 30,000 bytes."""
+    lab = access_lab.make(make_farm, slow=True, rate=1000)
     try:
         number = lab.reserve("ann", "b1")
         line = lab.begin("ann", "b1", "console")
         threading.Thread(target=paste, args=(line, b"x" * 300_000), daemon=True).start()
         until(lambda: lab.text("b1"))
         time.sleep(1.5)
-        since = time.time()
         lab.cancel("ann", number)
         until(lambda: not lab.sessions())
+        before = len(lab.text("b1"))
         until(lambda: time.time() > lab.got("b1")[-1].at + 2)
-        assert lab.got("b1")[-1].at - since < 2
+        assert len(lab.text("b1")) - before < 8000
     finally:
         lab.end()
 

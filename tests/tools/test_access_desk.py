@@ -110,7 +110,7 @@ def test_console_reserve_gets_a_board_and_gives_it_back(lab: Lab) -> None:
     assert line.stdout.read(4) == b"mine"
     assert lab.text("b2").endswith(b"mine")
     line.terminate()
-    line.wait(20)
+    line.wait(100)
     until(lambda: lab.farm.board("b2")["holder"] == "none")
     assert lab.farm.board("b2")["holder"] == "none"
 
@@ -145,7 +145,7 @@ def test_a_console_of_the_package_sends_and_expects(lab: Lab) -> None:
 import re
 with board.console() as console:
     console.send_line("first second")
-    said.append(console.expect("none", re.compile("sec.nd"), timeout=20))
+    said.append(console.expect("none", re.compile("sec.nd"), timeout=100))
     said.append(console.before)
     try:
         console.expect("never", timeout=0.5)
@@ -160,12 +160,12 @@ def test_a_console_whose_board_is_lost_says_so(lab: Lab) -> None:
     said = held(lab, """\
 with board.console() as console:
     console.send_line("x")
-    console.expect("x", timeout=20)
+    console.expect("x", timeout=100)
     place = f"{client.server}/reservations/{board.reservation}/cancel"
     asked = urllib.request.Request(place, data=b"", headers={"x-user": "admin", "x-key": "k"})
     try:
         urllib.request.urlopen(asked).read()
-        console.expect("never", timeout=20)
+        console.expect("never", timeout=100)
     except BaseException as fault:
         said.append("HoldLost" if isinstance(fault, fizgruk.HoldLost) else type(fault).__name__)
         print(__import__("json").dumps(said)); import os, sys; sys.stdout.flush(); os._exit(0)""")

@@ -280,6 +280,6 @@ def test_an_emulated_board_from_reserve_to_its_prompt(lab: Lab, capsys: pytest.C
     status = subprocess.run(desk(lab, "power", "virt-1", "status"), capture_output=True, check=False)
     assert status.stdout == b"on\n"
     line.terminate()
-    line.wait(20)
+    line.wait(100)
     until(lambda: lab.farm.board("virt-1")["holder"] == "none")
     assert lab.farm.board("virt-1")["holder"] == "none"

@@ -752,16 +752,17 @@ def check_of(lab: Lab, name: str) -> int:
 
 def test_limits_over_restarts(lab: Lab) -> None:
     """A limit is measured from the job's begin, over dispatchers that are killed, and a runner that hangs."""
-    number = submitted(lab, lab.sleeps(208), 'job = "8 seconds"')
+    number = submitted(lab, lab.sleeps(208), 'job = "20 seconds"')
     hung = submitted(lab, lab.sleeps(209), 'job = "1 minute"')
     dispatcher = lab.dispatch("--grace", "1")
     lab.begun(number)
-    time.sleep(4)
+    time.sleep(12)
     dispatcher.kill()
+    again = time.time()
     dispatcher = lab.dispatch("--grace", "1")
     assert lab.finished(number) == "Incomplete", "the one that ran over a restart"
-    took = os.stat(lab.file(number, "ended")).st_mtime - os.stat(lab.file(number, "began")).st_mtime
-    assert 8 <= took + 0.1 < 12, f"that its limit began with the job ({took:.1f} s)"
+    began, ended = (os.stat(lab.file(number, it)).st_mtime for it in ("began", "ended"))
+    assert ended - began > 19.9 and ended - again < 20, f"that its limit began with the job ({began}, {again}, {ended})"
     lab.running(209)
     dispatcher.kill()
     os.kill(lab.runner(hung) or 0, signal.SIGSTOP)

@@ -140,7 +140,7 @@ def test_a_stopped_process_of_a_session_is_killed(folder: str) -> None:
         found = sessions.all_in(folder)[0]
         found.process = cages.name_of(holder.pid)
         assert sessions.evict([found], "", os.devnull)
-        assert holder.wait(10) == -signal.SIGKILL
+        assert holder.wait(100) == -signal.SIGKILL
     finally:
         holder.kill()
 
