@@ -761,8 +761,8 @@ def test_limits_over_restarts(lab: Lab) -> None:
     again = time.time()
     dispatcher = lab.dispatch("--grace", "1")
     assert lab.finished(number) == "Incomplete", "the one that ran over a restart"
-    began, ended = (os.stat(lab.file(number, it)).st_mtime for it in ("began", "ended"))
-    assert ended - began > 19.9 and ended - again < 20, f"that its limit began with the job ({began}, {again}, {ended})"
+    first, last = (os.stat(lab.file(number, it)).st_mtime for it in ("began", "ended"))
+    assert last - first > 19.9 and last - again < 20, f"that its limit began with the job ({first}, {again}, {last})"
     lab.running(209)
     dispatcher.kill()
     os.kill(lab.runner(hung) or 0, signal.SIGSTOP)

@@ -20,7 +20,7 @@ from typing import Any, Callable, Dict, Iterator, List, Optional, Tuple, Type, c
 import pytest
 
 import fizgruk
-from fizgruk import holding, settings, waiting
+from fizgruk import reservations, settings, waiting
 from fizgruk.version import VERSION
 from nginx_site import Site
 from python_front import BOARDS, JOB, PATH, SOURCES, SRC, Front, Passer, client_of, rows, states
@@ -504,7 +504,7 @@ def test_number_that_is_lost(farm: Farm, front: Front) -> None:
 
 def test_board_that_cant_be_given_back(farm: Farm, front: Front, monkeypatch: pytest.MonkeyPatch) -> None:
     """It is told, with what to type."""
-    monkeypatch.setattr(holding, "GIVES_UP", 0.5)
+    monkeypatch.setattr(reservations, "GIVES_UP", 0.5)
     with Passer(farm):
         left = client_of(front.url).board("hdmi", every=0.1)
         left.__enter__()

@@ -8,7 +8,7 @@ import types
 from typing import Any, Callable, Dict, Iterator, List, Optional, Tuple
 
 import pytest
-from fizgruk import calls, history, holding, settings, waiting
+from fizgruk import calls, history, reservations, settings, waiting
 from fizgruk._tools import interrupts
 from fizgruk.desk import holding as desk_holding, past_jobs
 from fizgruk.errors import Code, NoLog, Refused, ReservationEnded, Unreachable
@@ -294,7 +294,7 @@ class Cancels(calls.Desk):
         self.told: List[str] = []
         self.now = 0.0
         monkeypatch.setattr(desk_holding, "tell", self.told.append)
-        monkeypatch.setattr(holding, "time", types.SimpleNamespace(monotonic=lambda: self.now, sleep=self.sleep))
+        monkeypatch.setattr(reservations, "time", types.SimpleNamespace(monotonic=lambda: self.now, sleep=self.sleep))
 
     def sleep(self, seconds: float) -> None:
         self.now += seconds
@@ -310,8 +310,8 @@ class Cancels(calls.Desk):
         return {"number": 7}
 
 
-def reservation_of(desk: calls.Desk, number: Optional[int] = 7) -> holding.Reservation:
-    made = holding.Reservation(desk, ["hdmi"], "high")
+def reservation_of(desk: calls.Desk, number: Optional[int] = 7) -> reservations.Reservation:
+    made = reservations.Reservation(desk, ["hdmi"], "high")
     made.number = number
     return made
 
@@ -333,7 +333,7 @@ def test_a_reservation_that_is_left_is_told_and_one_that_ended_isnt(
     desk = Cancels(monkeypatch, *[fault] * 1000)
     assert desk_holding.is_given_back(reservation_of(desk)) is (not told)
     assert desk.told == told
-    assert desk.now <= holding.GIVES_UP + 2, "it goes on for a minute at most"
+    assert desk.now <= reservations.GIVES_UP + 2, "it goes on for a minute at most"
 
 
 def test_one_whose_number_never_came_ends_by_itself(monkeypatch: pytest.MonkeyPatch) -> None:

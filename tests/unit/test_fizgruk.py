@@ -16,7 +16,7 @@ from typing import Any, Callable, Dict, List, Optional, Tuple, Type, cast
 import pytest
 
 import fizgruk
-from fizgruk import calls, holding, models, settings, waiting
+from fizgruk import calls, holding, models, reservations, settings, waiting
 from fizgruk.calls import Answer, Desk
 
 OWN = settings.Settings("http://127.0.0.1:1/farm/", "ann", None, None, 30.0)
@@ -47,7 +47,7 @@ class Clock:
 def clock(monkeypatch: pytest.MonkeyPatch) -> Clock:
     """The clock of the package's modules."""
     made = Clock()
-    for module in (calls, waiting, holding):
+    for module in (calls, waiting, reservations):
         monkeypatch.setattr(module, "time", made)
     return made
 
@@ -542,7 +542,7 @@ def test_not_given_back(clock: Clock) -> None:
     """After a minute it is told what is left."""
     with pytest.raises(fizgruk.NotGivenBack, match="^gone: reservation 7 is left: desk cancel-reservation 7$"):
         hold_of(Giver(*[fizgruk.Unreachable("gone")] * 100)).end()
-    assert sum(clock.slept) == pytest.approx(holding.GIVES_UP, abs=2)
+    assert sum(clock.slept) == pytest.approx(reservations.GIVES_UP, abs=2)
 
 
 def test_not_given_back_after_a_fault(caplog: pytest.LogCaptureFixture, clock: Clock) -> None:

@@ -18,7 +18,7 @@ from fizgruk import calls, waiting, wants
 from fizgruk._tools import interrupts
 from fizgruk.desk import holding, main as client, past_jobs, views, waiting as desk_waiting
 from fizgruk.errors import BadSettings, Code, Refused, Unreachable
-from fizgruk.holding import Reservation
+from fizgruk.reservations import Reservation
 
 NO = Refused(401, 0, "no")
 

@@ -5,7 +5,7 @@ import time
 from typing import Any, Dict, List, Optional, Tuple, cast
 
 import pytest
-from fizgruk import calls, holding, waiting
+from fizgruk import calls, reservations, waiting
 from fizgruk.desk import clocks, holding as desk_holding, waiting as desk_waiting
 from fizgruk.errors import Refused, ReservationEnded, Unreachable
 
@@ -143,8 +143,8 @@ def test_a_desk_that_gives_no_answer_is_asked_again(desk: Desk, capsys: pytest.C
 # ---- giving back
 
 
-def reservation_at(desk: Desk) -> holding.Reservation:
-    return holding.Reservation(cast(calls.Desk, desk), [], None)
+def reservation_at(desk: Desk) -> reservations.Reservation:
+    return reservations.Reservation(cast(calls.Desk, desk), [], None)
 
 
 def test_a_reservation_whose_answer_was_lost_is_asked_for_under_its_key_to_be_canceled(desk: Desk) -> None:

@@ -5,36 +5,41 @@
     with fizgruk.Client().board("hdmi") as board:
         print(board.name)
 """
-from fizgruk.client import Client
-from fizgruk.errors import (
-    BadJobFile,
-    BadSettings,
-    Code,
-    FizgrukError,
-    HoldLost,
-    NoLog,
-    NotGivenBack,
-    NoText,
-    Refused,
-    ReservationEnded,
-    TimedOut,
-    Unreachable,
-)
-from fizgruk.models import (
-    Board,
-    BoardView,
-    Claim,
-    HealthChange,
-    Holder,
-    JobView,
-    PassCounts,
-    PastJob,
-    ReservationView,
-    Status,
-    TypeView,
-    Use,
-)
+import importlib
+from typing import TYPE_CHECKING
+
 from fizgruk.version import VERSION as __version__
+
+if TYPE_CHECKING:
+    from fizgruk.client import Client
+    from fizgruk.errors import (
+        BadJobFile,
+        BadSettings,
+        Code,
+        FizgrukError,
+        HoldLost,
+        NoLog,
+        NotGivenBack,
+        NoText,
+        Refused,
+        ReservationEnded,
+        TimedOut,
+        Unreachable,
+    )
+    from fizgruk.models import (
+        Board,
+        BoardView,
+        Claim,
+        HealthChange,
+        Holder,
+        JobView,
+        PassCounts,
+        PastJob,
+        ReservationView,
+        Status,
+        TypeView,
+        Use,
+    )
 
 __all__ = [
     "BadJobFile",
@@ -64,3 +69,17 @@ __all__ = [
     "Use",
     "__version__",
 ]
+_MODULES = ("errors", "models", "client")
+
+if not TYPE_CHECKING:
+
+    def __getattr__(name: str) -> object:
+        """A name of these modules, which are read where one is first used: a tool that has parts of the library
+        begins without the rest."""
+        if name in _MODULES:
+            return importlib.import_module(f"fizgruk.{name}")
+        for module in _MODULES if name in __all__ else ():
+            found = importlib.import_module(f"fizgruk.{module}")
+            if hasattr(found, name):
+                return getattr(found, name)
+        raise AttributeError(f"module 'fizgruk' has no attribute {name!r}")

@@ -20,8 +20,9 @@ from typing import (
 from fizgruk import waiting
 from fizgruk.client import HOUR, LOG, Client
 from fizgruk.errors import HoldLost
-from fizgruk.holding import Hold, Priority
+from fizgruk.holding import Hold
 from fizgruk.models import Board
+from fizgruk.reservations import Priority
 from fizgruk.waiting import Tell
 
 if TYPE_CHECKING:  # (Python 3.9 hasn't these, and type checkers know them of themselves)

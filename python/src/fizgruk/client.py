@@ -10,7 +10,8 @@ from fizgruk import calls, history, job_file, models, records, settings, usage, 
 from fizgruk.calls import Body, Desk, Row, fresh_key, part
 from fizgruk.errors import BadJobFile, Code, FizgrukError, Refused
 from fizgruk.history import Past
-from fizgruk.holding import Hold, Priority
+from fizgruk.holding import Hold
+from fizgruk.reservations import Priority
 from fizgruk.waiting import Tell, Wait
 
 LOG = logging.getLogger("fizgruk")

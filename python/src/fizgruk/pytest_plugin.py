@@ -16,7 +16,7 @@ from typing import Any, Callable, Dict, Generator, Iterator, List, Optional, Tup
 
 import pytest
 
-from fizgruk import holding
+from fizgruk import holding, reservations
 from fizgruk.client import HOUR, Client
 from fizgruk.errors import FizgrukError, HoldLost
 from fizgruk.models import Board
@@ -46,7 +46,7 @@ def pytest_addoption(parser: pytest.Parser) -> None:
     )
     group.addoption(
         "--farm-priority", metavar="P", help="low, medium, high, or 0 to 100 (50)",
-        type=holding.priority_of,
+        type=reservations.priority_of,
     )
     group.addoption(
         "--farm-timeout", metavar="SECONDS", help="wait so long for a board (3600)", type=float,

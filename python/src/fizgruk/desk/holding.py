@@ -11,7 +11,7 @@ from fizgruk import calls
 from fizgruk._tools.interrupts import SIGNALS, Interrupted, check
 from fizgruk.desk import loss, tell, waiting
 from fizgruk.errors import FizgrukError, NotGivenBack
-from fizgruk.holding import Reservation
+from fizgruk.reservations import Reservation
 from fizgruk.waiting import wait_for_board
 
 OF_ITSELF, NOT_RUN, NOT_FOUND = 125, 126, 127

@@ -23,7 +23,7 @@ from fizgruk.desk import (
     waiting,
 )
 from fizgruk.errors import BadSettings, Code, NoText, Refused, ReservationEnded, Unreachable
-from fizgruk.holding import Reservation, priority_of
+from fizgruk.reservations import Reservation, priority_of
 from fizgruk.usage import BY
 from fizgruk.waiting import row_of, wait_for_board, wait_for_group
 
