@@ -2,6 +2,7 @@
 where it gives no answer."""
 from __future__ import annotations
 
+import json
 import os
 import sqlite3
 import threading
@@ -106,6 +107,28 @@ def test_the_client_takes_a_token_for_a_password(door: Door) -> None:
     file = write(door.folder, "token", f"{token}\n", 0o600)
     assert door.site.desk("reserve", DESK_PASSWORD_FILE=file) == (0, "1\n", "")
     assert door.owners() == ["ann"]
+
+
+def test_the_client_makes_shows_and_ends_tokens(door: Door) -> None:
+    status, token, errors = door.site.desk("add-token", "nightly")
+    assert (status, errors) == (0, "") and token.startswith("farm_token_")
+    assert door.site.desk("add-token", "nightly") == (3, "", "desk: refused: 409 you have a token of that name\n")
+    assert door.site.desk("add-token", "a b") == (3, "", "desk: refused: 400 no name of a token\n")
+    made = json.loads(door.site.desk("--json", "add-token", "other")[1])
+    assert (made["number"], made["name"]) == (2, "other")
+    lines = door.site.desk("tokens")[1].splitlines()
+    assert [it.split()[:2] for it in lines] == [["NUMBER", "NAME"], ["1", "nightly"], ["2", "other"]]
+    assert token.strip() not in door.site.desk("--json", "tokens")[1]
+    file = write(door.folder, "token", token, 0o600)
+    said = door.site.desk("tokens", DESK_PASSWORD_FILE=file)
+    assert said[0] == 3 and "a token makes, shows and ends none" in said[2]
+    assert door.site.desk("reserve", DESK_PASSWORD_FILE=file)[0] == 0
+    assert door.site.desk("end-token", "nightly") == (0, "", "")
+    assert door.site.desk("end-token", "nightly") == (3, "", "desk: you have no token nightly\n")
+    assert door.site.desk("reserve", DESK_PASSWORD_FILE=file)[0] == 3
+    assert [it["name"] for it in json.loads(door.site.desk("tokens", "--json")[1])["tokens"]] == ["other"]
+    status, output, errors = door.site.desk("add-token", "x", DESK_SERVER=door.farm.server, DESK_PASSWORD_FILE="", DESK_USER="ann")
+    assert (status, output) == (3, "") and "tokens are a site's that has farm-door(8)" in errors, errors
 
 
 @pytest.mark.parametrize("fields", [

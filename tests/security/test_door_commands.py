@@ -181,8 +181,8 @@ def test_a_repetition_is_one_command_also_at_the_limit(door: Door) -> None:
 
 def test_what_the_desk_refuses_counts_for_nothing(door: Door) -> None:
     bad = ("--data-binary", "job_name = 'x'\ndevice_type = 'none'")
-    for _ in range(8):
-        assert door.told("-H", "x-key: same", *bad, "/jobs")[1]["code"] == 10
+    for key in ("same", *(f"k{it}" for it in range(7))):
+        assert door.told("-H", f"x-key: {key}", *bad, "/jobs")[1]["code"] == 10
     assert [door.told("-H", "x-key: same", *JOB, "/jobs")[0]] + [door.told(*JOB, "/jobs")[0] for _ in range(4)] == [200] * 4 + [429]
 
 

@@ -247,6 +247,7 @@ def test_the_clients_version_is_the_packages(lab: Farm) -> None:
     ("desk ", "queue health tags add-type add-board import with", ""),
     ("desk --v", "--version", "queue"),
     ("desk ext", "extend", "queue"),
+    ("desk add-t", "add-type add-token", "tokens"),
     ("desk ", "log history usage resubmit", ""),
     ("desk usage --by ", "owner board type", ""),
     ("desk jobs --", "--mine --last --text", "--all"),

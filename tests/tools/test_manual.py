@@ -23,7 +23,7 @@ DOCS = os.path.join(TOP, "docs")
 COMMANDS = [
     "boards", "types", "queue", "reservations", "jobs", "submit", "cancel", "resubmit", "log", "history",
     "audit", "usage", "reserve", "wait", "acquire", "release", "refresh", "extend", "cancel-reservation",
-    "with", "console", "power", "ssh", "ways", "health", "tags", "add-type", "add-board", "import",
+    "with", "console", "power", "ssh", "ways", "tokens", "add-token", "end-token", "health", "tags", "add-type", "add-board", "import",
 ]
 # The tools and their commands.
 PAGES: Dict[str, List[str]] = {

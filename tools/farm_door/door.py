@@ -8,7 +8,7 @@ from typing import Any, Dict, List, Tuple
 from farm_door import wishes
 from farm_door.commands import Answer, Command, Desk, NotReached, Refused
 from farm_door.counts import JOBS, RESERVATIONS, WORDS, Counts, Passed
-from farm_door.kept import Kept
+from farm_door.kept import MOST_TOKENS, Full, Kept, Taken
 from farm_door.rules import Group, Rules
 from fizgruk.words import NAMES
 
@@ -115,10 +115,12 @@ class Door:
             return {"number": int(ended.group(1))}
         if method != "POST" or path != "/tokens":
             raise Refused(404, "no such route")
-        made = self.kept.make(owner, _name_in(body))
-        if made is None:
-            raise Refused(429, "too many tokens that haven't ended")
-        return made
+        try:
+            return self.kept.make(owner, _name_in(body))
+        except Taken:
+            raise Refused(409, "you have a token of that name") from None
+        except Full:
+            raise Refused(403, f"the limit is {MOST_TOKENS} tokens that haven't ended") from None
 
 
 def _compare_priority(group: Group, wish: wishes.Wish) -> None:

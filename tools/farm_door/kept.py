@@ -22,6 +22,14 @@ create index if not exists passed_of on passed (owner, kind, ckey);
 """
 
 
+class Full(Exception):
+    """An owner has too many tokens."""
+
+
+class Taken(Exception):
+    """An owner has a token of that name."""
+
+
 class Kept:
     """The file, for one caller at a time."""
 
@@ -38,13 +46,15 @@ class Kept:
             ).fetchone()
         return None if row is None else (str(row[0]), f"token {row[1]} {row[2]}")
 
-    def make(self, owner: str, name: str) -> Optional[Dict[str, Any]]:
-        """A new token, which is told this once; None where the owner has too many."""
+    def make(self, owner: str, name: str) -> Dict[str, Any]:
+        """A new token, which is told this once; raises Full or Taken."""
         token = f"{calls.TOKEN_MARK}{secrets.token_urlsafe(32)}"
         with self.lock:
-            count = self.base.execute("select count(*) from tokens where owner = ? and ended = 0", (owner,)).fetchone()[0]
-            if count >= MOST_TOKENS:
-                return None
+            names = [it[0] for it in self.base.execute("select name from tokens where owner = ? and ended = 0", (owner,))]
+            if name in names:
+                raise Taken
+            if len(names) >= MOST_TOKENS:
+                raise Full
             # (the last one's number stays, so that none has it again)
             old = "delete from tokens where 0 < ended and ended < ? and number < (select max(number) from tokens)"
             self.base.execute(old, (int(time.time()) - DAY,))

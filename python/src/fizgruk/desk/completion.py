@@ -13,7 +13,7 @@ from typing import Callable, Dict, Iterable, List, Set, Tuple
 
 from fizgruk import calls, settings, words
 from fizgruk._tools import parsers, tables
-from fizgruk.desk import admin, past_jobs, views
+from fizgruk.desk import admin, past_jobs, tokens, views
 from fizgruk.errors import FizgrukError
 
 LONGEST = "3"  # seconds for which a call may hold up the shell, where no setting says it
@@ -109,6 +109,10 @@ def open_jobs_of(desk: calls.Desk, _: argparse.Namespace) -> List[object]:
     return [it["number"] for it in past_jobs.open_jobs(desk, desk.user)]
 
 
+def tokens_of(desk: calls.Desk, _: argparse.Namespace) -> List[object]:
+    return [it["name"] for it in tokens.rows_of(desk)]
+
+
 def jobs_of(desk: calls.Desk, options: argparse.Namespace) -> List[object]:
     found = open_jobs_of(desk, options)
     try:
@@ -127,6 +131,7 @@ OFFERS: Dict[str, Offer] = {
     "TYPE": names_of("types"),
     "N": reservations_of,
     "NAME": lambda desk, options: (),
+    "TOKEN": tokens_of,
     "tags TAG": own_tags_of,
     "add-board TAG": own_tags_of,
     "cancel N": open_jobs_of,

@@ -18,6 +18,7 @@ from fizgruk.desk import (
     past_jobs,
     tell,
     texts,
+    tokens,
     usage,
     views,
     waiting,
@@ -193,6 +194,7 @@ its lines that was put aside; without it, the server is asked."""
     add_past(command)
     add_reservations(command)
     access.add_commands(command)
+    tokens.add_commands(command)
     admin.add_commands(command)
     return parser
 
@@ -393,6 +395,7 @@ def await_end(desk: calls.Desk, options: argparse.Namespace, job: int) -> int:
 VIEWS: Tuple[Callable[..., int], ...] = (
     views.show_boards, views.show_types, claims.show_queue, views.show_reservations, show_jobs,
     past_jobs.show_log, past_jobs.show_history, usage.show_usage, audit.show_audit,
+    tokens.show_tokens,
 )
 
 

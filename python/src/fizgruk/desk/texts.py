@@ -84,7 +84,8 @@ that the desk keeps.""",
 Show a board's jobs, and how its health changed and why, the newest first.""",
     "audit": """\
 Show who did what with a board, the newest last: the commands that the site handed on and the desk \
-accepted, by their login, their address and their words. It reads a file of the site's machine, \
+accepted, by their login, their address, their words and the number that was answered. It reads a \
+file of the site's machine, \
 which root and the group adm may read.""",
     "usage": """\
 Show what jobs used, how they ended and how long they waited. A line has how many jobs ended since \
@@ -126,6 +127,14 @@ Switch the power of a board that you hold, and return once that is done.""",
     "ssh": """\
 Go by ssh(1) to the sshd of a board that you hold, as root or another user.""",
     "ways": "Show which ways the lab has to a board.",
+    "tokens": """\
+Show your tokens that haven't ended. A token stands for your password where a program asks, as in \
+a pipeline: its text stands in the file that 'password_file' names. It is for a site with \
+farm-door(8).""",
+    "add-token": """\
+Make a token, and print its text, which is shown this once. Where no answer comes, end it, and \
+make another.""",
+    "end-token": "End one of your tokens, which lets nobody in from then on.",
 }
 
 OF_AN_ADMIN = {
