@@ -340,6 +340,9 @@ OPTIONS = argparse.Namespace(
     folder_limit=10**9,
     memory_limit=0,
     process_limit=0,
+    artifact_count=10,
+    artifact_limit=1000,
+    artifacts_limit=1000,
 )
 
 

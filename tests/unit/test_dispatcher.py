@@ -114,7 +114,8 @@ class Lab:
         self.place = place
         options = argparse.Namespace(
             command=["true"], check=["true"], every=5.0, grace=30.0, infra=75, keep=30.0, keep_logs=100.0, limit=60.0, most=60.0,
-            retry=30.0, cage=cages.NONE, serves="", log_limit=1000, folder_limit=1000,
+            retry=30.0, cage=cages.NONE, serves="", log_limit=1000, folder_limit=1000, artifact_count=10, artifact_limit=1000,
+            artifacts_limit=1000,
         )
         desk: Any = self.desk
         self.dispatcher = Dispatcher(desk, str(place), options)

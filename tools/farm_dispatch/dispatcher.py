@@ -22,6 +22,7 @@ import time
 from typing import Any, Callable, Dict, Optional, Set
 
 from farm_dispatch import faults, folders, members, parts, room
+from farm_dispatch.collectors import Collectors
 from farm_dispatch.groups import KILLS_AFTER, LOST, NOT_BEGUN, Group, Groups, Later
 from farm_dispatch.members import Rows
 from farm_dispatch.past import Past
@@ -48,8 +49,9 @@ class Dispatcher:
         own: Optional[settings.Settings] = None,
     ):
         """`options` has `command`, `check`, `every`, `grace`, `infra`, `keep`, `keep_logs`,
-        `limit`, `most`, `retry`, `cage`, `serves`, `log_limit`, `folder_limit`, `memory_limit` and
-        `process_limit`; `own` are the settings by which it asks, where it may ask as others too."""
+        `limit`, `most`, `retry`, `cage`, `serves`, `log_limit`, `folder_limit`, `memory_limit`,
+        `process_limit`, `artifact_count`, `artifact_limit` and `artifacts_limit`;
+        `own` are the settings by which it asks, where it may ask as others too."""
         self.desk, self.place, self.options = desk, place, options
         self.starts = Starts((options.command, options.check), options.retry)
         self.groups = Groups(place, options)
@@ -59,6 +61,8 @@ class Dispatcher:
         self.broken: Dict[int, str] = {}  # groups that a fault here ends, and why
         self.faults = faults.Faults(place)
         self.stuck: Dict[int, float] = {}  # groups that are killed, and since when
+        self.ended: Dict[int, str] = {}  # groups whose artifacts are being kept, and how they ended
+        self.collectors = Collectors(options.artifact_count, options.artifact_limit, options.artifacts_limit)
         self.told: Set[str] = set()
         self.past = Past(desk, place, self.groups.open)
         self.retries = Retries(desk, own)
@@ -404,7 +408,11 @@ class Dispatcher:
 
     def _settle(self, group: Group, ended: str, how: str) -> None:
         """Writes the lines of a group, whose end the desk has acknowledged, into the history, and
-        marks it as finished."""
+        marks it as finished; later, where what it left has to be kept before."""
+        if not self.collectors.are_done(group):
+            self.ended.setdefault(group.number, how)
+            return
+        how = self.ended.pop(group.number, how)
         outcome = self._outcome_of(ended)
         room.with_room(
             self.place,

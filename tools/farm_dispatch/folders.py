@@ -16,8 +16,9 @@ In DIR/groups/N are
     cancel        it shall end; since when, by the same clock
     late          it was killed for its time limit
     ended         how it ended
-    finished      the desk knows how it ended
+    finished      the desk knows how it ended, and all else is done
     unkeyed       the desk had no room to keep the reply to its start
+    kept          what it left in `out` is in DIR/artifacts/N, or is given up; its counts, for the history
     log           what its command said: one file with DIR/logs/N and DIR/jobs/N/log
 
 and `lock`, which its runner holds as long as it lives. DIR/cages/N is the mark of the processes
@@ -37,6 +38,7 @@ from fizgruk._tools import disk
 
 BEGAN, STARTED, ENDED, FINISHED = "began", "started", "ended", "finished"
 CANCEL, LATE, UNKEYED, KEY, MADE = "cancel", "late", "unkeyed", "key", "made"
+KEPT = "kept"
 LOCK, LOG, TEXT, BOARDS, ABOUT = "lock", "log", "job.toml", "boards", "about.json"
 BOARD_ROWS = "boards.json"
 GROUPS, JOBS, CAGES = "groups", "jobs", "cages"

@@ -14,6 +14,7 @@ from farm_dispatch.runner import wake
 from fizgruk import calls, limits, words as texts
 from fizgruk._tools import asking, disk, parsers, terminal
 from fizgruk._tools.telling import Teller
+from fizgruk.artifacts import MOST_FILES
 from fizgruk.errors import BadSettings, Refused, Unreachable
 
 HOUR = 3600
@@ -34,7 +35,8 @@ NO_LIMITS = (
     "controllers memory and pids, and the cgroup farm-dispatcher (DelegateSubgroup of the unit); jobs "
     "with accounts have MemoryMax and TasksMax of farm-job@.service"
 )
-SIZES, NO_LIMIT = ("log_limit", "folder_limit", "memory_limit"), "none"
+SIZES = ("log_limit", "folder_limit", "memory_limit", "artifacts_limit", "artifact_limit")
+COUNTS, NO_LIMIT = ("process_limit", "artifact_count"), "none"
 # What options, environment and files may set: its value's word, its default, and what it is.
 MORE = {
     "limit": (
@@ -83,6 +85,18 @@ MORE = {
         "The most processes and threads that a job may have, with the two that look after it, where "
         "they are such a cgroup",
     ),
+    "artifacts_limit": (
+        "SIZE",
+        "500 MB",
+        "The bytes that are kept of what a job left in 'out' of its folder, as long as its log: a file "
+        "that is beyond them isn't kept",
+    ),
+    "artifact_limit": ("SIZE", "100 MB", "The most bytes that a file of these may have"),
+    "artifact_count": (
+        "COUNT",
+        "1000",
+        "The most files of these, 10,000 at most",
+    ),
     "serves": (
         "TAG",
         "all boards",
@@ -108,8 +122,9 @@ One dispatcher runs for a desk, or for each part of its boards (--serves). It ma
 moment: commands go on, and the next one on the same folder takes them up. Each group's command is \
 begun once at most, and its boards are given on when nothing lives of what it started.
 The command runs in a folder of its own, DIR/jobs/NUMBER, which has the job's text in 'job.toml' \
-and its boards in 'boards' and 'boards.json', and gets all that it says in 'log'. Its environment \
-has 'FARM_JOB', 'FARM_KIND', 'FARM_OWNER', 'FARM_PRIORITY', 'FARM_BOARD' (the first), \
+and its boards in 'boards' and 'boards.json', and gets all that it says in 'log'. What it leaves \
+there in the folder 'out' is kept as long as its log, and the tests of 'out/junit.xml' are counted in \
+the history. Its environment has 'FARM_JOB', 'FARM_KIND', 'FARM_OWNER', 'FARM_PRIORITY', 'FARM_BOARD' (the first), \
 'FARM_BOARDS', 'FARM_TYPES', 'FARM_ROLES', 'FARM_MACHINES', 'FARM_JOB_FILE', 'FARM_BOARDS_FILE' \
 and 'FARM_FOLDER'."""
 STATUSES = (
@@ -277,7 +292,7 @@ def use(options: argparse.Namespace, more: Dict[str, Optional[str]]) -> None:
     for name, of, like in (
         *((it, time_of, "time, as '90 minutes'") for it in ("limit", "most", "retry", "keep_logs")),
         *((it, limits.size_of, "size, as '100 MB'") for it in SIZES),
-        ("process_limit", count_of, "count, as 500"),
+        *((it, count_of, "count, as 500") for it in COUNTS),
     ):
         text = more[name] or MORE[name][1]
         try:
@@ -285,6 +300,7 @@ def use(options: argparse.Namespace, more: Dict[str, Optional[str]]) -> None:
         except ValueError as fault:
             raise BadSettings(f"{name}: {text!r} is no {like} is one") from fault
     options.limit = min(options.limit, options.most)
+    options.artifact_count = min(options.artifact_count, MOST_FILES)
     options.serves = more["serves"] or parts.ALL
     if options.serves and not texts.TAGS.fullmatch(options.serves):
         raise BadSettings(f"serves: {options.serves!r} is no tag, as worker=rack2 is one")

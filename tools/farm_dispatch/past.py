@@ -2,11 +2,13 @@
 logs, by which a proxy serves them: a file a job, whose name is its number."""
 import json
 import os
+import re
+import shutil
 import time
 from typing import Any, Dict, Iterable, List, Optional, Set, Tuple
 
 from farm_dispatch import folders, strangers
-from fizgruk import calls, job_file, records
+from fizgruk import artifacts, calls, job_file, records
 from fizgruk._tools import disk
 from fizgruk.bounds import MOST_WANTS
 from fizgruk.submissions import Submissions
@@ -21,6 +23,7 @@ class Past:
         """`is_open` are the groups that aren't known to have ended."""
         self.desk = desk
         self.logs = folders.made_for_all(os.path.join(place, "logs"))
+        self.artifacts = folders.made_for_all(os.path.join(place, artifacts.FOLDER))
         for cut in (it for it in os.listdir(self.logs) if it.endswith(".new")):
             os.unlink(os.path.join(self.logs, cut))
         self.history = records.History(place, is_open)
@@ -35,6 +38,9 @@ class Past:
             for number, log in self._served_logs():
                 if number >= following:
                     os.unlink(log)
+            for number, folder in self._kept_artifacts():
+                if number >= following:
+                    shutil.rmtree(folder, ignore_errors=True)
         if not self.history.is_shown:
             self.history.show()
         return status
@@ -58,6 +64,7 @@ class Past:
         folders.make_log(folder)
         faults = []
         for number in (it["job"] for it in about["members"]):
+            shutil.rmtree(os.path.join(self.artifacts, f"{number}"), ignore_errors=True)
             try:
                 log = os.path.join(folder, folders.LOG)
                 folders.link(log, os.path.join(self.logs, f"{number}"))
@@ -76,6 +83,7 @@ class Past:
             "began": began,
             "ended": max(began, _moment_of(os.path.join(folder, folders.ENDED))),
         }
+        left = _left_in(folder)
         rows = []
         for it in about["members"]:
             head = {"kind": "job", "job": it["job"], "group": number, "owner": about["owner"]}
@@ -83,7 +91,7 @@ class Past:
             said = self._result_of(it, about["owner"]) or outcome
             reason = how if said in ("Canceled", outcome) else "finished by somebody else"
             end = {"outcome": said, "reason": "" if said == outcome == "Complete" else reason}
-            rows.append({**head, **common, **end})
+            rows.append({**head, **common, **end, **left})
         self.history.add_jobs(rows)
 
     def settle(self, number: int) -> None:
@@ -91,16 +99,26 @@ class Past:
         self.history.settle(number)
 
     def remove_old(self, seconds: float, is_open: Set[int]) -> None:
-        """Removes the logs to which nothing was added for so many seconds."""
+        """Removes the logs to which nothing was added for so many seconds, and the artifacts of so
+        long ago, with what a kill left of others."""
         oldest, kept = time.time() - seconds, _members_of(is_open)
         for number, log in self._served_logs():
             if number not in kept and os.stat(log).st_mtime < oldest:
                 os.unlink(log)
+        for number, folder in self._kept_artifacts(r"(?:new-|old-)?([0-9]+)(?:-[0-9a-f]+)?"):
+            is_old = folder != os.path.join(self.artifacts, f"{number}") or os.stat(folder).st_mtime < oldest
+            if number not in kept and is_old:
+                shutil.rmtree(folder, ignore_errors=True)
 
     def _served_logs(self) -> List[Tuple[int, str]]:
         """The logs that are served: each with its number."""
         names = [it for it in os.listdir(self.logs) if it.isdigit()]
         return [(int(it), os.path.join(self.logs, it)) for it in names]
+
+    def _kept_artifacts(self, names: str = "([0-9]+)") -> List[Tuple[int, str]]:
+        """The folders of artifacts: each with its number."""
+        found = ((re.fullmatch(names, it), it) for it in os.listdir(self.artifacts))
+        return [(int(match[1]), os.path.join(self.artifacts, it)) for match, it in found if match]
 
     def _about_in(self, folder: str) -> Dict[str, Any]:
         """What stands in a group's folder; in one that an earlier version made, by the desk."""
@@ -147,6 +165,13 @@ def _checked(about: Any) -> Dict[str, Any]:
     if not all(isinstance(it, str) for it in texts) or not all(type(it) is int for it in numbers):
         raise strangers.Strange(f"{folders.ABOUT} isn't what the dispatcher wrote")
     return dict(about)
+
+
+def _left_in(folder: str) -> Dict[str, Any]:
+    """What the history says of what a group left."""
+    said = strangers.text_in(os.path.join(folder, folders.KEPT))
+    kept = json.loads(said) if said else {}
+    return {key: kept[key] for key in ("artifacts", "tests") if key in kept}
 
 
 def _members_of(groups: Iterable[int]) -> Set[int]:

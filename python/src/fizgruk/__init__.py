@@ -11,6 +11,7 @@ from typing import TYPE_CHECKING
 from fizgruk.version import VERSION as __version__
 
 if TYPE_CHECKING:
+    from fizgruk.artifacts import Artifact
     from fizgruk.client import Client
     from fizgruk.errors import (
         BadJobFile,
@@ -18,6 +19,7 @@ if TYPE_CHECKING:
         Code,
         FizgrukError,
         HoldLost,
+        NoArtifact,
         NoLog,
         NotGivenBack,
         NoText,
@@ -33,15 +35,18 @@ if TYPE_CHECKING:
         HealthChange,
         Holder,
         JobView,
+        Left,
         PassCounts,
         PastJob,
         ReservationView,
+        Results,
         Status,
         TypeView,
         Use,
     )
 
 __all__ = [
+    "Artifact",
     "BadJobFile",
     "BadSettings",
     "Board",
@@ -54,6 +59,8 @@ __all__ = [
     "HoldLost",
     "Holder",
     "JobView",
+    "Left",
+    "NoArtifact",
     "NoLog",
     "NoText",
     "NotGivenBack",
@@ -62,6 +69,7 @@ __all__ = [
     "Refused",
     "ReservationEnded",
     "ReservationView",
+    "Results",
     "Status",
     "TimedOut",
     "TypeView",
@@ -69,7 +77,7 @@ __all__ = [
     "Use",
     "__version__",
 ]
-_MODULES = ("errors", "models", "client")
+_MODULES = ("errors", "models", "artifacts", "client")
 
 if not TYPE_CHECKING:
 

@@ -180,6 +180,8 @@ class AsyncClient:
     wait_for_job = awaited(Client.wait_for_job)
 
     log = awaited(Client.log)
+    artifacts = awaited(Client.artifacts)
+    artifact = awaited(Client.artifact)
     history = awaited(Client.history)
     usage = awaited(Client.usage)
 

@@ -7,6 +7,7 @@ import time
 from typing import Callable, Dict, Iterator, List, Literal, Optional, Sequence, TypeVar, Union
 
 from fizgruk import calls, history, job_file, models, records, settings, usage, waiting
+from fizgruk.artifacts import Artifact
 from fizgruk.calls import Body, Desk, Row, fresh_key, part
 from fizgruk.errors import BadJobFile, Code, FizgrukError, Refused
 from fizgruk.history import Past
@@ -198,6 +199,16 @@ class Client:
             text = decoder.decode(said)
             if text:
                 yield text
+
+    def artifacts(self, number: int) -> List[Artifact]:
+        """What a job's group left in `out` of its folder, once that is kept. Raises NoArtifact where there
+        is nothing."""
+        return history.Artifacts(self._desk, self._past(), number).files
+
+    def artifact(self, number: int, name: str) -> bytes:
+        """The bytes of what a job left under a name. Raises NoArtifact where there is none."""
+        left = history.Artifacts(self._desk, self._past(), number)
+        return b"".join(left.bytes_of(left.of(name)))
 
     def history(
         self, board: Optional[str] = None, last: int = LAST

@@ -87,6 +87,10 @@ class NoLog(FizgrukError):
     """A job has no log, or none yet."""
 
 
+class NoArtifact(FizgrukError):
+    """A job left no artifacts, or none of that name, or they aren't kept any longer."""
+
+
 class NoText(FizgrukError):
     """A job has no text: it is a health check."""
 

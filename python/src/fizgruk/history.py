@@ -4,8 +4,9 @@ import collections
 import os
 from typing import Any, Dict, Iterator, List, Optional, Union
 
-from fizgruk import calls, records, submissions
-from fizgruk.errors import BadSettings, Code, NoLog, NoText, Refused, Unreachable
+from fizgruk import artifacts, calls, records, submissions
+from fizgruk._tools import disk
+from fizgruk.errors import BadSettings, Code, NoArtifact, NoLog, NoText, Refused, Unreachable
 from fizgruk.waiting import Wait
 
 NONE_SERVED = (
@@ -50,6 +51,15 @@ class Served:
         except Refused as refusal:
             if refusal.status == calls.NOT_FOUND and refusal.code != Code.NO_SUCH_ROUTE:
                 raise NoLog from refusal
+            raise self._about(refusal)
+
+    def artifact(self, group: int, name: str) -> Iterator[bytes]:
+        """The bytes of a file that is kept of a group, by its name there. Raises NoArtifact."""
+        try:
+            yield from self.desk.stream(f"/{artifacts.FOLDER}/{group}/{name}")
+        except Refused as refusal:
+            if refusal.status == calls.NOT_FOUND and refusal.code != Code.NO_SUCH_ROUTE:
+                raise NoArtifact from refusal
             raise self._about(refusal)
 
     def moments(self) -> submissions.Looks:
@@ -105,6 +115,15 @@ class Kept:
         except FileNotFoundError as fault:
             raise NoLog from fault
 
+    def artifact(self, group: int, name: str) -> Iterator[bytes]:
+        """The bytes of a file that is kept of a group, by its name there. Raises NoArtifact."""
+        try:
+            opened = disk.opened_file(os.path.join(self.folder, artifacts.FOLDER, f"{group}", name))
+        except FileNotFoundError as fault:
+            raise NoArtifact from fault
+        with open(opened, "rb") as file:
+            yield from iter(lambda: file.read(calls.BLOCK), b"")
+
 
 Past = Union[Served, Kept]
 
@@ -159,6 +178,63 @@ def why_no_log(desk: calls.Desk, number: int) -> str:
     if view["state"] == "Finished":
         return f"job {number} has no log: it never began, or its log is too old to be kept"
     return f"job {number} is {view['state']}, and has no log yet"
+
+
+class Artifacts:
+    """What a job's group left, by the list that is kept of it."""
+
+    def __init__(self, desk: calls.Desk, past: Past, number: int):
+        """Raises NoArtifact where nothing is kept of the job."""
+        self.past, self.number = past, number
+        view = calls.job_of(desk, number)
+        if view is None:
+            raise NoArtifact(f"there is no job {number}")
+        self.group = int(view["group"])
+        try:
+            said = b"".join(bounded(past.artifact(self.group, artifacts.INDEX), artifacts.MOST_INDEX))
+            self.index = artifacts.index_of(said)
+        except NoArtifact as fault:
+            raise NoArtifact(_why_no_artifacts(view)) from fault
+        except artifacts.BadIndex as fault:
+            raise Unreachable(str(fault), desk.server) from fault
+        self.files = artifacts.files_of(self.index)
+
+    def of(self, name: str) -> artifacts.Artifact:
+        """The one of this name. Raises NoArtifact."""
+        found = next((it for it in self.files if it.name == name), None)
+        if found is None:
+            raise NoArtifact(f"job {self.number} left no {name}, or it isn't kept")
+        return found
+
+    def bytes_of(self, it: artifacts.Artifact) -> Iterator[bytes]:
+        """Its bytes, as many as the list says."""
+        left = it.size
+        try:
+            for said in bounded(self.past.artifact(self.group, f"{it.number}"), it.size):
+                left -= len(said)
+                yield said
+        except NoArtifact as fault:
+            raise NoArtifact(f"{it.name} of job {self.number} isn't kept any longer") from fault
+        if left:
+            raise Unreachable(f"{it.name} was cut")
+
+
+def bounded(pieces: Iterator[bytes], most: int) -> Iterator[bytes]:
+    """Pieces that are no more than so many bytes together."""
+    left = most
+    for said in pieces:
+        left -= len(said)
+        if left < 0:
+            raise Unreachable(f"there are more than {most:,} bytes")
+        yield said
+
+
+def _why_no_artifacts(view: calls.Row) -> str:
+    """Why nothing is kept of a job."""
+    number, state = view["number"], view["state"]
+    if state == "Finished":
+        return f"job {number} has no artifacts: it left none, or they are too old to be kept, or aren't kept yet"
+    return f"job {number} is {state}: what it leaves is kept once it has ended"
 
 
 def text_of(desk: calls.Desk, number: int) -> bytes:

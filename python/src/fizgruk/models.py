@@ -130,8 +130,29 @@ class PassCounts:
 
 
 @dataclasses.dataclass(frozen=True)
+class Results:
+    """The counts of a job's junit.xml, and the names of the first tests that failed or had an error."""
+
+    passed: int
+    failed: int
+    errors: int
+    skipped: int
+    names: Tags
+
+
+@dataclasses.dataclass(frozen=True)
+class Left:
+    """What a job left in `out` of its folder: files that are kept, their bytes, and how many weren't kept."""
+
+    files: int
+    bytes: int
+    left_out: int
+
+
+@dataclasses.dataclass(frozen=True)
 class PastJob:
-    """A job that ended, as the dispatcher's history has it. `submitted` is None where nobody knows."""
+    """A job that ended, as the dispatcher's history has it. `submitted` is None where nobody knows, `tests` and
+    `artifacts` where it left none."""
 
     job: int
     group: int
@@ -144,6 +165,8 @@ class PastJob:
     ended: Moment
     outcome: Result
     reason: str
+    tests: Optional[Results] = None
+    artifacts: Optional[Left] = None
 
 
 @dataclasses.dataclass(frozen=True)
@@ -191,6 +214,8 @@ class Board(Ways):
 
 
 View = TypeVar("View")
+# Views within a view, which may not be there.
+MAYBE: Dict[object, Callable[..., Any]] = {Optional[Results]: Results, Optional[Left]: Left}
 
 
 def view_of(kind: Callable[..., View], told: object) -> View:
@@ -216,6 +241,8 @@ def value_of(value: object, kind: object) -> object:
             return tuple(value)
     elif kind == Held:
         return holder_of(value)
+    elif kind in MAYBE:
+        return None if value is None else view_of(MAYBE[kind], value)
     elif kind in (int, Moment) and isinstance(value, int) and not isinstance(value, bool):
         return moment_of(value) if kind == Moment else value
     elif kind == Moment and value is None:

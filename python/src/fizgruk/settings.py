@@ -22,7 +22,7 @@ WORDS = ("server", "user", "password_file", "ca_file", "timeout")
 OF_DESK = ("history", "access")
 OF_DISPATCH = (
     "limit", "most", "retry", "clock", "keep_logs", "cage", "log_limit", "folder_limit",
-    "memory_limit", "process_limit", "serves",
+    "memory_limit", "process_limit", "artifacts_limit", "artifact_limit", "artifact_count", "serves",
 )
 # The sections of a file, each with its settings.
 SECTIONS = {

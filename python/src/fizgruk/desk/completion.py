@@ -2,7 +2,7 @@
 its parser has them, and what the desk shows.
 
 What a desk shows is a stranger's, and a shell makes of a word what it likes: only what is a number,
-or a name or a tag as the desk takes it, is handed to the shell.
+or a name or a tag as the desk takes it, or names with a slash between, is handed to the shell.
 """
 import argparse
 import importlib
@@ -11,13 +11,13 @@ import re
 import sys
 from typing import Callable, Dict, Iterable, List, Set, Tuple
 
-from fizgruk import calls, settings, words
+from fizgruk import calls, history, settings, words
 from fizgruk._tools import parsers, tables
 from fizgruk.desk import admin, past_jobs, tokens, views
 from fizgruk.errors import FizgrukError
 
 LONGEST = "3"  # seconds for which a call may hold up the shell, where no setting says it
-WORD = re.compile(f"[0-9]+|{words.NAMES.pattern}|{words.TAGS.pattern}")
+WORD = re.compile(f"[0-9]+|{words.NAMES.pattern}(/{words.NAMES.pattern})*|{words.TAGS.pattern}")
 Offer = Callable[[calls.Desk, argparse.Namespace], Iterable[object]]
 
 
@@ -123,6 +123,12 @@ def jobs_of(desk: calls.Desk, options: argparse.Namespace) -> List[object]:
     return found + [it["job"] for it in ended]
 
 
+def files_left_by(desk: calls.Desk, options: argparse.Namespace) -> List[object]:
+    """The names of what a job left."""
+    left = history.Artifacts(desk, views.history_of(desk, options), options.number)
+    return [it.name for it in left.files]
+
+
 # By argument, or by command and argument.
 OFFERS: Dict[str, Offer] = {
     "TAG": tags_of,
@@ -137,6 +143,8 @@ OFFERS: Dict[str, Offer] = {
     "cancel N": open_jobs_of,
     "jobs N": jobs_of,
     "log N": jobs_of,
+    "artifacts N": jobs_of,
+    "ARTIFACT": files_left_by,
     "resubmit N": jobs_of,
 }
 # By option.

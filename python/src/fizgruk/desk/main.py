@@ -10,6 +10,7 @@ from fizgruk._tools.parsers import Parser, one_of
 from fizgruk.desk import (
     access,
     admin,
+    artifacts,
     audit,
     claims,
     clocks,
@@ -240,6 +241,12 @@ def add_past(command: Command) -> None:
     about = "On a terminal, print its escapes too, by which it may do there what it likes."
     log.flag("--raw", about)
     add_every(log)
+    left = command("artifacts", artifacts.show_artifacts)
+    add_number(left, "A job's number.")
+    about = "Print this one of them, as 'boot/console.log'."
+    left.add_argument("name", metavar="ARTIFACT", nargs="?", default="", help=about)
+    about = "Write them, or the one, into this folder, and print each one's path."
+    left.add_argument("--to", metavar="DIR", help=about)
     past = command("history", past_jobs.show_history)
     past.add_argument("board", metavar="BOARD", help="The board's name.")
     add_last(past, "How many of the jobs and changes")

@@ -7,8 +7,10 @@ from typing import Any, Dict, Iterable, List, Optional, Set
 
 from fizgruk import calls, history, job_file, records, wants
 from fizgruk._tools import tables, terminal
+from fizgruk.artifacts import counts_in_words
 from fizgruk.desk import tell, views, waiting
 from fizgruk.errors import NoLog, Refused
+from fizgruk.models import Results, view_of
 
 REFUSED = 3
 LAST = 50
@@ -96,6 +98,9 @@ COLUMNS = [
     ("REASON", lambda it: tables.printable(it["reason"])),
 ]
 PAST = COLUMNS[-4:]
+TESTS: List[tables.Column] = [
+    ("TESTS", lambda it: counts_in_words(it["tests"]) if it.get("tests") else "-"),
+]
 
 
 # ---- some jobs
@@ -115,8 +120,20 @@ def show_jobs(desk: calls.Desk, options: argparse.Namespace) -> int:
         else:
             rows = [{**row_of_ended(found[it["number"]]), **it} if it["number"] in found
                     else {**NOTHING, "name": name_of(it), **it} for it in rows]
-            views.show(options, {}, rows, tables.JOBS + (PAST if ended else []))
+            tested = [it for it in rows if it.get("tests")]
+            views.show(options, {}, rows, tables.JOBS + (PAST if ended else []) + (TESTS if tested else []))
+            for it in tested:
+                print_failed(it)
     return status
+
+
+def print_failed(row: Dict[str, Any]) -> None:
+    """Prints the names of a job's tests that failed, as far as the history has them."""
+    counts = view_of(Results, row["tests"])
+    others = counts.failed + counts.errors - len(counts.names)
+    more = f" and {others:,} more" if others > 0 else ""
+    if counts.names:
+        print(f"job {row['number']} failed: {', '.join(map(tables.printable, counts.names))}{more}", flush=True)
 
 
 def lines_of(

@@ -28,7 +28,7 @@ STATUSES = (
     (
         "3",
         "Refused by the desk, or in part: standard error has its code and text, and what is known "
-        "beside; or a lab file that can't be taken; or there is no such log or board.",
+        "beside; or a lab file that can't be taken; or there is no such log, artifact or board.",
     ),
     (
         "4",
@@ -69,7 +69,8 @@ clock: more than a minute where the farm's is ahead.""",
     "jobs": """\
 Show the jobs that are open and those that ended, or some. Those that ended come last, the newest \
 first. With numbers it shows those of them that there are, and tells the others; of those that \
-ended also when they began, how long they took, their name and why they ended so. A group that \
+ended also when they began, how long they took, their name, why they ended so, and the counts of \
+their 'junit.xml', with the first tests that failed below. A group that \
 waits has one line; what it is called is asked of the desk for the first fifty that wait.""",
     "submit": """\
 Submit a job file, and print the job's number. Where the desk refuses it, it says which rule the \
@@ -80,6 +81,10 @@ Submit a job's text again, and print the new number. It may be anybody's job; it
 that the desk keeps.""",
     "cancel": "Cancel a job and its group.",
     "log": "Print what a job's command said, as it stands in its log.",
+    "artifacts": """\
+List what a job's group left in 'out' of its folder, which is kept as long as its log. What isn't kept \
+of it is told on standard error, with the counts of its 'junit.xml'. With ARTIFACT it prints that one's \
+bytes, at a terminal without escapes.""",
     "history": """\
 Show a board's jobs, and how its health changed and why, the newest first.""",
     "audit": """\

@@ -1,0 +1,70 @@
+"""What jobs left: listed, printed and fetched."""
+import argparse
+import operator
+import os
+import sys
+from typing import List
+
+from fizgruk import calls, history
+from fizgruk._tools import tables, terminal
+from fizgruk.artifacts import Artifact, counts_in_words
+from fizgruk.desk import tell, views
+from fizgruk.errors import NoArtifact
+
+REFUSED = 3
+COLUMNS: List[tables.Column] = [("SIZE", operator.itemgetter("size")), ("NAME", operator.itemgetter("name"))]
+
+
+def show_artifacts(desk: calls.Desk, options: argparse.Namespace) -> int:
+    """Lists what a job's group left, prints one of it, or fetches all or one into a folder."""
+    try:
+        left = history.Artifacts(desk, views.history_of(desk, options), options.number)
+        wanted = [left.of(options.name)] if options.name else left.files
+        if options.to:
+            return fetch(left, wanted, options.to)
+        return print_one(left, wanted[0]) if options.name else show_list(options, left)
+    except NoArtifact as fault:
+        tell(str(fault))
+        return REFUSED
+
+
+def show_list(options: argparse.Namespace, left: history.Artifacts) -> int:
+    """Shows what is kept, and tells what isn't, and what became of the tests."""
+    status = views.show(options, left.index, left.index["files"], COLUMNS)
+    if not options.json:
+        for it in left.index["left_out"]:
+            tell(f"not kept: {it['name']} ({it['why']})")
+        if left.index.get("more_left_out"):
+            tell(f"nor {left.index['more_left_out']:,} more")
+        if isinstance(left.index.get("tests"), dict):
+            tell(f"junit.xml: {counts_in_words(left.index['tests'])}")
+        elif left.index.get("no_tests"):
+            tell(f"junit.xml isn't counted: {left.index['no_tests']}")
+    return status
+
+
+def print_one(left: history.Artifacts, it: Artifact) -> int:
+    """Prints a file; on a terminal without what that takes for a command."""
+    plain = terminal.Plain() if sys.stdout.isatty() else None
+    for said in left.bytes_of(it):
+        if plain is None:
+            sys.stdout.buffer.write(said)
+        else:
+            print(plain.of(said), end="", flush=True)
+    if plain is not None:
+        print(plain.end(), end="", flush=True)
+    sys.stdout.buffer.flush()
+    return 0
+
+
+def fetch(left: history.Artifacts, wanted: List[Artifact], folder: str) -> int:
+    """Writes files into a folder, each whole or not at all, and prints where."""
+    for it in wanted:
+        file = os.path.join(folder, *it.name.split("/"))
+        os.makedirs(os.path.dirname(file), exist_ok=True)
+        with open(f"{file}.new", "wb") as new:
+            for said in left.bytes_of(it):
+                new.write(said)
+        os.replace(f"{file}.new", file)
+        print(file, flush=True)
+    return 0
