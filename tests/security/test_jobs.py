@@ -2,6 +2,7 @@
 its own, which neither reaches the desk's port nor the files and processes of the dispatcher and of other jobs."""
 from __future__ import annotations
 
+import json
 import re
 import time
 from typing import Iterator
@@ -133,6 +134,23 @@ def test_a_jobs_files_are_the_dispatchers_when_it_has_ended(lab: MachineLab) -> 
     assert {it.split()[0] for it in listed} == {"farm-dispatch"} and len(listed) >= 8
     assert lab.machine.run("stat", "-c", "%U", "/etc/passwd").stdout == "root\n"
     lab.machine.run("sh", "-c", f"cd / && chmod -R u+rwX {PLACE}/jobs/{number} && rm -r {PLACE}/jobs/{number}/own", user="farm-dispatch")
+
+
+def test_what_a_job_left_is_kept_within_what_it_may_read(lab: MachineLab) -> None:
+    number = lab.submit(f"""umask 077; mkdir out out/closed; echo said > out/log; echo x > out/shut; chmod 0 out/shut out/closed
+ln -s /etc/shadow out/link; ln {PLACE}/history.jsonl out/hard; ln -s {PLACE}/id out/id; mkfifo out/pipe""")
+    lab.finished(number)
+    place = f"{PLACE}/artifacts/{number}"
+    lab.machine.wait("what it left", "test", "-e", f"{place}/index.json")
+    index = json.loads(lab.machine.run("cat", f"{place}/index.json", user="www-data").stdout)
+    assert [it["name"] for it in index["files"]] == ["log"]
+    assert {it["name"]: it["why"] for it in index["left_out"]} == {
+        "closed": "Permission denied", "id": "a link", "link": "a link", "pipe": "no file", "shut": "Permission denied",
+    }
+    assert lab.machine.run("cat", f"{place}/1", user="www-data").stdout == "said\n"
+    assert lab.machine.run("stat", "-c", "%U %a", f"{place}/1").stdout == "farm-dispatch 644\n"
+    assert lab.machine.run("getfattr", "-d", "-m", "-", f"{place}/1").stdout == ""
+    lab.machine.wait("its line", "grep", f'"job":{number},.*"artifacts"', f"{PLACE}/history.jsonl")
 
 
 def test_a_jobs_account_is_taken_back_where_the_machine_stopped(lab: MachineLab) -> None:

@@ -157,6 +157,35 @@ def kept_files(site: Site) -> None:
             file.write("{}")
 
 
+def test_what_a_job_left_is_saved_and_shown_as_no_page_of_the_site(site: Site) -> None:
+    """Whatever is in it, and nothing else of its folder is served, nor what a link leads to."""
+    folder = f"{site.folder}/dispatch/artifacts/7"
+    os.makedirs(folder)
+    page = "<!DOCTYPE html><script>alert(document.domain)</script>"
+    for name in ("1", "index.json", "x.html", "01", "../secret"):
+        with open(f"{folder}/{name}", "w", encoding="utf-8") as file:
+            file.write(page)
+    os.symlink("../secret", f"{folder}/2")
+    os.symlink("7", f"{site.folder}/dispatch/artifacts/8")
+    for name, kind in (("1", "application/octet-stream"), ("index.json", "application/json")):
+        status, fields, body = site.got(f"/artifacts/7/{name}")
+        assert (status, fields["content-type"], body.decode()) == (200, kind, page)
+        assert fields["content-disposition"] == "attachment"
+        assert fields["content-security-policy"] == "default-src 'none'; sandbox"
+        assert (fields["x-content-type-options"], fields["x-frame-options"]) == ("nosniff", "deny")
+        assert fields["cache-control"] == "no-cache"
+        assert site.got(f"/artifacts/7/{name}", user="")[0] == 401
+        assert site.got(f"/artifacts/7/{name}", "-X", "DELETE")[0] == 405
+    for path in (
+        "/artifacts/7/x.html", "/artifacts/7/01", "/artifacts/7/2", "/artifacts/8/1", "/artifacts/7/../secret",
+        "/artifacts/7/%2e%2e/secret", "/artifacts/7/..%2fsecret", "/artifacts/7/", "/artifacts/", "/artifacts/secret",
+        "/artifacts/7/1/", "/artifacts/7/1%00", "/artifacts/7/9", "/artifacts/07/1",
+    ):
+        status, _, body = site.got(path)
+        assert status in (400, 403, 404) and b"alert" not in body, path
+    assert "content-disposition" not in site.got("/logs/1")[1]
+
+
 @pytest.mark.parametrize("name, kind", [("farm.css", "text/css"), ("farm.js", "text/javascript")])
 def test_the_pages_files_are_served_to_those_who_have_a_password(site: Site, name: str, kind: str) -> None:
     status, fields, body = site.got(f"/{name}")

@@ -274,9 +274,15 @@ def test_bash_completes_what_the_desk_has(make_farm: Callable[..., Farm], folder
         ("tags b1 ", "hdmi serial", "b1 name=b1"),
         ("add-board x ", "bbb ccc", ""),
         ("reserve ", "hdmi name=b1", ""),
-        *((f"--user ann {it} ", str(number), "b1") for it in ("log", "cancel", "resubmit", "jobs")),
+        *((f"--user ann {it} ", str(number), "b1") for it in ("log", "cancel", "resubmit", "jobs", "artifacts")),
     ):
         completes(folder, f"{at} {words}", wanted, others)
+    place = os.path.join(folder, "past", "artifacts", str(number))
+    os.makedirs(place)
+    index = {"files": [{"number": 1, "name": it, "size": 1} for it in ("boot/a.log", "$(touch ran)")], "left_out": []}
+    for name, text in (("artifacts/1/index.json", json.dumps(index)), ("history.jsonl", "")):
+        write(os.path.join(folder, "past"), name, text)
+    completes(folder, f"{at} --history {folder}/past artifacts {number} ", "boot/a.log", "$(touch")
 
 
 def completes(folder: str, line: str, wanted: str, others: str) -> None:

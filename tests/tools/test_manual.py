@@ -21,8 +21,8 @@ from served import TOOLS, TOP, calls_in_one, environment
 pytestmark = pytest.mark.xdist_group("manual")  # one process asks for each help once
 DOCS = os.path.join(TOP, "docs")
 COMMANDS = [
-    "boards", "types", "queue", "reservations", "jobs", "submit", "cancel", "resubmit", "log", "history",
-    "audit", "usage", "reserve", "wait", "acquire", "release", "refresh", "extend", "cancel-reservation",
+    "boards", "types", "queue", "reservations", "jobs", "submit", "cancel", "resubmit", "log", "artifacts",
+    "history", "audit", "usage", "reserve", "wait", "acquire", "release", "refresh", "extend", "cancel-reservation",
     "with", "console", "power", "ssh", "ways", "tokens", "add-token", "end-token", "health", "tags", "add-type", "add-board", "import",
 ]
 # The tools and their commands.

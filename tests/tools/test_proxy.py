@@ -162,6 +162,23 @@ def test_the_client_finds_history_and_logs_beside_the_desk(kept: str, farm: Farm
     assert farm.job(again)["text"] == farm.job(1)["text"]
 
 
+def test_the_client_finds_what_a_job_left_beside_the_desk(kept: str, site: Site) -> None:
+    assert site.desk("artifacts", "1")[0] == 3, "it left nothing"
+    os.mkdir(f"{kept}/artifacts/1")
+    index = {"group": 1, "at": 1, "files": [{"number": 1, "name": "a/\xe4 b", "size": 5}], "left_out": [], "more_left_out": 0}
+    write(f"{kept}/artifacts/1", "index.json", json.dumps(index), 0o644)
+    write(f"{kept}/artifacts/1", "1", "said\n", 0o644)
+    assert site.desk("artifacts", "1") == (0, "SIZE NAME\n   5 a/\xe4 b\n", "")
+    assert site.desk("artifacts", "1", "a/\xe4 b") == (0, "said\n", "")
+    to = f"{site.folder}/to"
+    assert site.desk("artifacts", "1", "--to", to) == (0, f"{to}/a/\xe4 b\n", "")
+    assert read(f"{to}/a/\xe4 b") == "said\n"
+    for text, told in (("much more than said\n", "more than 5 bytes"), ("cut", "was cut")):
+        write(f"{kept}/artifacts/1", "1", text, 0o644)
+        status, _, errors = site.desk("artifacts", "1", "a/\xe4 b", "--to", f"{to}2")
+        assert status == 4 and told in errors and not os.path.exists(f"{to}2/a/\xe4 b")
+
+
 def test_the_client_follows_a_log_from_before_it_is_there(
     kept: str, farm: Farm, site: Site, start_tool: Callable[..., Tool]
 ) -> None:

@@ -1,7 +1,7 @@
 """A group's folders.
 
 DIR/groups/N has what the dispatcher and the process that runs the group's command, its runner, tell
-each other; DIR/jobs/N is the job's own, which its command may write, and nothing is read from it.
+each other; DIR/jobs/N is the job's own, which its command may write, and nothing is read from it but `out`, at its end.
 
 In DIR/groups/N are
 
@@ -23,7 +23,7 @@ In DIR/groups/N are
 
 and `lock`, which its runner holds as long as it lives. DIR/cages/N is the mark of the processes
 that its command started (farm_dispatch.cages), DIR/cages/N.lock what they hold where they have neither
-a cgroup nor a namespace. In DIR/jobs/N are job.toml, boards, boards.json and log.
+a cgroup nor a namespace. In DIR/jobs/N are job.toml, boards, boards.json and log, and what the job made there.
 
 A folder of an earlier version has all of them in DIR/jobs/N; DIR/groups/N is a link to it then.
 """
