@@ -30,9 +30,13 @@ class Debian(Machine):
             self.run("sh", "-c", "mkdir /tmp/packages && tar -xC /tmp/packages", stdin=packed.stdout)
 
     def install(self) -> str:
-        """Installs the packages, or upgrades them."""
+        """Installs the packages; where they are there those that have units are upgraded."""
         # (the index of manual pages isn't made anew each time)
-        self.run("sh", "-c", "rm -f /var/lib/man-db/auto-update; DEBIAN_FRONTEND=noninteractive dpkg -i /tmp/packages/*.deb")
+        script = """rm -f /var/lib/man-db/auto-update
+            cd /tmp/packages
+            if dpkg -s fizgruk-desk > /dev/null 2>&1; then set -- fizgruk-farm_* fizgruk-access_*; else set -- *.deb; fi
+            DEBIAN_FRONTEND=noninteractive dpkg -i "$@\""""
+        self.run("sh", "-c", script)
         return self.run("systemctl", "is-failed", *UNITS, check=False).stdout
 
     def units(self) -> Dict[str, str]:
