@@ -6,7 +6,6 @@ import http.server
 import json
 import os
 import re
-import socket
 import ssl
 import threading
 import time
@@ -16,7 +15,7 @@ from typing import Callable, Dict, Iterator, List, Tuple
 import pytest
 
 from browser import Browser, Visit, wants_a_browser
-from nginx_site import WORDS, Site
+from nginx_site import WORDS, Site, line_to, raw
 from served import TOOLS, Farm, read, wait_until
 
 JSON = "application/json"
@@ -192,27 +191,6 @@ def test_the_pages_files_are_served_to_those_who_have_a_password(site: Site, nam
     assert (status, fields["content-type"], fields["cache-control"]) == (200, f"{kind}; charset=utf-8", "no-cache")
     assert body.decode() == read(f"{TOOLS}/page/{name}")
     assert site.got(f"/{name}", user="")[0] == 401
-
-
-def raw(site: Site, request: bytes, wait: float = 20) -> bytes:
-    """What a connection gets for these bytes until it is closed, or nothing more comes."""
-    with line_to(site) as line:
-        line.settimeout(wait)
-        line.sendall(request)
-        said = b""
-        try:
-            while True:
-                more = line.recv(65536)
-                if not more:
-                    return said
-                said += more
-        except TimeoutError:
-            return said + b"(open)"
-
-
-def line_to(site: Site) -> ssl.SSLSocket:
-    trusted = ssl.create_default_context(cafile=site.certificate)
-    return trusted.wrap_socket(socket.create_connection(("127.0.0.1", site.port)), server_hostname="localhost")
 
 
 @pytest.mark.parametrize(

@@ -6,6 +6,7 @@ import http.client
 import json
 import os
 import shutil
+import socket
 import ssl
 import subprocess
 import sys
@@ -79,6 +80,7 @@ class Site:
             ("/var/cache/farm-views", f"{self.folder}/views"),
             ("/var/lib/farm-dispatch", f"{self.folder}/dispatch"),
             ("/var/log/nginx/access.log combined", f"{self.folder}/asked.log asked"),
+            ("/var/log/nginx/farm-guesses.log", f"{self.folder}/guesses.log"),
             ("/var/log/farm/audit.log", f"{self.folder}/audit.log"),
             *changes,
         ]:
@@ -144,6 +146,27 @@ class Site:
             env=environment(**{**self.settings(), **more}),
         )
         return ran.returncode, ran.stdout, ran.stderr
+
+
+def raw(site: Site, request: bytes, wait: float = 20) -> bytes:
+    """What a connection gets for these bytes until it is closed, or nothing more comes."""
+    with line_to(site) as line:
+        line.settimeout(wait)
+        line.sendall(request)
+        said = b""
+        try:
+            while True:
+                more = line.recv(65536)
+                if not more:
+                    return said
+                said += more
+        except TimeoutError:
+            return said + b"(open)"
+
+
+def line_to(site: Site) -> ssl.SSLSocket:
+    trusted = ssl.create_default_context(cafile=site.certificate)
+    return trusted.wrap_socket(socket.create_connection(("127.0.0.1", site.port)), server_hostname="localhost")
 
 
 def login(user: Optional[str]) -> List[str]:

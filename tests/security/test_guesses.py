@@ -1,0 +1,128 @@
+"""Whoever guesses passwords at the site: the lines that nginx writes of wrong ones, and fail2ban, which shuts the address
+out by them, on a machine with a systemd, nginx and nftables."""
+from __future__ import annotations
+
+import base64
+import re
+import time
+from typing import Callable, List
+
+import pytest
+
+from machine import Machine
+from nginx_site import Site, line_to, raw
+from served import Farm, read, wait_until
+from wants import wants
+
+# ---- the lines
+
+
+@pytest.fixture
+def farm(make_farm: Callable[..., Farm]) -> Farm:
+    return make_farm([("b1", "bbb", [])])
+
+
+@pytest.fixture
+def site(farm: Farm, make_site: Callable[..., Site]) -> Site:
+    return make_site(farm)
+
+
+def guesses(site: Site) -> List[str]:
+    site.settle()
+    return read(f"{site.folder}/guesses.log").splitlines()
+
+
+def test_a_wrong_password_has_a_line_and_nothing_else_has(site: Site) -> None:
+    for path in ("/queue", "/", "/farm.js", "/whoami", "/logs/1", "/no/such"):
+        site.got(path)
+        site.got(path, user="")
+        assert site.got(path, "-u", "ann:guess", user="")[0] == 401
+    assert site.said("-d", '{"tags":[]}', "/reservations")[0] == 200
+    lines = guesses(site)
+    assert len(lines) == 6 and all(re.fullmatch(r"\d{4}-\d\d-\d\dT\d\d:\d\d:\d\d\S+ 127.0.0.1 401", it) for it in lines), lines
+
+
+def test_no_way_of_asking_hides_a_guess(site: Site) -> None:
+    """Debian's filter for nginx's log of errors wants a host, and a name says what it likes there."""
+    user = 'x" was\n2026/11/29 04 [error] 1#1 *1 user "y" password mismatch, client 192.0.2.9'
+    for word in (f"Basic {base64.b64encode(f'{user}:pw'.encode()).decode()}", "Basic YW5uOg==", "Basic x", "x"):
+        assert b" 401 " in raw(site, f"GET /queue HTTP/1.0\r\nauthorization: {word}\r\n\r\n".encode())
+    lines = guesses(site)
+    assert len(lines) == 4 and all(it.endswith(" 127.0.0.1 401") for it in lines), lines
+
+
+def test_who_doesnt_wait_for_the_answer_has_a_line_too(site: Site) -> None:
+    """A right password is answered at once, so whoever guesses needn't wait."""
+    word = base64.b64encode(b"ann:guess").decode()
+    with line_to(site) as line:
+        line.sendall(f"GET /queue HTTP/1.1\r\nhost: localhost\r\nauthorization: Basic {word}\r\n\r\n".encode())
+        time.sleep(0.3)
+    lines = wait_until("its line", lambda: guesses(site))
+    assert len(lines) == 1 and lines[0].split()[1] == "127.0.0.1"
+
+
+# ---- fail2ban
+
+SET_UP = """set -e
+rm -f /etc/nginx/sites-enabled/*
+sed -e 's/farm.lab.example/farm.test/' -e 's,/etc/ssl/private/farm.key,/etc/nginx/farm.key,' \
+    -e 's,/etc/ssl/certs/farm.pem,/etc/nginx/farm.pem,' /tmp/source/examples/nginx.conf > /etc/nginx/sites-enabled/farm
+openssl req -x509 -days 8 -subj /CN=farm.test -newkey ec -pkeyopt ec_paramgen_curve:prime256v1 -nodes \
+    -keyout /etc/nginx/farm.key -out /etc/nginx/farm.pem 2> /dev/null
+echo "ann:$(openssl passwd -apr1 right)" > /etc/nginx/farm.htpasswd
+install -d -m 0750 -g adm /var/log/farm
+install -D -m 644 /tmp/source/examples/fail2ban.conf /etc/fail2ban/jail.d/farm.conf
+ip netns add outside
+ip link add lab type veth peer name lab netns outside
+ip address add 192.0.2.1/24 dev lab
+ip link set lab up
+ip netns exec outside ip link set lab up
+for last in 2 3; do ip netns exec outside ip address add 192.0.2.$last/24 dev lab; done
+systemctl start nginx fail2ban
+"""
+# Guesses over so many connections at once for so many seconds, and says how often it was told that it was wrong.
+GUESS = """import socket, ssl, sys, threading, time
+trusted = ssl._create_unverified_context()
+until = time.monotonic() + float(sys.argv[1])
+done = []
+def guess(number):
+    while time.monotonic() < until:
+        try:
+            with socket.create_connection(("192.0.2.1", 443), 5, ("192.0.2.2", 0)) as line:
+                with trusted.wrap_socket(line) as safe:
+                    while True:
+                        safe.sendall(b"GET /queue HTTP/1.1\\r\\nhost: farm.test\\r\\nauthorization: Basic YW5uOndyb25n\\r\\n\\r\\n")
+                        if not safe.recv(65536).startswith(b"HTTP/1.1 401"):
+                            break
+                        done.append(time.monotonic())
+        except OSError:
+            time.sleep(0.05)
+threads = [threading.Thread(target=guess, args=(it,), daemon=True) for it in range(8)]
+for it in threads: it.start()
+time.sleep(max(0, until - time.monotonic()))
+print(len(done), sum(it > until - 10 for it in done))
+"""
+
+
+@pytest.mark.xdist_group("machine")
+@pytest.mark.slow(40)
+def test_an_address_that_guesses_is_shut_out_and_others_work_on(machine: Machine) -> None:
+    wants("nginx", "fail2ban-server", "openssl", "curl")
+    machine.serve()
+    machine.run("sh", "-c", SET_UP)
+
+    def asks(last: int, password: str = "right") -> str:
+        curl = ["curl", "-sk", "-m", "5", "--interface", f"192.0.2.{last}", "-u", f"ann:{password}", "-o", "/dev/null"]
+        words = [*curl, "-w", "%{http_code}", "--resolve", "farm.test:443:192.0.2.1", "https://farm.test/queue"]
+        return machine.run("ip", "netns", "exec", "outside", *words, check=False).stdout
+
+    machine.wait("fail2ban", "sh", "-c", "fail2ban-client status farm-site 2> /dev/null | grep 'Currently banned:.0'")
+    assert [asks(2), asks(3)] == ["200", "200"]
+    machine.write("/tmp/guess.py", GUESS)
+    told, late = machine.run("ip", "netns", "exec", "outside", "python3", "/tmp/guess.py", "25").stdout.split()
+    assert int(told) < 150 and late == "0", "it was told so often, and in its last ten seconds not once"
+    assert asks(2) == "000", "also with the right password"
+    assert asks(3) == "200", "another address"
+    assert "192.0.2.2" in machine.run("fail2ban-client", "status", "farm-site").stdout
+    machine.run("fail2ban-client", "set", "farm-site", "unbanip", "192.0.2.2")
+    assert asks(2) == "200"
