@@ -169,11 +169,9 @@ FOLDER/tags: tags of gone aren't carried over: there is no such device
 
 # What a farm's boards come to.
 LAB_OF_DESK = """\
-# The types and boards of SERVER, for the farm that comes after it:
-#     farm init --db NEW
-#     farm import --db NEW --at "$(date +%s)" THIS
-# and, when that is served:
-#     farm-from-desk --set-health THIS
+# The types and boards of SERVER, for the farm that comes after it. Edit this, and on the desk's
+# machine, as root:
+#     farm-from-desk --next THIS
 
 [types.bbb]
 

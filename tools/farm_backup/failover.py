@@ -15,14 +15,12 @@ import json
 import os
 import shutil
 import socket
-import stat
-import subprocess
 import tempfile
 import time
 from typing import Any, Callable, Iterator, List, NamedTuple, Optional
 
 from farm_backup import copying, pages, points, standby
-from fizgruk._tools import disk
+from fizgruk._tools import disk, farm_files, units
 
 MARK, GENERATION, ASIDE, NEW = "promoted", "-generation", "fenced", ".promote-"
 FIRST = 1
@@ -171,16 +169,11 @@ def _give(opened: int, home: str) -> None:
 
 def _put_in_place(farm: copying.Farm, place: str, generation: int) -> None:
     """Gives the new files the farm's names, the log first: a file alone would be an older farm."""
-    home = os.path.dirname(farm.db)
     _write(f"{farm.db}{GENERATION}", str(generation))
     new = os.path.join(place, farm.file_name)
     with contextlib.suppress(FileNotFoundError):
         os.unlink(farm.log)  # (of a promotion that was stopped)
-    if os.path.exists(f"{new}-wal"):
-        os.rename(f"{new}-wal", farm.log)
-    disk.sync_folder(home)
-    os.rename(new, farm.db)
-    disk.sync_folder(home)
+    farm_files.put_in_place(new, farm.db)
     os.rmdir(place)
 
 
@@ -229,14 +222,8 @@ def set_aside(farm: copying.Farm, generation: int) -> str:
     if os.geteuid() == 0:
         about = os.stat(os.path.dirname(farm.db))
         os.chown(place, about.st_uid, about.st_gid)
-    if not os.path.exists(there):
-        for name in names:
-            _link(name, os.path.join(place, os.path.basename(name)))
-            disk.sync_folder(place)
-    for name in reversed(names):
-        if _are_one(name, os.path.join(place, os.path.basename(name))):
-            os.unlink(name)
-            disk.sync_folder(os.path.dirname(name))
+    if names:
+        farm_files.set_aside(farm.db, names, place)
     return place
 
 
@@ -247,25 +234,11 @@ def _place_for(farm: copying.Farm, generation: int) -> str:
         end = f"-{number}" if number > 1 else ""
         place = os.path.join(os.path.dirname(farm.db), f"{ASIDE}-{generation}{end}")
         there = os.path.join(place, farm.file_name)
-        if not os.path.exists(there) or _are_one(there, farm.db):
+        if not os.path.exists(there) or farm_files.are_one(there, farm.db):
             return place
         if not os.path.exists(farm.db):
             return place
         number += 1
-
-
-def _link(file: str, name: str) -> None:
-    """Gives a file one more name, which another may have had."""
-    with contextlib.suppress(FileNotFoundError):
-        os.unlink(name)
-    os.link(file, name)
-
-
-def _are_one(one: str, other: str) -> bool:
-    try:
-        return stat.S_ISREG(os.lstat(one).st_mode) and os.path.samefile(one, other)
-    except OSError:
-        return False
 
 
 def commands_in(farm: copying.Farm) -> str:
@@ -295,10 +268,6 @@ UNITS = ("farm", "farm-dispatch")
 
 def call_units(*words: str) -> None:
     """Calls systemctl. Raises NoCopy where it can't be done."""
-    try:
-        ran = subprocess.run(["systemctl", *words], stderr=subprocess.PIPE, check=False)
-        why = " ".join(ran.stderr.decode(errors="replace").split()) if ran.returncode else ""
-    except OSError as fault:
-        ran, why = None, str(fault)
-    if ran is None or ran.returncode:
-        raise copying.NoCopy(f"systemctl {' '.join(words)}: {why}")
+    fault = units.fault_of(*words)
+    if fault:
+        raise copying.NoCopy(fault)

@@ -1,9 +1,10 @@
 """farm-from-desk: a lab file from a desk's boards, for the farm that comes after it."""
-from typing import Any, Dict, NamedTuple, Optional, Sequence, Tuple
+import argparse
+from typing import Any, Dict, List, NamedTuple, Optional, Sequence, Tuple
 
-from farm_import import lab_file
+from farm_import import lab_file, next_lab, stopped, turn
 from fizgruk import calls, clocks, toml_text
-from fizgruk._tools import asking, parsers, terminal
+from fizgruk._tools import asking, interrupts, parsers, terminal
 from fizgruk._tools.telling import Teller
 from fizgruk.errors import BadSettings, Refused, Unreachable
 from fizgruk.words import BadFile, table_of
@@ -14,21 +15,35 @@ ABOUT = """\
 Asks a desk for its types, boards and queue, and writes a lab file that 'farm import' takes, to \
 begin the next farm with: each type with its check, and each board with its tags. A line 'health' \
 stands with each board, which 'farm import' passes over; --set-health then gives each board its \
-health at the new desk."""
+health at the new desk.
+With --next it makes the next farm from such a file, which may be edited: boards and types added, \
+left out, named otherwise, with other checks. On the desk's machine it checks the file, and that no \
+job has a board, makes the next farm with the boards' health beside the old one, stops what serves \
+it and looks again, sets the old farm aside in 'old-N', and starts all again over the next one. \
+Stopped anywhere, it is run again with the same file and goes on."""
 STATUSES = (
-    ("0", "Nothing that matters was left out, or each board has its health."),
-    ("1", lab_file.LEFT_OUT),
+    ("0", "Nothing that matters was left out, each board has its health, or the next farm serves."),
+    (
+        "1",
+        f"{lab_file.LEFT_OUT} --next: something is in the way, which standard error says, a line "
+        "each; the old farm serves on.",
+    ),
     ("2", "Bad words, or a setting that there isn't."),
     ("3", "Refused by the desk."),
-    ("4", "No answer from the desk, bad settings, or a file that can't be read or written."),
+    (
+        "4",
+        "No answer from the desk, bad settings, or a file that can't be read or written. --next: it "
+        "is to be run again.",
+    ),
 )
 HEAD = """\
-The types and boards of {server}, for the farm that comes after it:
-    farm init --db NEW
-    farm import --db NEW --at "$(date +%s)" THIS
-and, when that is served:
-    farm-from-desk --set-health THIS"""
+The types and boards of {server}, for the farm that comes after it. Edit this, and on the desk's
+machine, as root:
+    farm-from-desk --next THIS"""
 PATIENCE = 15
+DB = "/var/lib/farm/lab.db"
+# What goes with --next alone.
+OF_NEXT = ("check", "let_go", "db", "program", "stop", "start")
 REFUSED = 3
 # A farm's boards begin so.
 FIRST_HEALTH = "Maintenance"
@@ -36,17 +51,26 @@ FIRST_HEALTH = "Maintenance"
 
 def main(words: Optional[Sequence[str]] = None) -> int:
     terminal.guard()
-    options = parser_of().parse_args(words)
+    options = options_of(words)
     try:
         desk = calls.Desk(asking.settings_of("desk", options, "admin"), PATIENCE)
         if options.set_health is not None:
             return set_health(desk, options.set_health)
+        if options.next is not None:
+            interrupts.catch_signals()
+            return next_farm(desk, options)
         warn_of_clock(desk)
-        return lab_file.status_of(PROGRAM, lambda it: lab_of(desk, it.lab), options)
+        return lab_file.status_of(PROGRAM, lambda it: lab_of(desk, it.own_file), options)
     except Refused as refusal:
         return tell.told(REFUSED, f"refused: {refusal}")
     except Unreachable as fault:
         return tell.told(lab_file.FAULT, f"no answer from the desk at {fault}")
+    except turn.InTheWay as found:
+        return in_the_way(found.lines)
+    except (turn.NotDone, stopped.NoFarm) as fault:
+        return tell.told(lab_file.FAULT, f"{fault}: run it again, once that is mended")
+    except interrupts.Interrupted:
+        return tell.told(lab_file.FAULT, "ended by a signal: run it again")
     except (BadFile, BadSettings, lab_file.Unreadable, OSError, UnicodeDecodeError) as fault:
         return tell.told(lab_file.FAULT, str(fault))
 
@@ -56,17 +80,54 @@ def parser_of() -> parsers.Parser:
     parser.forms = (
         f"{PROGRAM} [--output FILE] [--lab FILE] [--verbose] [settings]",
         f"{PROGRAM} --set-health FILE [settings]",
+        f"{PROGRAM} --next FILE [--check] [--let-go] [--db FILE] [--program FILE] [--stop WORDS] "
+        "[--start WORDS] [settings]",
     )
     about = """\
 The lab's own file, to be compared with the desk: the written file and standard error name its lines
 that say something else of a type or a board."""
-    parser.add_argument("--lab", metavar="FILE", help=about)
+    parser.add_argument("--lab", metavar="FILE", dest="own_file", help=about)
     about = """\
 The lab file whose boards are given their health, which is printed. Those in Maintenance stay as the
 import made them. Done again it does no harm."""
     parser.add_argument("--set-health", metavar="FILE", help=about)
+    _add_next(parser)
     asking.add_options(parser, "desk", "default admin")
     return parser
+
+
+def _add_next(parser: parsers.Parser) -> None:
+    option = parser.add_argument
+    about = """\
+Make the next farm of this lab file, and let the desk serve it. A board without a health in the file
+has the one that it has at the desk; a new one is in Maintenance. Where the file names another health
+than the desk, nothing is begun."""
+    option("--next", metavar="FILE", help=about)
+    about = "Check whether it can be done, say what would be otherwise, and change nothing."
+    option("--check", action="store_true", help=about)
+    about = """\
+Begin also where people have boards, or something waits, all of which isn't carried over. (A job that
+has a board is never let go: wait for its end, or 'desk cancel' it.)"""
+    option("--let-go", action="store_true", help=about)
+    option("--db", metavar="FILE", help=f"The farm's file (default {DB}).")
+    about = "The program that makes it (default farm, as the shell finds it)."
+    option("--program", metavar="FILE", help=about)
+    about = """\
+The command that stops the desk, farm-dispatch(8) and farm-watch(8), where they aren't systemd's
+units; it is run without a shell, and may come twice."""
+    option("--stop", metavar="WORDS", help=about)
+    option("--start", metavar="WORDS", help="The command that starts them again, and ends.")
+
+
+def options_of(words: Optional[Sequence[str]]) -> argparse.Namespace:
+    parser = parser_of()
+    options = parser.parse_args(words)
+    for name in OF_NEXT:
+        if getattr(options, name) and options.next is None:
+            parser.error(f"--{name.replace('_', '-')} is for --next")
+    if (options.stop is None) != (options.start is None):
+        parser.error("--stop and --start go together")
+    return options
 
 
 # ---- writing
@@ -93,7 +154,7 @@ def lab_of(desk: calls.Desk, own_file: Optional[str]) -> lab_file.LabFile:
     return lab
 
 
-def warn_of_clock(desk: calls.Desk) -> None:
+def warn_of_clock(desk: calls.Looker) -> None:
     """Says where the farm's clock is ahead of this machine's: a farm's clock never falls back."""
     ahead = clocks.ahead(desk.look("/status"), "begin the next farm")
     if ahead:
@@ -154,6 +215,59 @@ def type_words_of(row: Dict[str, Any]) -> str:
 
 def board_words_of(row: Dict[str, Any]) -> str:
     return board_words(row["type"], row.get("tags", []))
+
+
+# ---- the next farm
+
+
+def next_farm(desk: calls.Desk, options: argparse.Namespace) -> int:
+    """Makes the next farm, or goes on where that was stopped. Returns the exit status."""
+    lab, ignored = next_lab.lab_of(options.next)
+    services = turn.Services(options.stop, options.start)
+    farm = stopped.Farm(options.db or DB, options.program or "farm")
+    it = turn.Turn(farm, desk, services, tell)
+    with it.alone():
+        record = it.record()
+        if record and it.has_set_aside(record):
+            if record.mark != lab.mark():
+                copy = f"{it.next.home}/{turn.LAB}"
+                raise turn.NotDone(f"a turn to another file isn't done, which is {copy}")
+        else:
+            done = it.done_lately(lab)
+            if done:
+                print(f"{farm.db} is the farm of {options.next} since {done}: nothing is done")
+                return lab_file.CARRIED
+            for line in ignored:
+                tell(f"{options.next}: {line}")
+            healths = checked(it, lab, options.let_go)
+            if options.check:
+                return lab_file.CARRIED
+            if record is None or record.mark != lab.mark():
+                record = it.prepare(lab, healths, record)
+        it.go_on(lab, record, options.let_go)
+    print(f"{farm.db} is the farm of {options.next}; the old one is in {it.aside(record)}", flush=True)
+    return lab_file.CARRIED
+
+
+def checked(it: turn.Turn, lab: next_lab.NextLab, may_lose: bool) -> Dict[str, str]:
+    """The boards' healths, where nothing is in the way; what would be otherwise is printed."""
+    it.demand_room()
+    look = it.looker()
+    warn_of_clock(look)
+    faults, lost = next_lab.faults_of(lab, look), next_lab.lost_of(look)
+    for line in next_lab.changes_of(lab, look):
+        print(line, flush=True)
+    if faults or (lost and not may_lose):
+        raise turn.InTheWay(faults + ([] if may_lose else [f"{it} (--let-go)" for it in lost]))
+    for line in lost:
+        tell(f"{line}, and isn't carried over")
+    return next_lab.healths_of(lab, look)
+
+
+def in_the_way(lines: List[str]) -> int:
+    for line in lines:
+        tell(line)
+    return tell.told(lab_file.NOT_CARRIED, "nothing is done: this is in the way")
 
 
 # ---- giving health

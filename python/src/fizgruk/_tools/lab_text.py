@@ -47,10 +47,10 @@ def additions_of(text: str) -> List[Addition]:
     return found
 
 
-def warnings_of(text: str) -> List[str]:
+def warnings_of(text: str, more: Sequence[str] = ()) -> List[str]:
     """What a lab file has that the desk will ignore, each key once, in the order of their lines;
-    and that it has nothing else."""
-    tree = toml_text.tree_of(text)
+    and that it has nothing else. `more` are keys of boards that somebody else has a use for."""
+    tree, used = toml_text.tree_of(text), [("boards", it) for it in more]
     found: Dict[Tuple[str, str], List[Sequence[str]]] = {}
     for section, rows in tree.items():
         if section not in KEYS:
@@ -58,7 +58,7 @@ def warnings_of(text: str) -> List[str]:
             continue
         for name, row in rows.items():
             for key in row:
-                if is_ignored(section, key, row):
+                if is_ignored(section, key, row) and (section, key) not in used:
                     found.setdefault((section, key), []).append((section, name, key))
     lines = sorted(
         (toml_text.line_of(text, paths[0]), warning_of(it, paths)) for it, paths in found.items()
