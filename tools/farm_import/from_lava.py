@@ -2,17 +2,22 @@
 import argparse
 import os
 import re
+import sys
 from typing import Dict, List, Optional, Sequence, Tuple
 
-from farm_import import lab_file
+from farm_import import lab_file, lava_job
 from fizgruk._tools import parsers, terminal
 
 PROGRAM = "farm-from-lava"
 ABOUT = """\
 Reads FOLDER, which LAVA's server has in /etc/lava-server/dispatcher-config, and writes a lab file \
 that 'farm import' takes: a board for each device, a type for each device type, and a check every \
-24 hours (--hours) for each type that has a health check."""
-FAULT = "FOLDER, the tags' file or the lab file can't be used, or what is read isn't of its kind."
+24 hours (--hours) for each type that has a health check.
+With --job it reads a LAVA job definition, and writes a job file that 'desk submit' takes: name, \
+type, tags, priority, roles and the job's timeout as the desk and farm-dispatch(8) read them, and the \
+definition as it is, which run-job-lava hands to LAVA's dispatcher with all that it deploys, boots and \
+tests."""
+FAULT = "FOLDER, a file or what is to be written can't be used, or what is read isn't of its kind."
 SUFFIX = ".jinja2"
 PARTS = re.compile(r"{%-?\s*(\w+)\s*(.*?)\s*-?%}|{{.*?}}", re.DOTALL)
 COMMENT = re.compile(r"{#.*?#}", re.DOTALL)
@@ -20,12 +25,28 @@ COMMENT = re.compile(r"{#.*?#}", re.DOTALL)
 
 def main(words: Optional[Sequence[str]] = None) -> int:
     terminal.guard()
-    return lab_file.status_of(PROGRAM, lab_of, parser_of().parse_args(words))
+    options = options_of(words)
+    if options.job is None:
+        return lab_file.status_of(PROGRAM, lab_of, options)
+    try:
+        text, notes = lava_job.job_of(options.job)
+        return lab_file.write_text(PROGRAM, text, notes, options)
+    except (lab_file.Unreadable, OSError) as fault:
+        print(f"{PROGRAM}: {fault}", file=sys.stderr)
+        return lab_file.FAULT
 
 
 def parser_of() -> parsers.Parser:
     parser = lab_file.parser_of(PROGRAM, ABOUT, lab_file.statuses_of(FAULT))
-    parser.add_argument("folder", metavar="FOLDER", help="The server's dispatcher-config.")
+    parser.forms = (
+        f"{PROGRAM} [--output FILE] [--hours N] [--tags FILE] [--verbose] FOLDER",
+        f"{PROGRAM} [--output FILE] --job FILE",
+    )
+    add = parser.add_argument
+    add("folder", metavar="FOLDER", nargs="?", help="The server's dispatcher-config.")
+    about = """\
+A LAVA job definition, YAML, of which a job file is made. What is lost is told once."""
+    add("--job", metavar="FILE", help=about)
     about = "Between two checks of a board, 1 to 10000 (default %(default)s)."
     hours = parsers.whole(1, 10_000)
     parser.add_argument("--hours", metavar="N", type=hours, default=24, help=about)
@@ -34,6 +55,14 @@ The devices' tags, which stand in LAVA's database: a line 'DEVICE TAG ..' for ea
 some."""
     parser.add_argument("--tags", metavar="FILE", help=about)
     return parser
+
+
+def options_of(words: Optional[Sequence[str]]) -> argparse.Namespace:
+    parser = parser_of()
+    options = parser.parse_args(words)
+    if (options.folder is None) == (options.job is None):
+        parser.error("give one of FOLDER and --job")
+    return options
 
 
 def lab_of(options: argparse.Namespace) -> lab_file.LabFile:

@@ -82,7 +82,7 @@ class LabFile:
     def add_type(self, where: str, name: str, check: str = "none", every: int = 0) -> str:
         """Adds a type with its check, where it isn't there already. Returns its name in the lab
         file."""
-        word = self._word(where, "type", name, NAME)
+        word = self.word(where, "type", name, NAME)
         self.types.setdefault(word, (check, every))
         return word
 
@@ -100,11 +100,11 @@ class LabFile:
     ) -> None:
         """Adds a board of a type that was added, with its tags as texts `key` or `key=value`, and
         its health, which `farm import` passes over."""
-        word = self._word(where, "board", name, NAME)
+        word = self.word(where, "board", name, NAME)
         if word in self.boards:
             self.note(where, f"board {name} isn't carried over: there is a {word} already")
             return
-        kept = sorted(it for it in {self._tag(where, it) for it in tags} if it is not None)
+        kept = sorted(it for it in {self.tag(where, it) for it in tags} if it is not None)
         for tag in kept[MOST_TAGS:]:
             self.note(where, f"tag {tag} isn't carried over: a board has {MOST_TAGS} tags at most")
         self.boards[word] = (kind, kept[:MOST_TAGS], health)
@@ -142,14 +142,14 @@ class LabFile:
             if found > most:
                 self.note("lab file", f"it has {found} {what}, and a farm has room for {most}")
 
-    def _word(self, where: str, what: str, text: str, longest: int) -> str:
+    def word(self, where: str, what: str, text: str, longest: int) -> str:
         """A text as a word of the desk's."""
         word = re.sub("[^A-Za-z0-9_.-]", "-", text)[:longest] or "-"
         if word != text:
             self.note(where, f"{what} {text!r} isn't carried over as it is: it is {word}")
         return word
 
-    def _tag(self, where: str, text: str) -> Optional[str]:
+    def tag(self, where: str, text: str) -> Optional[str]:
         """A tag as the desk takes it, or None where it takes none such."""
         key, equals, value = text.partition("=")
         if key == "name":
@@ -159,10 +159,10 @@ class LabFile:
             return None
         if equals and not value:
             self.note(where, f"tag {text} isn't carried over as it is: it is {key}")
-        word = self._word(where, "tag", key, TAG_KEY)
+        word = self.word(where, "tag", key, TAG_KEY)
         if not value:
             return word
-        return f"{word}={self._word(where, f'value of tag {key}', value, TAG_VALUE)}"
+        return f"{word}={self.word(where, f'value of tag {key}', value, TAG_VALUE)}"
 
 
 def _key(name: str) -> str:
@@ -173,12 +173,17 @@ def write(program: str, lab: LabFile, options: argparse.Namespace) -> int:
     """Writes a lab file to a file, or the output, and tells what wasn't carried over. Returns the
     exit status."""
     lab.note_limits()
+    return write_text(program, lab.text(), lab, options)
+
+
+def write_text(program: str, text: str, lab: LabFile, options: argparse.Namespace) -> int:
+    """Writes a text so, and tells what the lab file's notes say."""
     if options.output is None:
-        sys.stdout.write(lab.text())
+        sys.stdout.write(text)
         sys.stdout.flush()
     else:
         with open(f"{options.output}.new", "w", encoding="utf-8") as file:
-            file.write(lab.text())
+            file.write(text)
         os.replace(f"{options.output}.new", options.output)
     for note in lab.notes:
         if options.verbose or not note.usual:
