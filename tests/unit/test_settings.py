@@ -91,7 +91,7 @@ def test_each_tool_has_a_section_of_its_own(around: Around) -> None:
 @pytest.mark.parametrize("text, why", [
     ("[desk]\nsrever = x\n", "srever in [desk] is no setting: is server meant?"),
     ("[dsek]\nserver = x\n", "[dsek] is no section: is [desk] meant?"),
-    ("[desk]\nx = 5\n", "x in [desk] is no setting: there are server, user, password_file, ca_file, timeout, history, access"),
+    ("[desk]\nx = 5\n", "x in [desk] is no setting: there are server, user, password_file, ca_file, timeout, history, access, lab"),
 ])
 def test_a_misspelt_setting_of_a_file(around: Around, text: str, why: str) -> None:
     file = around.writes(around.own, text)
@@ -219,3 +219,65 @@ def test_a_netrc_that_cant_be_read(around: Around) -> None:
     around.writes(".netrc", "machine\n", 0o600)
     with pytest.raises(BadSettings, match="^~/.netrc: "):
         around.reads(server="https://farm.example")
+
+
+# ---- several labs
+
+LABS = """\
+[desk]
+server = http://one:1
+user = ann
+password_file = ~/of_one
+timeout = 5
+[lab berlin]
+server = http://berlin:1/berlin
+user = ann.b
+history = /srv/berlin
+[lab paris]
+server = https://paris:1
+"""
+
+
+def test_a_labs_section_stands_in_the_place_of_desks(around: Around) -> None:
+    """Of [desk] nothing counts then: what is one desk's isn't told another's."""
+    around.writes(around.own, LABS)
+    around.writes("of_one", "secret\n", 0o600)
+    assert around.reads(lab="berlin") == Settings("http://berlin:1/berlin", "ann.b", None, None, 30)
+    assert around.reads(lab="paris") == Settings("https://paris:1", "login", None, None, 30)
+    assert settings.labs_of({}) == ["berlin", "paris"]
+    assert settings.values_of({"lab": "berlin"}, "desk", settings.refuse)["history"] == "/srv/berlin"
+    around.sets(DESK_LAB="paris")
+    assert around.reads().server == "https://paris:1" and around.reads(lab="berlin").server == "http://berlin:1/berlin"
+
+
+def test_what_names_a_lab_goes_before_what_is_less_near(around: Around) -> None:
+    around.writes(around.own, LABS + "[lab rome]\nserver = http://rome:1\n")
+    around.sets(DESK_SERVER="http://around:1", DESK_USER="around")
+    assert around.reads(lab="rome") == Settings("http://rome:1", "login", None, None, 30)
+    around.sets(DESK_LAB="berlin")
+    assert around.reads(lab="rome").server == "http://rome:1"
+    assert around.reads() == Settings("http://around:1", "around", None, None, 30)
+
+
+def test_a_default_lab_and_one_of_two_files(around: Around) -> None:
+    around.writes("system.ini", "[desk]\nlab = berlin\n[lab berlin]\nserver = http://b:1\nuser = system\n")
+    assert around.reads() == Settings("http://b:1", "system", None, None, 30)
+    around.writes(around.own, "[lab berlin]\nuser = own\n[lab b.2]\nserver = http://b2:1\n")
+    assert around.reads().user == "own" and settings.labs_of({}) == ["berlin", "b.2"]
+    assert around.reads(section="dispatch").server == "http://127.0.0.1:880"
+
+
+@pytest.mark.parametrize("text, given, told", [
+    (LABS, {"lab": "berln"}, "the settings have no lab berln: is berlin meant?"),
+    ("", {"lab": "berlin"}, "the settings have no lab berlin: there is no section [lab NAME]"),
+    ("[lab rome]\nuser = ann\n", {"lab": "rome"}, "[lab rome] has no server"),
+    (LABS, {"lab": "berlin", "server": "http://x:1"}, "a lab and a server don't go together: a lab has its own"),
+    ("[lab rome]\nserver = http://r:1\nlab = x\n", {"lab": "rome"}, "lab in [lab rome] is no setting"),
+    ("[lab ]\n", {}, "[lab ] is no section"),
+    ("[lab a b]\n", {}, "[lab a b] is no section"),
+])
+def test_labs_that_cant_be_used(around: Around, text: str, given: Any, told: str) -> None:
+    around.writes(around.own, text)
+    with pytest.raises((BadWords, BadSettings)) as fault:
+        around.reads(**given)
+    assert told in str(fault.value)

@@ -12,7 +12,7 @@ from fizgruk.version import VERSION as __version__
 
 if TYPE_CHECKING:
     from fizgruk.artifacts import Artifact
-    from fizgruk.client import Client
+    from fizgruk.client import Client, labs
     from fizgruk.errors import (
         BadJobFile,
         BadSettings,
@@ -76,6 +76,7 @@ __all__ = [
     "Unreachable",
     "Use",
     "__version__",
+    "labs",
 ]
 _MODULES = ("errors", "models", "artifacts", "client")
 

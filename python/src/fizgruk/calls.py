@@ -86,6 +86,7 @@ class Desk:
         self.server = settings.server
         self.user = settings.user
         self.timeout = settings.timeout
+        self.access: Optional[str] = None  # where ssh(1) goes for boards, where that is said
         self.patience = patience
         # what is told, once a call, where it gets no answer at first and is sent again
         self.tell_trouble: Callable[[str], None] = lambda trouble: None

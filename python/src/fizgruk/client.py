@@ -21,6 +21,11 @@ LAST = 50
 Own = TypeVar("Own", bound="Client")
 
 
+def labs(config: Optional[str] = None) -> List[str]:
+    """The labs that the settings have a section for."""
+    return settings.labs_of({"config": config})
+
+
 class Client:
     """A desk, as one user sees it.
 
@@ -34,18 +39,19 @@ class Client:
         self, server: Optional[str] = None, user: Optional[str] = None, *,
         password_file: Optional[str] = None, ca_file: Optional[str] = None,
         timeout: Optional[float] = None, config: Optional[str] = None, patience: float = 15.0,
-        history: Optional[str] = None,
+        history: Optional[str] = None, lab: Optional[str] = None,
     ) -> None:
         """`timeout` is how many seconds a network call may wait, `config` the file of settings, and
         `history` the dispatcher's folder, where that is on this machine: else the server is asked for
-        what it keeps."""
+        what it keeps. `lab` is one of `labs()`, in the place of `server`."""
         seconds = None if timeout is None else str(timeout)
         given = {
             "server": server, "user": user, "password_file": password_file, "ca_file": ca_file,
-            "timeout": seconds, "config": config, "history": history,
+            "timeout": seconds, "config": config, "history": history, "lab": lab,
         }
         self._desk = Desk(settings.read_settings(given), patience)
-        self._place = settings.values_of(given, "desk", settings.refuse)["history"]
+        said = settings.values_of(given, "desk", settings.refuse)
+        self._place, self._desk.access = said["history"], said["access"]
         self._desk.tell_trouble = self._log_trouble
 
     @property

@@ -5,6 +5,7 @@ import os
 from types import TracebackType
 from typing import Callable, Optional, Sequence, Set, Type
 
+from fizgruk import ways
 from fizgruk.calls import Desk
 from fizgruk.errors import FizgrukError, HoldLost, NotGivenBack
 from fizgruk.models import Board
@@ -74,7 +75,8 @@ class Hold:
         self._reservation.acquire(board["name"])
         self.watch = BlockWatch(self._desk, board["name"], number, self.on_loss)
         self.watch.begin()
-        return Board(board["name"], board["type"], tuple(board["tags"]), number)
+        to = ways.way_of(self._desk.access, self._desk.server)
+        return Board(board["name"], board["type"], tuple(board["tags"]), number, to)
 
     def end(self, fault: Optional[BaseException] = None) -> None:
         """Gives the board back, also where the program is interrupted again and again: what comes

@@ -204,6 +204,7 @@ class Board(Ways):
     type: str
     tags: Tags
     reservation: int
+    to: str = dataclasses.field(default="", compare=False, repr=False)  # where ssh(1) goes for it
 
     def value(self, key: str) -> Optional[str]:
         """What stands behind `key=` in its tags, as `pdu2` of `power=pdu2`."""

@@ -1,14 +1,19 @@
 """Where the desk is and who asks: what is given, else the environment, else the files of settings,
-and ~/.netrc."""
+and ~/.netrc.
+
+A file may have a section for each of several labs, [lab NAME], which stands in the place of [desk]
+where that lab is named. What names a lab goes before what is less near: given to a call, before the
+environment, and in the environment, before the files."""
 import configparser
 import dataclasses
 import difflib
 import getpass
 import netrc
 import os
+import re
 import stat
 import urllib.parse
-from typing import Any, Callable, Dict, Mapping, Optional, Sequence, Tuple
+from typing import Any, Callable, Dict, List, Mapping, Optional, Sequence, Tuple
 
 from fizgruk.errors import BadSettings
 from fizgruk.words import NAMES
@@ -19,17 +24,19 @@ NO_LOGIN = "a server's address has no user and no password in it: they are setti
 LOOPBACK = ("127.0.0.1", "localhost", "::1")
 SECONDS = "30"
 WORDS = ("server", "user", "password_file", "ca_file", "timeout")
-OF_DESK = ("history", "access")
+OF_LAB = (*WORDS, "history", "access")
 OF_DISPATCH = (
     "limit", "most", "retry", "clock", "keep_logs", "cage", "log_limit", "folder_limit",
     "memory_limit", "process_limit", "artifacts_limit", "artifact_limit", "artifact_count", "serves",
 )
 # The sections of a file, each with its settings.
 SECTIONS = {
-    "desk": (*WORDS, *OF_DESK),
+    "desk": (*OF_LAB, "lab"),
     "dispatch": (*WORDS, *OF_DISPATCH),
     "watch": WORDS,
 }
+LAB = re.compile(r"lab +(\S+)")  # the name of a lab's section
+LAB_FORM = "[lab NAME]"
 BadWords = Callable[[str], None]  # raises that a setting is misspelt
 Given = Mapping[str, Any]  # what goes before all else; `config` names the file of settings
 
@@ -74,8 +81,50 @@ def values_of(given: Given, section: str, bad_words: BadWords) -> Dict[str, Opti
     (SECTION_SERVER), and files last. `bad_words` tells of a setting that there isn't."""
     words = SECTIONS[section]
     around = _environment_of(section, words, bad_words)
-    files = _files_read(section, given.get("config") or around.get("config"), bad_words)
-    return {word: given.get(word) or around.get(word) or files.get(word) for word in words}
+    files = _files_read(given.get("config") or around.get("config"))
+    said = _said_in(files, section, words, bad_words)
+    if section == "desk":
+        if given.get("lab") and given.get("server"):
+            bad_words("a lab and a server don't go together: a lab has its own")
+        lab = given.get("lab") or around.get("lab") or said.get("lab")
+        if lab:
+            if given.get("lab"):
+                around = {}  # what it names may be another lab's
+            said = {**_of_lab(files, lab, bad_words), "lab": lab}
+    return {word: given.get(word) or around.get(word) or said.get(word) for word in words}
+
+
+def labs_of(given: Given) -> List[str]:
+    """The labs that the files of settings have a section for, in their order."""
+    around = _environment_of("desk", SECTIONS["desk"], refuse)
+    files = _files_read(given.get("config") or around.get("config"))
+    return list(dict.fromkeys(it for _, read in files for it in _labs_in(read)))
+
+
+def _of_lab(files: "Files", lab: str, bad_words: BadWords) -> Dict[str, str]:
+    """What the section of a lab says."""
+    known = [it for _, read in files for it in _labs_in(read)]
+    if lab not in known:
+        which = meant(lab, known) if known else f"there is no section {LAB_FORM}"
+        raise BadSettings(f"the settings have no lab {lab}: {which}")
+    found: Dict[str, str] = {}
+    for file, read in files:
+        for name in read.sections():
+            if _lab_in(name) == lab:
+                found.update(_words_of(file, read, name, OF_LAB, bad_words))
+    if "server" not in found:
+        raise BadSettings(f"[lab {lab}] has no server")
+    return found
+
+
+def _lab_in(name: str) -> Optional[str]:
+    """The lab that a section is of, if one."""
+    match = LAB.fullmatch(name)
+    return match[1] if match and NAMES.fullmatch(match[1]) else None
+
+
+def _labs_in(read: configparser.ConfigParser) -> List[str]:
+    return [it for it in map(_lab_in, read.sections()) if it is not None]
 
 
 def _environment_of(section: str, words: Sequence[str], bad_words: BadWords) -> Dict[str, str]:
@@ -91,11 +140,14 @@ def _environment_of(section: str, words: Sequence[str], bad_words: BadWords) -> 
     return found
 
 
-def _files_read(section: str, named: Optional[str], bad_words: BadWords) -> Dict[str, str]:
-    """The section of the named file, or of the user's file over the system's."""
+Files = List[Tuple[str, configparser.ConfigParser]]
+
+
+def _files_read(named: Optional[str]) -> Files:
+    """The named file, or the system's and the user's, of which the later goes first."""
     own = os.environ.get("XDG_CONFIG_HOME") or os.path.expanduser("~/.config")
     files = [named] if named else [SYSTEM_FILE, os.path.join(own, "farm", "desk.ini")]
-    found: Dict[str, str] = {}
+    found: Files = []
     for file in files:
         read = configparser.ConfigParser(interpolation=None)
         try:
@@ -104,24 +156,33 @@ def _files_read(section: str, named: Optional[str], bad_words: BadWords) -> Dict
             raise BadSettings(f"settings: {' '.join(str(fault).split())}") from fault
         if named and not done:
             raise BadSettings(f"{named} can't be read")
-        found.update(_section_of(file, read, section, bad_words))
+        found.append((file, read))
     return found
 
 
-def _section_of(
-    file: str, read: configparser.ConfigParser, section: str, bad_words: BadWords
+def _said_in(
+    files: Files, section: str, words: Sequence[str], bad_words: BadWords
+) -> Dict[str, str]:
+    """What the files say in a section."""
+    found: Dict[str, str] = {}
+    for file, read in files:
+        for name in read.sections():
+            if name not in SECTIONS and _lab_in(name) is None:
+                known = [*(f"[{it}]" for it in SECTIONS), LAB_FORM]
+                bad_words(f"{file}: [{name}] is no section: {meant(f'[{name}]', known)}")
+        if read.has_section(section):
+            found.update(_words_of(file, read, section, words, bad_words))
+    return found
+
+
+def _words_of(
+    file: str, read: configparser.ConfigParser, name: str, words: Sequence[str], bad_words: BadWords
 ) -> Dict[str, str]:
     """The settings of one file's section."""
-    for name in read.sections():
-        if name not in SECTIONS:
-            known = [f"[{it}]" for it in SECTIONS]
-            bad_words(f"{file}: [{name}] is no section: {meant(f'[{name}]', known)}")
-    found = dict(read[section]) if read.has_section(section) else {}
+    found = dict(read[name])
     for word in found:
-        if word not in SECTIONS[section]:
-            bad_words(
-                f"{file}: {word} in [{section}] is no setting: {meant(word, SECTIONS[section])}"
-            )
+        if word not in words:
+            bad_words(f"{file}: {word} in [{name}] is no setting: {meant(word, words)}")
     return found
 
 

@@ -31,9 +31,14 @@ class NoWay(FizgrukError):
 def destination(access: Optional[str] = None, server: Optional[str] = None) -> str:
     """Where ssh(1) goes for boards: what is given, or said by the settings, or the desk's host."""
     said = access or settings.access_of({})
-    if said:
-        return said
-    host = settings.address_of(server or settings.read_settings({}).server).hostname or ""
+    return said or way_of(None, server or settings.read_settings({}).server)
+
+
+def way_of(access: Optional[str], server: str) -> str:
+    """Where ssh(1) goes for the boards of a desk: what its own settings say, or its host."""
+    if access:
+        return access
+    host = settings.address_of(server).hostname or ""
     return f"ssh://{ACCOUNT}@{f'[{host}]' if ':' in host else host}:{PORT}"
 
 
@@ -56,21 +61,22 @@ class Ways:
     """The ways to a board."""
 
     name: str  # the board's
+    to: str  # where ssh(1) goes; nothing where the settings say it
 
     def console(self) -> "Console":
         """The board's console, for a `with`."""
-        return Console(self.name, destination())
+        return Console(self.name, self.to or destination())
 
     @property
     def power(self) -> "Power":
-        return Power(self.name, destination())
+        return Power(self.name, self.to or destination())
 
     def ssh(
         self, *words: str, user: str = "root", port: int = 22, timeout: Optional[float] = None
     ) -> "subprocess.CompletedProcess[str]":
         """What a command on the board prints, which its shell takes as one line; its status isn't
         looked at."""
-        return _ran(ssh_words(destination(), self.name, words, user, port), timeout)
+        return _ran(ssh_words(self.to or destination(), self.name, words, user, port), timeout)
 
 
 class Power:

@@ -85,7 +85,7 @@ def show_ways(desk: calls.Desk, options: argparse.Namespace) -> int:
 
 
 def destination_of(desk: calls.Desk, options: argparse.Namespace) -> str:
-    return ways.destination(asking.values_of("desk", options)["access"], desk.server)
+    return ways.way_of(asking.values_of("desk", options)["access"], desk.server)
 
 
 def become(words: List[str]) -> int:

@@ -46,6 +46,8 @@ def offer(parser: parsers.Parser) -> None:
     for it in [*parsers.settings_of(parser), *(
         it for command in parsers.commands_of(parser) for it in command._actions
     )]:
+        if it.dest == "lab":
+            it.completer = labs_of  # type: ignore[attr-defined]
         if it.dest in FIXED:
             fixed = FIXED[it.dest]
             it.completer = lambda fixed=fixed, **_: fixed  # type: ignore[attr-defined]
@@ -70,6 +72,15 @@ def desk_of(options: argparse.Namespace) -> calls.Desk:
     given = vars(options)
     timeout = settings.values_of(given, "desk", settings.refuse)["timeout"] or LONGEST
     return calls.Desk(settings.read_settings({**given, "timeout": timeout}), 0)
+
+
+def labs_of(prefix: str, parsed_args: argparse.Namespace, **_: object) -> List[str]:
+    """The labs of the settings."""
+    try:
+        found = settings.labs_of({"config": getattr(parsed_args, "config", None)})
+    except FizgrukError:
+        return []
+    return [it for it in found if it.startswith(prefix)]
 
 
 def programs(begin: str) -> List[str]:

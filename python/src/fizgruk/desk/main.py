@@ -16,6 +16,7 @@ from fizgruk.desk import (
     clocks,
     completion,
     holding,
+    labs,
     past_jobs,
     tell,
     texts,
@@ -38,6 +39,10 @@ Interrupted, it says that the job goes on."""
 AWAITS_BOARD = """\
 Wait until a pass gives it a board, refresh the reservation meanwhile, tell on standard error its \
 place in the queue, and why no board comes where none that fits is free, and print the board."""
+OF_SEVERAL = """\
+The lab of several, for each of which the file of settings has a section '[lab NAME]' with settings of \
+its own in the place of '[desk]'. The option goes before the environment, and without --server; the \
+setting 'lab' of '[desk]' is that of who names none."""
 PATIENCE = 15
 NUMBER = parsers.whole(1, 10**9 - 1)
 # what the desk calls a change of a reservation that has another name here
@@ -78,6 +83,8 @@ def status_of(options: argparse.Namespace) -> int:
     fault_status = holding.OF_ITSELF if options.does is holding.run_with_board else FAULT
     where = Where()
     try:
+        if getattr(options, "all_labs", False):
+            return labs.show_boards(options)
         desk = calls.Desk(asking.settings_of("desk", options, options.asks_as), PATIENCE)
         where.server = desk.server
         desk.tell_where = where.tell
@@ -153,6 +160,8 @@ def options_of(words: Sequence[str]) -> argparse.Namespace:
     parser = parser_of()
     completion.offer(parser)
     options = parser.parse_args(words)
+    if getattr(options, "all_labs", False) and (options.lab or options.server):
+        parser.error("--all-labs goes without --lab and --server")
     if options.does is holding.run_with_board:
         if not command:
             parser.error("with: give a command behind --")
@@ -168,6 +177,7 @@ def parser_of() -> Parser:
         "without it, admin for an admin's commands, else the user of the server in ~/.netrc, or of "
         "the login",
     )
+    group.add_argument("--lab", metavar="NAME", help=OF_SEVERAL)
     about = """\
 Where farm-dispatch(8) keeps its history on this machine, as /var/lib/farm-dispatch, or a file of
 its lines that was put aside; without it, the server is asked."""
@@ -201,7 +211,11 @@ its lines that was put aside; without it, the server is asked."""
 
 
 def add_views(command: Command) -> None:
-    add_tags(command("boards", views.show_boards))
+    boards = command("boards", views.show_boards)
+    add_tags(boards)
+    about = "Ask all labs of the settings at once; their names stand before their boards."
+    boards.add_argument("--all-labs", action="store_true", help=about)
+    boards.set_defaults(parser=boards)
     command("types", views.show_types)
     queue = command("queue", claims.show_queue)
     about = "Those that want a board of this type; reservations want none."

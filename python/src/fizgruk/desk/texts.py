@@ -53,7 +53,9 @@ STATUSES = (
 OF_ALL = {
     "boards": """\
 Show the boards, or those that have all of these tags. 'CHECKED' is when the last health check of \
-a board ended.""",
+a board ended. With --all-labs a lab that gives no answer is told, and the exit status is 4 then, or 3 \
+where it refuses, also though the boards of the others are shown; with --json there is an object for \
+each lab.""",
     "types": "Show the types, and after how many hours or jobs their boards are checked.",
     "queue": """\
 Show what waits for boards, in the order in which it is served. 'WAITED' is for how long, where \

@@ -28,6 +28,7 @@ def print_json(said: Dict[str, Any]) -> None:
 
 
 def show_boards(desk: calls.Desk, options: argparse.Namespace) -> int:
+    """Shows the boards of the desk, or of all labs."""
     want = wants.Want("", tuple(options.tags))
     rows = [it for it in desk.look("/boards")["boards"] if wants.fits(it, want)]
     return show(options, {"boards": rows}, rows, tables.BOARDS)
