@@ -140,7 +140,7 @@ def _turned(words: List[str], notes: str, last: int) -> int:
 
     for name in STEPS:
         setattr(os, name, counted(name, getattr(os, name)))
-    subprocess.run = counted("run", subprocess.run)  # type: ignore[assignment]
+    subprocess.run = counted("run", subprocess.run)
     return main(words)
 
 
@@ -152,7 +152,7 @@ def tried(home: Home, kept: str, lab: str, step: int) -> Dict[str, Any]:
     assert home.serves()
     how, _, steps = forked(home.words(lab), home.folder, step)
     if not step:
-        found = {"steps": steps}
+        found: Dict[str, Any] = {"steps": steps}
     else:
         found = {"how": how, "at": steps[-1], "killed": home.farms()}
         if step % 2:

@@ -8,18 +8,18 @@ import shutil
 import subprocess
 import sys
 import urllib.parse
-from typing import Any, Iterator, List, Tuple
+from typing import Any, Dict, Iterator, List, Sequence, Tuple
 
 import pytest
 
 import fizgruk
 from browser import Visit
 from nginx_site import AROUND, NEEDED, NGINX, WORDS, Site, openssl, write
-from served import STARTED, TOOLS, TOP, Farm, environment, free_port, read, wait_until
+from served import STARTED, TOOLS, TOP, Board, Farm, environment, free_port, read, wait_until
 from wants import wants
 
 LABS = ("berlin", "paris")
-BOARDS = {"berlin": [("b1", "bbb", ["hdmi"]), ("b2", "bbb", [])], "paris": [("p1", "rpi", ["hdmi"])]}
+BOARDS: Dict[str, Sequence[Board]] = {"berlin": [("b1", "bbb", ["hdmi"]), ("b2", "bbb", [])], "paris": [("p1", "rpi", ["hdmi"])]}
 MENU = '{"labs":[{"name":"berlin","address":"/berlin/"},{"name":"paris","address":"/paris/"}]}\n'
 
 
