@@ -475,11 +475,16 @@ def test_after_runs_between_two_holds_and_where_it_fails_nobody_gets_in(make_far
         lab.cancel("ann", second)
         lab.reserve("bob", "b1")
         shut = lab.session("bob", "b1", "say", "x", seconds=6)
+        until(lambda: shown_of(lab, "b1").get("shut"))
+        shut_since = shown_of(lab, "b1")["shut"]
         os.unlink(lab.path("fails"))
         opened = lab.session("bob", "b1", "say", "x")
         assert (shut.status, shut.output) == (None, b"")
         assert opened.output == b"x\n"
         assert b"it is shut" in lab.said("guard")
+        assert time.time() - 60 < shut_since <= time.time()
+        until(lambda: "shut" not in shown_of(lab, "b1"))
+        assert "shut" not in shown_of(lab, "b1")
     finally:
         lab.end()
 
@@ -526,17 +531,18 @@ def test_handovers_under_kills_mix_no_bytes_and_without_the_lock_they_do(program
         assert any(int(it) for it in re.findall('"mixes": ([0-9]+)', ran.stdout)), ran.stdout
 
 
-def test_the_guard_tells_the_page_which_ways_there_are_and_who_is_there(lab: Lab, held: Callable[..., int]) -> None:
-    def shown() -> Any:
-        with open(lab.path("shown", "access.json"), encoding="utf-8") as file:
-            return json.load(file)["boards"]
+def shown_of(lab: Lab, board: str) -> Any:
+    with open(lab.path("shown", "access.json"), encoding="utf-8") as file:
+        return json.load(file)["boards"][board]
 
+
+def test_the_guard_tells_the_page_which_ways_there_are_and_who_is_there(lab: Lab, held: Callable[..., int]) -> None:
     held("ann", "b2")
     line = lab.begin("ann", "b2", "sleep")
     running(lab, "sleep")
-    until(lambda: shown()["b2"]["sessions"])
-    assert [(it["person"], it["way"]) for it in shown()["b2"]["sessions"]] == [("ann", "sleep")]
-    assert shown()["b2"]["ways"] == ["console", "env", "nasty", "power on|off|cycle", "say", "sleep", f"tcp {lab.echo}"]
+    until(lambda: shown_of(lab, "b2")["sessions"])
+    assert [(it["person"], it["way"]) for it in shown_of(lab, "b2")["sessions"]] == [("ann", "sleep")]
+    assert shown_of(lab, "b2")["ways"] == ["console", "env", "nasty", "power on|off|cycle", "say", "sleep", f"tcp {lab.echo}"]
     line.kill()
-    until(lambda: not shown()["b2"]["sessions"])
-    assert not shown()["b2"]["sessions"]
+    until(lambda: not shown_of(lab, "b2")["sessions"])
+    assert not shown_of(lab, "b2")["sessions"]

@@ -64,6 +64,13 @@ class BoardLock:
             taker.wait(time.monotonic() - since)
         return False
 
+    def is_free(self) -> bool:
+        """Whether nobody has it now."""
+        if not self._has(fcntl.LOCK_EX):
+            return False
+        fcntl.flock(self.opened, fcntl.LOCK_UN)
+        return True
+
     def tidy(self, taker: Taker) -> bool:
         """Cleans up behind a hold that has ended, where no session has the lock. Returns whether
         the board is ready."""

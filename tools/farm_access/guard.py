@@ -1,12 +1,13 @@
 """Ends what can't end by itself, and cleans up where nobody comes: stopped sessions, what lives of
 killed ones, boards whose hold has ended. It looks for all sessions too."""
+import contextlib
 import json
 import os
 import signal
 import subprocess
 import sys
 import time
-from typing import Any, Dict, List, NoReturn, Optional, Set
+from typing import Any, Dict, List, NoReturn, Optional
 
 from farm_access import record, sessions
 from farm_access.boardlock import BoardLock, is_left
@@ -20,8 +21,12 @@ from fizgruk._tools import disk
 LOOKS = 0.25
 HOUR = 3600.0
 PAUSE = 5.0  # after a board that couldn't be cleaned up
-NOT_READY = 1
-SHUT = "{}: it is shut, since what is to run between two holds fails: `farm-access tidy {}` says why"
+NOT_READY, IN_USE = 1, 3
+STUCK = 120.0  # seconds for which somebody may have an ended hold's lock before the board is called shut
+SHUT = (
+    "{0}: it is shut, since what is to run between two holds fails, or what is left can't be ended: "
+    "`farm-access tidy {0}` says why"
+)
 Boards = Optional[Dict[str, Board]]
 
 
@@ -55,7 +60,8 @@ class Guard:
         self.late: Dict[str, float] = {}  # sessions of holds that have ended, and since when
         self.tidies: Dict[str, "subprocess.Popen[bytes]"] = {}
         self.rests: Dict[str, float] = {}
-        self.shut: Set[str] = set()
+        self.stuck: Dict[str, float] = {}
+        self.shut = shut_in(site.shown)
         self.cleans = 0.0
         self.shown = ""
 
@@ -88,7 +94,9 @@ class Guard:
     def shown_of(self, board: Board, listed: List[Session]) -> Dict[str, Any]:
         there = [it for it in listed if board.name in it.holds and it.person and not it.folder]
         told = [{"person": it.person, "way": it.way.split(" ")[0], "since": int(it.since)} for it in there]
-        return {"ways": told_of(self.site.ways_of(board.name, board.tags)), "sessions": told}
+        ways = told_of(self.site.ways_of(board.name, board.tags))
+        shut = {"shut": self.shut[board.name]} if board.name in self.shut else {}
+        return {"ways": ways, "sessions": told, **shut}
 
     def evict_late(self, listed: List[Session], boards: Dict[str, Board]) -> None:
         now = time.monotonic()
@@ -112,24 +120,41 @@ class Guard:
         for name, process in list(self.tidies.items()):
             if process.poll() is not None:
                 del self.tidies[name]
-                self.note(name, process.returncode == NOT_READY)
+                self.note(name, process.returncode)
         for board in boards.values():
             if board.name in self.tidies or self.rests.get(board.name, 0.0) > now:
                 continue
             if is_left(self.site.folder, board.name, lambda it, b=board: is_current(it, b)):  # type: ignore[misc]
                 words = [sys.executable, sys.argv[0], "--file", self.file, "tidy", board.name]
                 self.tidies[board.name] = subprocess.Popen(words, stdin=subprocess.DEVNULL)
+            elif board.name in self.shut or board.name in self.stuck:
+                self.note(board.name, 0)  # its next holder has cleaned up
 
-    def note(self, board: str, is_shut: bool) -> None:
+    def note(self, board: str, status: int) -> None:
         """Notes whether a board is shut, which is told once."""
-        if is_shut:
-            self.rests[board] = time.monotonic() + PAUSE
+        now = time.monotonic()
+        if status == IN_USE:
+            self.stuck.setdefault(board, now)
+        else:
+            self.stuck.pop(board, None)
+        is_shut = status == NOT_READY or self.stuck.get(board, now) < now - STUCK
+        if status in (NOT_READY, IN_USE):
+            self.rests[board] = now + PAUSE
         if is_shut and board not in self.shut:
-            self.shut.add(board)
-            tell(SHUT.format(board, board))
-        elif not is_shut and board in self.shut:
-            self.shut.discard(board)
+            self.shut[board] = int(time.time())
+            tell(SHUT.format(board))
+        elif not status and board in self.shut:
+            del self.shut[board]
             tell(f"{board}: it is ready again")
+
+
+def shut_in(file: str) -> Dict[str, int]:
+    """The boards that were shut when the guard ended."""
+    with contextlib.suppress(OSError, ValueError, TypeError, AttributeError, KeyError):
+        with open(file, encoding="utf-8") as text:
+            boards = json.load(text)["boards"]
+        return {name: int(it["shut"]) for name, it in boards.items() if "shut" in it}
+    return {}
 
 
 def is_of_now(session: Session, boards: Dict[str, Board]) -> bool:
@@ -144,6 +169,11 @@ def tidy(site: Site, board: str) -> int:
     seen = lookout.boards().get(board)
     if lock.hold() and is_current(lock.hold(), seen):
         return 0
+    is_free = lock.is_free()
+    lock.close()
+    if not is_free:
+        print(f"farm-access: {board}: somebody has its lock", file=sys.stderr)
+        return IN_USE
     signal.signal(signal.SIGTERM, signal.SIG_DFL)
     work = Work(site, lookout, session_of({board: AFTER}, "", AFTER))
     is_ready = work.locks[0].tidy(work)

@@ -27,6 +27,7 @@ STATUSES = (
     ("0", "Done; of a session, the status of what ran, or 0 where the board ended the line."),
     ("1", "Of 'check': a way doesn't answer. Of 'tidy': the board isn't ready."),
     ("2", "Bad words, or FILE says what it can't."),
+    ("3", "Of 'tidy': somebody has the board's lock."),
     ("4", "The desk gives no answer, or a way none, or a folder can't be used."),
     ("5", "The board isn't yours now, or another session has its console."),
     ("6", "The hold has ended."),

@@ -116,6 +116,25 @@ class Events:
             board=name, type=board["type"], before=before, why=why,
         )
 
+    def board_shut(self, name: str, since: int) -> None:
+        self._add(
+            "board", "board-shut", f"{name}.{since}", "", f"board {name} is shut",
+            [
+                f"farm-access keeps the board {name} shut since {moment(since)}: what runs between two",
+                "holds fails, or what the last one left can't be ended. Nobody gets to it, whoever holds it.",
+                "",
+                f"    farm-access tidy {name}    # says why",
+            ],
+            board=name, since=since,
+        )
+
+    def board_open(self, name: str, since: int) -> None:
+        self._add(
+            "board", "board-open", f"{name}.{since}", "", f"board {name} isn't shut any more",
+            [f"farm-access had kept it shut since {moment(since)}."],
+            board=name, since=since,
+        )
+
     def pass_late(self, clock: int, trouble: str) -> None:
         """No pass has come for long; `trouble` is why the desk doesn't answer, if it doesn't."""
         lines = [f"The desk gives no answer: {trouble}" if trouble else "The desk answers."]

@@ -27,7 +27,7 @@ DAY = 86400
 ABOUT = """\
 Looks at the desk every five seconds, and tells what FILE has rules for, by mail and by \
 a webhook: a hold that is old, or was ended for its age; a job that has ended; a reservation that \
-waited and got a board; a board that went Bad; no pass for long; a farm that is nearly full; a file system \
+waited and got a board; a board that went Bad, or that farm-access keeps shut; no pass for long; a farm that is nearly full; a file system \
 without much room, and with room again. Each event is told once, by each way that its rule names; what isn't taken is tried again.
 It may be killed at any moment, and goes on from its last look; what happened meanwhile is told \
 then. At its first look at a farm it tells of jobs and boards only what happens from then on."""
@@ -97,6 +97,7 @@ def summary(rules: Rules) -> str:
         "job.ended": " ".join(rules.outcomes),
         "board.bad": "yes" if rules.bad else "",
         "board.free": " ".join(rules.free),
+        "board.shut": rules.shut,
         "pass.late": rules.late and limits.words_of(rules.late),
         "full.at": " ".join(map(str, rules.levels)),
         "room.below": rules.below and limits.size_words(rules.below),
@@ -226,6 +227,7 @@ def serve(watcher: Watcher, tellers: List[watch_tell.Teller], stops: Stops, ever
 def one_look(watcher: Watcher) -> str:
     """Looks once. Returns what is in its way."""
     watcher.room.look()
+    watcher.shut.look()
     try:
         watcher.round()
         return ""

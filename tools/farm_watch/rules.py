@@ -15,6 +15,7 @@ LONGEST_HOLD, LONGEST_LATE = 365 * 86400, 86400
 SHORTEST_HOLD, SHORTEST_LATE = 60, 10
 OWNER = "{owner}"
 SENDMAIL = "/usr/sbin/sendmail"  # where the file names none
+SHUT = "/var/lib/farm-access/shown/access.json"
 
 
 @dataclasses.dataclass(frozen=True)
@@ -58,6 +59,7 @@ class Rules:
     by: Dict[str, Tuple[str, ...]]
     below: Optional[int] = None  # bytes of room
     paths: Tuple[str, ...] = ()
+    shut: str = ""  # the file that says which boards are
 
 
 # ---- values: each reader says what is allowed
@@ -149,6 +151,15 @@ def paths_of(value: Any) -> Tuple[str, ...]:
     return tuple(dict.fromkeys(found))
 
 
+def shut_of(value: Any) -> str:
+    """Where it is said which boards are shut: true, in farm-access's own file."""
+    if isinstance(value, bool):
+        return SHUT if value else ""
+    if not isinstance(value, str) or not value.startswith("/"):
+        raise BadFile(f"{value!r} is neither true nor false nor a path from / on")
+    return value
+
+
 def url_of(value: Any) -> str:
     try:
         address = urllib.parse.urlsplit(text_of(value))
@@ -206,14 +217,16 @@ TABLES: Dict[str, Dict[str, Callable[[Any], Any]]] = {
     "webhook": {"url": url_of, "ca_file": text_of},
     "hold": {"remind": HOLD, "end": HOLD, **BY},
     "job": {"ended": outcomes_of, **BY},
-    "board": {"bad": flag_of, "free": claims_of, **BY},
+    "board": {"bad": flag_of, "free": claims_of, "shut": shut_of, **BY},
     "pass": {"late": time_of(SHORTEST_LATE, LONGEST_LATE), **BY},
     "full": {"at": levels_of, **BY},
     "room": {"below": size_of, "paths": paths_of, **BY},
 }
 # Which rules are told to an owner, and which to the admins.
 OF_OWNERS = (("hold", "remind"), ("hold", "end"), ("job", "ended"), ("board", "free"))
-OF_ADMINS = (("board", "bad"), ("pass", "late"), ("full", "at"), ("room", "below"))
+OF_ADMINS = (
+    ("board", "bad"), ("board", "shut"), ("pass", "late"), ("full", "at"), ("room", "below"),
+)
 RULES = ("hold", "job", "board", "pass", "full", "room")
 PATHS = ("/var/lib/farm", "/var/lib/farm-dispatch")  # whose room counts where none are named
 
@@ -265,6 +278,7 @@ class Reader:
             by=self.channels(found),
             below=found["room"].get("below"),
             paths=found["room"].get("paths", PATHS),
+            shut=found["board"].get("shut", ""),
         )
         self.demand_sense(rules, found)
         return rules

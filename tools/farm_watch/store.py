@@ -56,9 +56,9 @@ class Delivery(NamedTuple):
 
 # What was seen, by its kinds: the farm's own numbers; each board's health; open groups of jobs and
 # reservations that wait, with their owners; holds, and those that may be ended; file systems that
-# lack room.
+# lack room; boards that are shut.
 Seen = Dict[str, Dict[str, Any]]
-KINDS = ("farm", "boards", "groups", "waiting", "holds", "endings", "room")
+KINDS = ("farm", "boards", "groups", "waiting", "holds", "endings", "room", "shut")
 
 
 def nothing() -> Seen:

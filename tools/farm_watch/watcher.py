@@ -12,6 +12,7 @@ from farm_watch.history import History
 from farm_watch.holds import Holds
 from farm_watch.passes import Passes
 from farm_watch.room import Room
+from farm_watch.shut import Shut
 from farm_watch.rules import Rules
 from farm_watch.store import Seen, Store, nothing
 from fizgruk import calls, wants
@@ -53,6 +54,7 @@ class Watcher:
         self.passes = Passes(desk, rules.late or 0)
         self.history = History(desk)
         self.room = Room(store, rules, told)
+        self.shut = Shut(store, rules, told)
         self.holds = Holds(desk, store, rules, self.passes.note_own, told)
         self.checked: Optional[Set[str]] = None
         self.types = -1
@@ -120,6 +122,7 @@ class Watcher:
         began: Seen = {
             **nothing(),
             "room": seen["room"],
+            "shut": seen.get("shut", {}),
             "farm": {
                 "number": farm.get("number", 0) + 1,
                 "next": 1,
