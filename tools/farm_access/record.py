@@ -29,10 +29,10 @@ class Record:
 
     def __init__(self, folder: str, board: str, hold: str, person: str):
         self.place = os.path.join(folder, board)
-        os.makedirs(self.place, mode=0o750, exist_ok=True)
+        os.makedirs(self.place, mode=0o770, exist_ok=True)
         self.file = file_of(folder, board, hold)
         flags = os.O_RDWR | os.O_CREAT | os.O_APPEND | os.O_CLOEXEC | os.O_NOFOLLOW
-        self.opened = os.open(self.file, flags, 0o640)
+        self.opened = os.open(self.file, flags, 0o660)
         try:
             fcntl.flock(self.opened, fcntl.LOCK_EX | fcntl.LOCK_NB)
         except BlockingIOError as fault:

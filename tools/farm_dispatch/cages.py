@@ -148,7 +148,11 @@ def kill(mark: str, cage: Cage) -> None:
         _kill(first_of(_keeper_in(value)))
         return
     if kind == CGROUP:
-        _write(os.path.join(value, COMMAND, "cgroup.kill"), "1")
+        own = os.path.join(value, COMMAND)
+        if not _write(os.path.join(own, "cgroup.kill"), "1"):
+            for folder, _, _ in os.walk(own):  # another account's, with the right to kill its processes
+                for line in _lines(os.path.join(folder, "cgroup.procs")):
+                    _kill(int(line))
         return
     if kind == "pidns":
         _kill(first_of(value))
@@ -514,6 +518,11 @@ def _bytes(file: str) -> bytes:
         return b""
 
 
-def _write(file: str, text: str) -> None:
-    with contextlib.suppress(OSError), open(file, "w", encoding="ascii") as opened:
-        opened.write(text)
+def _write(file: str, text: str) -> bool:
+    """Writes to a file of the kernel's. Returns whether that was taken."""
+    try:
+        with open(file, "w", encoding="ascii") as opened:
+            opened.write(text)
+        return True
+    except OSError:
+        return False
