@@ -108,7 +108,7 @@ class Kernel:
             "/proc/self/cgroup": ["1:name=systemd:/", "0::/unit.service"],
         }
         self.has_kill = self.may_enter = True
-        monkeypatch.setattr(cages, "_lines", lambda file: self.lines[file])
+        monkeypatch.setattr(cages, "lines_of", lambda file: self.lines[file])
         monkeypatch.setattr(cages, "os", self)
 
     def __getattr__(self, name: str) -> Any:

@@ -6,7 +6,7 @@ import time
 from typing import Any, Dict, List, cast
 
 import pytest
-from farm_dispatch import clocks as dispatch_clocks
+from farm_dispatch import cages, clocks as dispatch_clocks
 from fizgruk import calls, clocks
 from fizgruk.desk.clocks import Watch
 from fizgruk.errors import Unreachable
@@ -166,11 +166,10 @@ def test_a_clock_that_was_set_stays_so_until_the_machine_begins_anew(
     desk: Desk, folder: str, monkeypatch: pytest.MonkeyPatch
 ) -> None:
     said = {"boot": "one", "clock": b"NTP=yes NTPSynchronized=yes"}
-    text_of = getattr(dispatch_clocks, "_text_of")
     monkeypatch.setattr(dispatch_clocks, "_said_of_the_clock", lambda: cast(bytes, said["clock"]).split())
-    monkeypatch.setattr(dispatch_clocks, "_boot", lambda: said["boot"])
+    monkeypatch.setattr(cages, "boot_id", lambda: said["boot"])
     assert beside(desk, folder).is_machine_set()
-    assert text_of(os.path.join(folder, "synchronized")) == "one"
+    assert cages.lines_of(os.path.join(folder, "synchronized")) == ["one"]
     said["clock"] = b"NTP=yes NTPSynchronized=no"
     assert beside(desk, folder).is_machine_set()
     said["boot"] = "two"

@@ -132,7 +132,7 @@ def test_a_later_farm_of_the_same_history_goes_on_from_a_point(made: Made) -> No
         made.conn.execute("update jobs set state = 4, outcome = 1, board = 'b1'")
         with made.pages() as found:
             assert points.why_other(point, found) == ""
-    assert points.point_in(point.said()) == point
+    assert points.point_in(point._asdict()) == point
 
 
 @pytest.mark.parametrize("change, why", [

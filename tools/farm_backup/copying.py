@@ -18,6 +18,7 @@ import time
 from typing import Callable, List, Optional, Tuple
 
 from farm_backup import pages, replica, tail
+from farm_backup.tail import NoCopy as NoCopy
 from fizgruk._tools import disk
 
 TRIES = 20
@@ -25,10 +26,6 @@ FIRST_WAIT, LONGEST_WAIT = 0.05, 2.0
 COPY = re.compile(r"farm-(\d{8}T\d{6}Z)(?:-(\d+))?")
 NEW = ".new-"  # how a copy's folder is named until it is checked
 STATUS = b"GET /status HTTP/1.1\r\n\r\n"
-
-
-class NoCopy(Exception):
-    """There is no copy, or none that is a farm."""
 
 
 class Farm:
@@ -90,16 +87,13 @@ def followed_copy(
 ) -> Tuple[str, tail.Tail]:
     """The same, and what reads on in the farm's log behind the copy."""
     place = tempfile.mkdtemp(prefix=NEW, dir=folder)
-    followed: Optional[tail.Tail] = None
-    try:
+    with contextlib.ExitStack() as cut_off:
+        cut_off.callback(shutil.rmtree, place, ignore_errors=True)
         copy, followed = copied(farm, place, tell)
+        cut_off.callback(followed.close)
         copy.prove()
         disk.sync_folder(place)
-    except BaseException:
-        if followed:
-            followed.close()
-        shutil.rmtree(place, ignore_errors=True)
-        raise
+        cut_off.pop_all()
     return place, followed
 
 
@@ -118,8 +112,6 @@ def copied(farm: Farm, place: str, tell: Callable[[str], None]) -> Tuple[Farm, t
             raise NoCopy(f"there is no {fault.filename}: a farm is a file and its log") from fault
         except pages.NoDatabase as fault:
             raise NoCopy(f"the copy is no farm, and is thrown away ({fault})") from fault
-        except tail.Damaged as fault:
-            raise NoCopy(str(fault)) from fault
         except tail.Anew as fault:
             why = str(fault)
         tell(f"copied again: {why}")

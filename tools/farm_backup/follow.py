@@ -8,6 +8,7 @@
 A standby is only added to, or replaced by a newer copy, where it is as it was shipped and the
 farm is a later one of the same history. Else there are two lines of history, of which no program
 knows which one is wanted: the follower ends, and touches neither."""
+import contextlib
 import os
 import shutil
 import time
@@ -75,8 +76,6 @@ class Follower:
             return True
         except tail.Rewound as fault:
             raise self._other(str(fault)) from fault
-        except tail.Damaged as fault:
-            raise copying.NoCopy(str(fault)) from fault
         except tail.Anew:
             return False
 
@@ -117,23 +116,21 @@ class Follower:
     def _copy(self) -> None:
         """Makes a whole copy, and lets the standby's name lead to it."""
         place, followed = copying.followed_copy(self.farm, self.folder, lambda text: None)
-        made: Optional[standby.Standby] = None
-        try:
-            made = standby.Standby(self.farm.within(place), followed)
+        with contextlib.ExitStack() as cut_off:
+            cut_off.callback(shutil.rmtree, place, ignore_errors=True)
+            cut_off.callback(followed.close)
+            try:
+                made = standby.Standby(self.farm.within(place), followed)
+            except tail.Anew as fault:
+                raise copying.NoCopy(str(fault)) from fault
+            cut_off.callback(made.close)
             found = made.replica.pages
             why = self.record.why_other(found) if self.record else ""
             if why:
                 raise self._other(why)
             self.sum = pages.sum_of_all(found)
             self._write_record(found, [self.sum], made.replica.head.raw, place)
-        except BaseException as fault:
-            followed.close()
-            if made:
-                made.close()
-            shutil.rmtree(place, ignore_errors=True)
-            if isinstance(fault, tail.Anew):
-                raise copying.NoCopy(str(fault)) from fault
-            raise
+            cut_off.pop_all()
         self._replace(made, place)
 
     def _replace(self, made: standby.Standby, place: str) -> None:

@@ -175,10 +175,7 @@ def back_up(farm: copying.Farm, folder: str, options: argparse.Namespace) -> int
     """Makes one copy, names it, and removes the oldest."""
     answered = answered_at(options.server) if options.server else None
     began = copying.name_of(time.time())
-    note: Callable[[str], None] = lambda text: None
-    if options.verbose:
-        note = tell
-    place = copying.new_copy(farm, folder, note)
+    place = copying.new_copy(farm, folder, teller_of(options))
     try:
         if answered is not None:
             compare(farm.within(place), answered)
@@ -209,20 +206,19 @@ def remove_old(farm: copying.Farm, folder: str, new: str, keep: int) -> None:
 
 def look(farm: copying.Farm, options: argparse.Namespace) -> int:
     """Makes a copy to look at, or a report over one."""
-    def told_again(text: str) -> None:
-        if options.verbose:
-            tell(text)
-
     if options.to:
-        looking.copy_to(farm, options.to, told_again)
+        looking.copy_to(farm, options.to, teller_of(options))
         return 0
-    offset = [
-        word
-        for name in ("east", "west")
-        if getattr(options, name) is not None
-        for word in (f"--{name}", str(getattr(options, name)))
-    ]
-    return looking.report(farm, [*offset, options.report], told_again)
+    given = [it for it in ("east", "west") if getattr(options, it) is not None]
+    offset = [word for it in given for word in (f"--{it}", str(getattr(options, it)))]
+    return looking.report(farm, [*offset, options.report], teller_of(options))
+
+
+def teller_of(options: argparse.Namespace) -> Callable[[str], None]:
+    """What is told where a copy is made again."""
+    if options.verbose:
+        return tell
+    return lambda text: None
 
 
 def promote(farm: copying.Farm, folder: str, options: argparse.Namespace) -> int:

@@ -27,10 +27,6 @@ class Point(NamedTuple):
     clock: int
     notes: Dict[str, Note]  # of the last row of each table
 
-    def said(self) -> Dict[str, Any]:
-        """As JSON has it."""
-        return {"commands": self.commands, "clock": self.clock, "notes": self.notes}
-
 
 def point_of(found: pages.Readable) -> Point:
     """The point of a farm. Raises NoDatabase where it is none."""

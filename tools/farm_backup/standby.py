@@ -40,7 +40,7 @@ class Record(NamedTuple):
         return points.why_other(self.point, found)
 
     def write(self, folder: str) -> None:
-        said = {**self._asdict(), "point": self.point.said()}
+        said = {**self._asdict(), "point": self.point._asdict()}
         disk.write_synced(os.path.join(folder, RECORD), json.dumps(said) + "\n")
 
 
@@ -125,18 +125,15 @@ class Standby:
         self.copy = copy
         self.tail = followed
         self.locked = os.open(copy.db, os.O_RDWR | os.O_CLOEXEC)
-        log = -1
-        try:
+        with contextlib.ExitStack() as cut_off:
+            cut_off.callback(os.close, self.locked)
             fcntl.lockf(self.locked, fcntl.LOCK_EX | fcntl.LOCK_NB, LOCKED, LOCKS)
             log = os.open(copy.log, os.O_RDWR | os.O_CLOEXEC)
+            cut_off.callback(os.close, log)
             self.replica = replica.Replica(self.locked, log, copy.log)
             os.ftruncate(log, self.replica.pages.place.offset)
             os.fsync(log)
-        except BaseException:
-            for opened in (log, self.locked):
-                if opened >= 0:
-                    os.close(opened)
-            raise
+            cut_off.pop_all()
         self.left = self._stands()
 
     def follow(self, log: str) -> tail.Tail:

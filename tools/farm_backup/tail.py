@@ -24,6 +24,10 @@ FRAME_HEAD, FRAME_SALTS = struct.Struct(">6I"), struct.Struct(">2I")
 MOST = 256 << 20  # bytes that wait for the reader
 
 
+class NoCopy(Exception):
+    """There is no copy, or none that is a farm."""
+
+
 class Anew(Exception):
     """The log has to be copied from its beginning, with the file."""
 
@@ -32,7 +36,7 @@ class Rewound(Anew):
     """The log has lost what it had: it is the same, and other frames stand in it."""
 
 
-class Damaged(Exception):
+class Damaged(NoCopy):
     """Commands stand in the log behind a frame that no program reads on from."""
 
 

@@ -48,7 +48,7 @@ class Account:
         self.rest = b""
         try:
             self.line.connect(SOCKET)
-            said = json.loads(next(self._lines(), "") or "null")
+            said = json.loads(next(self.lines(), "") or "null")
             self.uid, self.cgroup = int(said["uid"]), str(said["cgroup"])
         except (ValueError, TypeError, KeyError, RecursionError) as fault:
             raise OSError("systemd starts no service for the job (farm-job@.service)") from fault
@@ -70,10 +70,7 @@ class Account:
             self.line.sendall(END)
 
     def lines(self) -> Iterator[str]:
-        """What it says of the command, until the connection is closed."""
-        return self._lines()
-
-    def _lines(self) -> Iterator[str]:
+        """What it says, until the connection is closed."""
         while True:
             line, found, rest = self.rest.partition(b"\n")
             if found:

@@ -6,7 +6,7 @@ import contextlib
 import os
 from typing import Dict, List, NamedTuple, Optional
 
-from farm_dispatch import cages, strangers
+from farm_dispatch import cages
 from fizgruk import limits
 
 OWN, OF_ALL = "", " (of one of the jobs that ran here)"
@@ -41,13 +41,13 @@ def enable(cgroup: str) -> bool:
     unit starts it in that: systemd can start nothing in a cgroup like this one. Returns
     whether they have: not where the kernel lends no controllers, or others' processes are in it."""
     file = os.path.join(cgroup, CONTROL)
-    lacks = set(CONTROLLERS) - set(_text_in(file).split())
+    lacks = set(CONTROLLERS) - set(_words_in(file))
     if not lacks:
         return True
     if not os.path.isdir(os.path.join(cgroup, cages.DISPATCHER)):
         return False
-    has = set(_text_in(os.path.join(cgroup, "cgroup.controllers")).split())
-    processes = _text_in(os.path.join(cgroup, "cgroup.procs")).split()
+    has = set(_words_in(os.path.join(cgroup, "cgroup.controllers")))
+    processes = _words_in(os.path.join(cgroup, "cgroup.procs"))
     if not lacks <= has or set(processes) - {str(os.getpid())}:
         return False
     try:
@@ -138,7 +138,7 @@ def own_limit_met(mark: str) -> str:
 
 def _most_of(kind: Kind, cgroup: str) -> str:
     """A limit of a cgroup, in words; nothing where it has none."""
-    text = _text_in(os.path.join(cgroup, kind.most))
+    text = "".join(_words_in(os.path.join(cgroup, kind.most)))
     if not text.isdigit():
         return ""
     # (the kernel has whole pages)
@@ -146,16 +146,12 @@ def _most_of(kind: Kind, cgroup: str) -> str:
 
 
 def _count_in(file: str, line: str) -> Optional[int]:
-    heads = (it.partition(" ") for it in _text_in(file).splitlines())
+    heads = (it.partition(" ") for it in cages.lines_of(file))
     return next((int(count) for name, _, count in heads if name == line and count.isdigit()), None)
 
 
-def _text_in(file: str) -> str:
-    try:
-        with open(file, encoding="ascii", errors="replace") as opened:
-            return opened.read(strangers.MOST).strip()
-    except OSError:
-        return ""
+def _words_in(file: str) -> List[str]:
+    return " ".join(cages.lines_of(file)).split()
 
 
 def _write(file: str, text: str) -> None:

@@ -59,11 +59,7 @@ class Cage(NamedTuple):
 
 def best_form() -> str:
     """The first form that can be made here."""
-    if accounts.are_there():
-        return ACCOUNT
-    if own_cgroup():
-        return CGROUP
-    return NAMESPACE if _can_unshare() else NONE
+    return next(it for it in FORMS if can_make(it))
 
 
 def can_make(form: str) -> bool:
@@ -78,7 +74,7 @@ def own_cgroup() -> str:
     """The folder of this process's cgroup, where cgroups may be made below it that can be killed;
     nothing else."""
     mount = _mount_of_cgroups()
-    path = next((it[3:] for it in _lines("/proc/self/cgroup") if it.startswith("0::")), "")
+    path = next((it[3:] for it in lines_of("/proc/self/cgroup") if it.startswith("0::")), "")
     if not mount or not path:
         return ""
     own = os.path.normpath(f"{mount}/{path}")
@@ -107,7 +103,7 @@ def cgroup_of(mark: str) -> str:
 
 
 def _mount_of_cgroups() -> str:
-    return next((it.split()[1] for it in _lines("/proc/self/mounts") if " cgroup2 " in it), "")
+    return next((it.split()[1] for it in lines_of("/proc/self/mounts") if " cgroup2 " in it), "")
 
 
 def _can_unshare() -> bool:
@@ -193,7 +189,7 @@ def left_in(mark: str, cage: Cage) -> str:
     kind, _, value = mark.partition(":")
     if kind in (ACCOUNT, CGROUP):
         own = cgroup_of(mark) if kind == ACCOUNT else os.path.join(value, COMMAND)
-        pids = [int(it) for it in _lines(os.path.join(own, "cgroup.procs"))]
+        pids = [int(it) for it in lines_of(os.path.join(own, "cgroup.procs"))]
     elif kind == "pidns":
         pids = [it for it in (first_of(value),) if it]
     else:
@@ -227,7 +223,7 @@ def name_of(pid: int) -> str:
 
 
 def boot_id() -> str:
-    return "".join(_lines("/proc/sys/kernel/random/boot_id"))
+    return "".join(lines_of("/proc/sys/kernel/random/boot_id"))
 
 
 def runners_of(folder: str) -> List[int]:
@@ -382,7 +378,7 @@ def enter(cgroup: str) -> None:
 def _die_first() -> None:
     """Lets the kernel kill this process, and what it starts, before the one that looks after it."""
     file = "/proc/self/oom_score_adj"
-    if int("".join(_lines(file)) or DIES_FIRST) < DIES_FIRST:
+    if int("".join(lines_of(file)) or DIES_FIRST) < DIES_FIRST:
         _write(file, str(DIES_FIRST))
 
 
@@ -475,7 +471,7 @@ def _stat(pid: int) -> Tuple[str, List[str]]:
 
 
 def _is_populated(cgroup: str) -> bool:
-    return "populated 1" in _lines(os.path.join(cgroup, "cgroup.events"))
+    return "populated 1" in lines_of(os.path.join(cgroup, "cgroup.events"))
 
 
 def _remove_below(cgroup: str) -> None:
@@ -506,7 +502,8 @@ def _locked(file: str) -> int:
     return lock
 
 
-def _lines(file: str) -> List[str]:
+def lines_of(file: str) -> List[str]:
+    """The lines of a file of the kernel's; none where there is none."""
     return _bytes(file).decode(errors="replace").splitlines()
 
 

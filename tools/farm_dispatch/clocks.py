@@ -1,10 +1,12 @@
 """The clocks that a dispatcher goes by: its farm's, and the machine's, which its time service
 sets."""
+import contextlib
 import os
 import subprocess
 import time
 from typing import Sequence
 
+from farm_dispatch import cages
 from fizgruk import calls
 from fizgruk._tools import disk
 from fizgruk.clocks import NO_END, ahead
@@ -33,13 +35,14 @@ class Clocks:
         """Whether this machine's clock is set, as far as the system can tell. Once it was, it is
         until the machine begins anew, also where its time service loses its servers."""
         if not self.is_set:
-            boot = _boot()
-            if not (boot and boot == _text_of(self.note)):
+            boot = cages.boot_id()
+            if not (boot and [boot] == cages.lines_of(self.note)):
                 said = _said_of_the_clock()
                 if b"NTP=yes" in said and b"NTPSynchronized=no" in said:
                     return False
                 if b"NTPSynchronized=yes" in said:
-                    _keep(self.note, boot)
+                    with contextlib.suppress(OSError):  # it is asked again then
+                        disk.write_whole(self.note, f"{boot}\n")
             self.is_set = True
         return True
 
@@ -67,23 +70,3 @@ def _said_of_the_clock() -> Sequence[bytes]:
     except (OSError, subprocess.SubprocessError):
         return ()
     return said.stdout.split()
-
-
-def _boot() -> str:
-    """What names this run of the machine, or nothing."""
-    return _text_of("/proc/sys/kernel/random/boot_id")
-
-
-def _text_of(file: str) -> str:
-    try:
-        with open(file, encoding="utf-8", errors="replace") as text:
-            return text.read().strip()
-    except OSError:
-        return ""
-
-
-def _keep(file: str, boot: str) -> None:
-    try:
-        disk.write_whole(file, f"{boot}\n")
-    except OSError:
-        pass  # it is asked again then

@@ -56,12 +56,8 @@ def made_for_all(folder: str) -> str:
 
 def make_log(folder: str) -> None:
     """Makes a job's log, which others may read where they can reach it."""
-    file = os.path.join(folder, LOG)
-    opened = os.open(file, os.O_WRONLY | os.O_CREAT | os.O_CLOEXEC, disk.READABLE)
-    try:
-        os.fchmod(opened, disk.READABLE)
-    finally:
-        os.close(opened)
+    with open(os.path.join(folder, LOG), "ab") as log:
+        os.fchmod(log.fileno(), disk.READABLE)
 
 
 def link(file: str, name: str) -> None:
@@ -82,11 +78,8 @@ def note(folder: str, text: str) -> None:
     """Adds a line to a job's log, where there is room for it."""
     flags = os.O_WRONLY | os.O_APPEND | os.O_NOFOLLOW | os.O_NONBLOCK | os.O_CLOEXEC
     with contextlib.suppress(OSError):
-        opened = os.open(os.path.join(folder, LOG), flags)
-        try:
-            os.write(opened, line_of(text))
-        finally:
-            os.close(opened)
+        with open(os.open(os.path.join(folder, LOG), flags), "wb") as log:
+            log.write(line_of(text))
 
 
 @contextlib.contextmanager

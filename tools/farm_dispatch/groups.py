@@ -251,19 +251,10 @@ class Group:
         OSError where it can't be started."""
         options = self.groups.options
         command = options.check if views[0]["kind"] == "check" else options.command
-        order = runner.Order(
-            self.groups.place,
-            options.cage,
-            self.cgroup(),
-            options.grace,
-            options.limit,
-            options.most,
-            options.log_limit,
-            options.folder_limit,
-            self.files.text(folders.MADE) or "",
-            options.memory_limit,
-            options.process_limit,
-        )
+        of_options = {it: getattr(options, it) for it in runner.OF_OPTIONS}
+        made = self.files.text(folders.MADE) or ""
+        place, cgroup = self.groups.place, self.cgroup()
+        order = runner.Order(place, options.cage, cgroup, made=made, **of_options)
         words = [sys.executable, "-m", "farm_dispatch.runner", self.files.state, order.word()]
         try:
             self.groups.runners[self.number] = subprocess.Popen(

@@ -18,11 +18,9 @@ def keep(place: str) -> None:
         about = os.statvfs(place)
         if os.path.exists(file) or about.f_bavail * about.f_frsize < 2 * SIZE:
             return
-        opened = os.open(f"{file}.new", os.O_WRONLY | os.O_CREAT | os.O_CLOEXEC, 0o640)
-        try:
-            os.posix_fallocate(opened, 0, SIZE)
-        finally:
-            os.close(opened)
+        with open(f"{file}.new", "wb") as new:
+            os.fchmod(new.fileno(), 0o640)
+            os.posix_fallocate(new.fileno(), 0, SIZE)
         os.replace(f"{file}.new", file)
 
 

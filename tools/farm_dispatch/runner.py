@@ -48,6 +48,12 @@ class Order:
         return json.dumps(dataclasses.asdict(self))
 
 
+# What of it the dispatcher's options say by the same names.
+OF_OPTIONS = (
+    "grace", "limit", "most", "log_limit", "folder_limit", "memory_limit", "process_limit",
+)
+
+
 def main(words: Sequence[str]) -> int:
     state, order, command = words[0], Order(**json.loads(words[1])), words[2:]
     files = folders.Files(order.place, int(os.path.basename(state)))
@@ -307,16 +313,10 @@ def note_once(folder: str, text: str) -> None:
 
 def wake(place: str) -> None:
     """Tells the dispatcher, where one is there, that a job has ended."""
-    try:
-        line = os.open(os.path.join(place, "wake"), os.O_WRONLY | os.O_NONBLOCK | os.O_CLOEXEC)
-    except OSError:
-        return
-    try:
-        os.write(line, b"e")
-    except OSError:
-        pass
-    finally:
-        os.close(line)
+    flags = os.O_WRONLY | os.O_NONBLOCK | os.O_CLOEXEC
+    with contextlib.suppress(OSError):
+        with open(os.open(os.path.join(place, "wake"), flags), "wb", buffering=0) as line:
+            line.write(b"e")
 
 
 if __name__ == "__main__":

@@ -79,7 +79,7 @@ class Collector:
         age = "Seconds since the oldest claim that waits was first seen here."
         return [
             gauges("fizgruk_claims_waiting", about, ["kind"], waiting),
-            gauge("fizgruk_oldest_claim_age_seconds", age, max(0.0, now - since)),
+            GaugeMetricFamily("fizgruk_oldest_claim_age_seconds", age, max(0.0, now - since)),
         ]
 
     def _keep(self) -> None:
@@ -112,9 +112,10 @@ class Passes:
             self.trouble = str(fault)
             return []
         age = max(0.0, time.time() - found.at)
+        last = "Seconds since the last of them."
         return [
             CounterMetricFamily(name, about, found.count),
-            gauge("fizgruk_last_pass_age_seconds", "Seconds since the last of them.", age),
+            GaugeMetricFamily("fizgruk_last_pass_age_seconds", last, age),
         ]
 
 
@@ -203,7 +204,7 @@ def _state_in(file: Optional[str]) -> Dict[str, Any]:
 
 
 def _up(value: int) -> Metric:
-    return gauge("fizgruk_up", "Whether the desk answers.", value)
+    return GaugeMetricFamily("fizgruk_up", "Whether the desk answers.", value)
 
 
 def boards_of(boards: List[Dict[str, Any]]) -> Metric:
@@ -226,18 +227,14 @@ def _of_status(status: Dict[str, int]) -> List[Metric]:
     age = "Seconds since the last command; below 0 the farm's clock is ahead."
     collects = "Number of the group that collects boards, 0 while none does."
     return [
-        gauge("fizgruk_collecting_group", collects, status["collector"]),
+        GaugeMetricFamily("fizgruk_collecting_group", collects, status["collector"]),
         CounterMetricFamily(
             "fizgruk_commands_total", "Commands that were accepted.", status["count"]
         ),
-        gauge("fizgruk_last_command_age_seconds", age, time.time() - status["clock"]),
+        GaugeMetricFamily("fizgruk_last_command_age_seconds", age, time.time() - status["clock"]),
         gauges("fizgruk_rows", "Rows that the farm has.", ["table"], rows),
         gauges("fizgruk_rows_limit", "Rows that the farm can have.", ["table"], limits),
     ]
-
-
-def gauge(name: str, about: str, value: float) -> Metric:
-    return GaugeMetricFamily(name, about, value)
 
 
 def gauges(

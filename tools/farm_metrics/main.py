@@ -117,16 +117,14 @@ class Metrics(Collector):
         return generate_latest(self.registry).decode()
 
     def _tell(self) -> None:
-        troubles = []
-        if self.collector.trouble:
-            server = self.collector.desk.server
-            troubles.append(f"no answer from the desk at {server}: {self.collector.trouble}")
-        if self.collector.passes.trouble:
-            troubles.append(f"passes aren't counted: {self.collector.passes.trouble}")
-        if self.collector.history.trouble:
-            troubles.append(f"jobs aren't counted: {self.collector.history.trouble}")
-        if self.collector.lost:
-            troubles.append(f"nothing is kept for the next time: {self.collector.lost}")
+        found = self.collector
+        whys = {
+            f"no answer from the desk at {found.desk.server}": found.trouble,
+            "passes aren't counted": found.passes.trouble,
+            "jobs aren't counted": found.history.trouble,
+            "nothing is kept for the next time": found.lost,
+        }
+        troubles = [f"{about}: {why}" for about, why in whys.items() if why]
         for it in troubles:
             if it not in self.told:
                 tell(it)

@@ -188,8 +188,8 @@ def _append(file: str, rows: List[Dict[str, Any]]) -> None:
     text = "".join(f"{json.dumps(it, ensure_ascii=False, separators=(',', ':'))}\n" for it in rows)
     left = text.encode(errors="replace")
     is_new = not os.path.exists(file)
-    opened = os.open(file, os.O_RDWR | os.O_APPEND | os.O_CREAT | os.O_CLOEXEC, disk.READABLE)
-    try:
+    with open(file, "ab+", buffering=0) as lines:
+        opened = lines.fileno()
         os.fchmod(opened, disk.READABLE)
         size = _mended(opened)
         try:
@@ -199,8 +199,6 @@ def _append(file: str, rows: List[Dict[str, Any]]) -> None:
         except OSError:
             os.ftruncate(opened, size)
             raise
-    finally:
-        os.close(opened)
     if is_new:
         disk.sync_folder(os.path.dirname(file))
 

@@ -2,6 +2,7 @@
 next: a job whose number was still to come at one look, and given at the next, was submitted between
 the two."""
 import bisect
+import contextlib
 import os
 import time
 from typing import Iterable, List, NamedTuple, Optional
@@ -63,17 +64,12 @@ class Submissions:
             self._write()
 
     def _append(self, look: Look) -> None:
-        try:
-            with open(self.file, "a", encoding="ascii") as file:
-                file.write(_line_of(look))
-        except OSError:
-            pass  # it is known until the next restart
+        with contextlib.suppress(OSError), open(self.file, "a", encoding="ascii") as file:
+            file.write(_line_of(look))  # (else it is known until the next restart)
 
     def _write(self) -> None:
-        try:
+        with contextlib.suppress(OSError):
             disk.write_whole(self.file, "".join(map(_line_of, self.looks)))
-        except OSError:
-            pass  # as above
 
 
 def moment_in(looks: Looks, number: int) -> Optional[int]:

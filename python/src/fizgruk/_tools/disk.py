@@ -69,17 +69,12 @@ def text_in(file: str, most: int = MOST) -> Optional[str]:
     """A file's text, with a mark for each byte that is none; None where there is no such file.
     Raises Strange where it is no file, or longer."""
     try:
-        opened = os.open(file, os.O_RDONLY | os.O_NOFOLLOW | os.O_NONBLOCK | os.O_CLOEXEC)
+        with open(opened_file(file), "rb") as opened:
+            size = os.fstat(opened.fileno()).st_size
+            if size > most:
+                raise Strange(f"{file} has {size:,} bytes")
+            return opened.read(most).decode(errors="replace")
     except FileNotFoundError:
         return None
     except OSError as fault:
-        raise Strange(f"{file}: {fault.strerror}") from fault
-    try:
-        about = os.fstat(opened)
-        if not stat.S_ISREG(about.st_mode):
-            raise Strange(f"{file} is no file")
-        if about.st_size > most:
-            raise Strange(f"{file} has {about.st_size:,} bytes")
-        return os.read(opened, most).decode(errors="replace")
-    finally:
-        os.close(opened)
+        raise Strange(f"{file}: {fault.strerror}" if fault.strerror else str(fault)) from fault
