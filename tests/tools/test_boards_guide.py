@@ -165,7 +165,7 @@ def test_the_firewall_takes_its_rules() -> None:
 
 def test_units_are_as_systemd_reads_them(tmp_path: Any) -> None:
     wants("systemd-analyze")
-    unit, more = blocks("ini")
+    unit, more, guard = blocks("ini")
     (tmp_path / "virt@.service").write_text(unit.replace("User=board\n", ""))
     (tmp_path / "virt@virt-1.service").symlink_to(tmp_path / "virt@.service")
     ran = subprocess.run(
@@ -175,7 +175,8 @@ def test_units_are_as_systemd_reads_them(tmp_path: Any) -> None:
     read.read_string(more)
     words = read["Service"]["ExecStart"]
     access = "/usr/bin/farm-access run --"
-    assert words == f'/usr/bin/farm-dispatch --check "{access} /etc/farm/check-board" {access} /etc/farm/run-job'
+    assert guard == "[Service]\nAmbientCapabilities=CAP_KILL\n"
+    assert words == f'/usr/bin/farm-dispatch --cage cgroup --check "{access} /etc/farm/check-board" {access} /etc/farm/run-job'
 
 
 # ---- the emulated board
