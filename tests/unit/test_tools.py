@@ -220,7 +220,7 @@ def called(command: Callable[..., int], desk: Desk, **options: Any) -> int:
 def test_a_programs_answers_are_objects(capsys: pytest.CaptureFixture[str], monkeypatch: pytest.MonkeyPatch) -> None:
     assert called(client.cancel_job, Desk()) == 0
     assert called(client.change_reservation, Desk(), action="release") == 0
-    monkeypatch.setattr(client, "wait_for_board", lambda *_: {"name": "b1"})
+    monkeypatch.setattr(holding, "wait_for_board", lambda *_: {"name": "b1"})
     desk: Any = Desk()
     desk.of_patience = lambda _: desk
     reservation: Any = types.SimpleNamespace(desk=desk, tags=[], acquire=lambda _: None)

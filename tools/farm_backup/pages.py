@@ -117,11 +117,8 @@ class Later:
 
 def sum_of(number: int, page: bytes) -> int:
     """What a page adds to the sum of all pages, which so follows each change of one."""
-    return int.from_bytes(hashlib.blake2b(page, digest_size=16, salt=_salt(number)).digest(), "big")
-
-
-def _salt(number: int) -> bytes:
-    return number.to_bytes(8, "big")
+    salt = number.to_bytes(8, "big")
+    return int.from_bytes(hashlib.blake2b(page, digest_size=16, salt=salt).digest(), "big")
 
 
 def sum_of_all(pages: Readable) -> int:

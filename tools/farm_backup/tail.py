@@ -120,7 +120,8 @@ class Tail:
         for part in taken:
             self._check(part)
         if taken:
-            _sync(self.log)
+            with open(self.log, "rb") as log:
+                os.fdatasync(log.fileno())
         return taken
 
     def _asked(self) -> Union[List[Part], Exception]:
@@ -226,12 +227,6 @@ class Tail:
             self.last = data[end - size : end - size + wal.FRAME]
             self.place = wal.Place(self.place.offset + end, found)
             self.parts.append(Commits(self.head, data[:end], self.place))
-
-
-def _sync(log: str) -> None:
-    """Waits until all that was written into a log is on the disk."""
-    with open(log, "rb") as opened:
-        os.fdatasync(opened.fileno())
 
 
 def _head_at(log: BinaryIO) -> Optional[wal.Head]:

@@ -131,7 +131,7 @@ def is_empty(mark: str, cage: Cage) -> bool:
         own = cgroup_of(mark)  # it goes when systemd has ended all of the service
         return not own or first_of(_keeper_in(value)) is None and not os.path.isdir(own)
     if kind == CGROUP:
-        return not _is_populated(os.path.join(value, COMMAND))
+        return "populated 1" not in lines_of(os.path.join(value, COMMAND, "cgroup.events"))
     if kind == "pidns":
         return first_of(value) is None
     return not _found(value, cage) and not _is_locked(cage.lock)
@@ -147,7 +147,7 @@ def kill(mark: str, cage: Cage) -> None:
         own = os.path.join(value, COMMAND)
         if not _write(os.path.join(own, "cgroup.kill"), "1"):
             for folder, _, _ in os.walk(own):  # another account's, with the right to kill its processes
-                for line in _lines(os.path.join(folder, "cgroup.procs")):
+                for line in lines_of(os.path.join(folder, "cgroup.procs")):
                     _kill(int(line))
         return
     if kind == "pidns":
@@ -179,8 +179,8 @@ def remove(mark: str) -> bool:
         return True
     for folder in (os.path.join(value, COMMAND), value):
         with contextlib.suppress(OSError):
-            _remove_below(folder)
-            os.rmdir(folder)
+            for below, _, _ in os.walk(folder, topdown=False):
+                os.rmdir(below)
     return not os.path.isdir(value)
 
 
@@ -468,17 +468,6 @@ def _stat(pid: int) -> Tuple[str, List[str]]:
     text = _bytes(f"/proc/{pid}/stat").decode(errors="replace")
     fields = text.rpartition(")")[2].split()
     return (fields[0], fields) if fields else ("", [])
-
-
-def _is_populated(cgroup: str) -> bool:
-    return "populated 1" in lines_of(os.path.join(cgroup, "cgroup.events"))
-
-
-def _remove_below(cgroup: str) -> None:
-    """Removes the cgroups that a command made below its own."""
-    for folder, _, _ in os.walk(cgroup, topdown=False):
-        if folder != cgroup:
-            os.rmdir(folder)
 
 
 def _is_locked(file: str) -> bool:

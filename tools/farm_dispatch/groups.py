@@ -177,7 +177,8 @@ class Group:
         os.mkdir(new, 0o750)
         tag = self.groups.options.serves
         rows = [{**it, "machine": parts.machine_of(tag, it)} for it in rows]
-        disk.write_synced(os.path.join(new, folders.KEY), f"{self.key_of_new()}\n")
+        key = f"start-{self.groups.identity}-{self.number}\n"
+        disk.write_synced(os.path.join(new, folders.KEY), key)
         disk.write_synced(os.path.join(new, folders.MADE), f"{secrets.token_hex(8)}\n")
         disk.write_synced(os.path.join(new, folders.TEXT), text)
         disk.write_synced(os.path.join(new, folders.BOARD_ROWS), f"{json.dumps(rows)}\n")
@@ -190,9 +191,6 @@ class Group:
         disk.sync_folder(os.path.dirname(self.files.state))
         self.groups.open.add(self.number)
         return told
-
-    def key_of_new(self) -> str:
-        return f"start-{self.groups.identity}-{self.number}"
 
     def _put_aside(self) -> List[str]:
         """Puts what stands there under the group's number beside it."""

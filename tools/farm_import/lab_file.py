@@ -8,13 +8,7 @@ from typing import Callable, Dict, Iterable, List, NamedTuple, Optional, Tuple
 
 from fizgruk._tools import parsers
 from fizgruk.bounds import (
-    MOST_BOARDS,
-    MOST_OF_A_TYPE,
-    MOST_TAGS,
-    MOST_TYPES,
-    NAME,
-    TAG_KEY,
-    TAG_VALUE,
+    MOST_BOARDS, MOST_OF_A_TYPE, MOST_TAGS, MOST_TYPES, NAME, TAG_KEY, TAG_VALUE,
 )
 
 CARRIED, NOT_CARRIED, FAULT = 0, 1, 4

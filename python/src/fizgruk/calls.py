@@ -136,7 +136,8 @@ class Desk:
         sent once."""
         self.tell_where()
         fields = {"x-key": key} if key else {}
-        return self._answer("POST", path, _bytes_of(body), fields, key is not None)
+        sent = json.dumps(body).encode() if isinstance(body, dict) else body
+        return self._answer("POST", path, sent, fields, key is not None)
 
     def nudge(self, path: str) -> Row:
         """Gives a command that does no harm when it is done twice, a pass or a refresh, so it needs
@@ -290,21 +291,11 @@ def _is_final(fault: Exception) -> bool:
 def _read(answer: http.client.HTTPResponse, begin: int) -> Iterator[bytes]:
     """The bytes of an answer from one on, piece by piece."""
     length, place = answer.getheader("content-length"), 0
-    while True:
-        said = answer.read(BLOCK)
-        if not said:
-            break
+    for said in iter(lambda: answer.read(BLOCK), b""):
         yield said[max(0, begin - place) :]
         place += len(said)
     if length is not None and place < int(length):
         raise http.client.HTTPException("the answer was cut")
-
-
-def _bytes_of(body: Body) -> Optional[bytes]:
-    """A body as it is sent: bytes stay, all else becomes JSON."""
-    if body is None or isinstance(body, bytes):
-        return body
-    return json.dumps(body).encode()
 
 
 # ---- what is answered

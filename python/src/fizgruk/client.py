@@ -52,7 +52,9 @@ class Client:
         self._desk = Desk(settings.read_settings(given), patience)
         said = settings.values_of(given, "desk", settings.refuse)
         self._place, self._desk.access = said["history"], said["access"]
-        self._desk.tell_trouble = self._log_trouble
+        self._desk.tell_trouble = lambda trouble: LOG.warning(
+            "waiting for the desk at %s: %s", self.server, trouble
+        )
 
     @property
     def server(self) -> str:
@@ -77,9 +79,6 @@ class Client:
         other = copy.copy(self)
         other._desk = self._desk.of_patience(seconds)
         return other
-
-    def _log_trouble(self, trouble: str) -> None:
-        LOG.warning("waiting for the desk at %s: %s", self.server, trouble)
 
     # ---- views
 

@@ -49,12 +49,7 @@ class Wait:
 
     def answer_of(self, ask: Callable[[], Found]) -> Found:
         """What a call gives, which is asked again where no answer comes."""
-        while True:
-            try:
-                return ask()
-            except Unreachable as fault:
-                self.say(f"no answer from the desk: {fault.trouble}")
-            self.pause()
+        return self.until_there(lambda: (ask(),))[0]
 
     def until_there(self, look: Callable[[], Optional[Found]]) -> Found:
         """What `look` finds, which is asked again and again until it finds something."""

@@ -2,3 +2,4 @@
 from fizgruk._tools.telling import Teller
 
 tell = Teller("desk")
+ENDED, REFUSED, FAULT = 1, 3, 4  # exit statuses

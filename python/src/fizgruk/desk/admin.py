@@ -7,10 +7,9 @@ from fizgruk import calls
 from fizgruk._tools import lab_text
 from fizgruk._tools.parsers import Parser, one_of, whole
 from fizgruk.bounds import LONGEST_EVERY
-from fizgruk.desk import lab_import, tell, views
+from fizgruk.desk import ENDED, REFUSED, lab_import, tell, views
 from fizgruk.errors import Code, Refused
 
-ENDED, REFUSED = 1, 3
 RETIRED = "Retired"
 HEALTHS = ("Good", "Bad", "Unknown", "Maintenance", RETIRED)
 

@@ -29,6 +29,20 @@ def is_given_back(reservation: Reservation) -> bool:
         return False
 
 
+def asked(reservation: Reservation, options: argparse.Namespace) -> int:
+    """Reserves. Gives the reservation's number."""
+    options.clock.look()
+    number = reservation.ask()
+    options.clock.note_own()
+    return number
+
+
+def awaited(reservation: Reservation, number: int, options: argparse.Namespace) -> calls.Row:
+    """The view of a reservation's board, which is waited for."""
+    with waiting.Wait(reservation.desk, options.clock, options.every) as wait:
+        return wait_for_board(wait, number, reservation.tags)
+
+
 def run_with_board(desk: calls.Desk, options: argparse.Namespace) -> int:
     """Reserves, waits, acquires, runs the command, and gives back whatever happens. Returns the
     exit status."""
@@ -71,11 +85,8 @@ def fault_of(command: str) -> Tuple[int, str]:
 def ran_with(reservation: Reservation, options: argparse.Namespace) -> int:
     """The exit status of the command that ran with a reservation's board, or that of a fault."""
     try:
-        options.clock.look()
-        number = reservation.ask()
-        options.clock.note_own()
-        with waiting.Wait(reservation.desk, options.clock, options.every) as wait:
-            board = wait_for_board(wait, number, reservation.tags)
+        number = asked(reservation, options)
+        board = awaited(reservation, number, options)
         reservation.acquire(board["name"])
         check()
         return run(reservation.desk, options.words, board, number)

@@ -1,23 +1,19 @@
 """A lab file's types and boards, added over HTTP as `farm import` adds them."""
 import argparse
-import sys
 from typing import Set, Tuple
 
 from fizgruk import calls, toml_text
 from fizgruk._tools.lab_text import Addition, additions_of, warnings_of
 from fizgruk.bounds import LONGEST_LAB_FILE
-from fizgruk.desk import tell, views
+from fizgruk.desk import REFUSED, tell, views
 from fizgruk.errors import Code, Refused
 from fizgruk.words import BadFile
-
-TYPE_EXISTS, BOARD_EXISTS = 11, 13
-REFUSED = 3
 
 
 def import_lab(desk: calls.Desk, options: argparse.Namespace) -> int:
     """Adds what a lab file lists and no earlier import added, up to the first refusal. Returns the
     exit status."""
-    data = sys.stdin.buffer.read() if options.file == "-" else read_file(options.file)
+    data = views.bytes_of(options.file)
     try:
         if len(data) > LONGEST_LAB_FILE:
             raise BadFile(f"it has more than {LONGEST_LAB_FILE:,} bytes")
@@ -52,11 +48,6 @@ def told(file: str, text: str) -> int:
     return REFUSED
 
 
-def read_file(file: str) -> bytes:
-    with open(file, "rb") as opened:
-        return opened.read()
-
-
 def names_at(desk: calls.Desk) -> Set[Tuple[str, str]]:
     """The types and boards that are there. One of these can't be added again, so an answer of 200
     for it is a kept reply; nothing is ever removed, so one for another name is a new row."""
@@ -70,6 +61,6 @@ def names_at(desk: calls.Desk) -> Set[Tuple[str, str]]:
 def why(refusal: Refused, each: Addition) -> str:
     if refusal.code == Code.NO_SUCH_TYPE:
         return f"{refusal}: {each.body['type']}"
-    if refusal.code in (TYPE_EXISTS, BOARD_EXISTS):
+    if refusal.code in (Code.TYPE_EXISTS, Code.BOARD_EXISTS):
         return f"{refusal}, and no import added it"
     return str(refusal)

@@ -8,31 +8,16 @@ from fizgruk import calls, history, job_file, settings, wants
 from fizgruk._tools import asking, interrupts, parsers, terminal
 from fizgruk._tools.parsers import Parser, one_of
 from fizgruk.desk import (
-    access,
-    admin,
-    artifacts,
-    audit,
-    claims,
-    clocks,
-    completion,
-    holding,
-    labs,
-    past_jobs,
-    tell,
-    texts,
-    tokens,
-    usage,
-    views,
-    waiting,
+    ENDED, FAULT, REFUSED, access, admin, artifacts, audit, claims, clocks, completion,
+    holding, labs, past_jobs, tell, texts, tokens, usage, views, waiting,
 )
 from fizgruk.errors import BadSettings, Code, NoText, Refused, ReservationEnded, Unreachable
 from fizgruk.reservations import Reservation, priority_of
 from fizgruk.usage import BY
-from fizgruk.waiting import row_of, wait_for_board, wait_for_group
+from fizgruk.waiting import row_of, wait_for_group
 
 Command = Callable[..., Parser]  # adds a command by its name and what does it
 
-ENDED, REFUSED, FAULT = 1, 3, 4
 AWAITS_END = """\
 Wait until all members of its group have ended, and print 'NUMBER RESULT BOARD' of each. \
 Interrupted, it says that the job goes on."""
@@ -341,12 +326,7 @@ def show_jobs(desk: calls.Desk, options: argparse.Namespace) -> int:
 
 
 def submit_job(desk: calls.Desk, options: argparse.Namespace) -> int:
-    if options.file == "-":
-        text = sys.stdin.buffer.read()
-    else:
-        with open(options.file, "rb") as file:
-            text = file.read()
-    return submit_text(desk, options, text, options.key)
+    return submit_text(desk, options, views.bytes_of(options.file), options.key)
 
 
 def resubmit_job(desk: calls.Desk, options: argparse.Namespace) -> int:
@@ -429,9 +409,7 @@ def reserve_board(desk: calls.Desk, options: argparse.Namespace) -> int:
         print_number(options, {"number": reservation.ask()})
         return 0
     try:
-        options.clock.look()
-        number = reservation.ask()
-        options.clock.note_own()
+        number = holding.asked(reservation, options)
         print_number(options, {"number": number})
         return await_board(reservation, number, options)
     except interrupts.Interrupted as it:
@@ -443,8 +421,7 @@ def await_board(
     reservation: Reservation, number: int, options: argparse.Namespace
 ) -> int:
     """Waits for a reservation's board, acquires it where that is asked for, and prints it."""
-    with waiting.Wait(reservation.desk, options.clock, options.every) as wait:
-        board = wait_for_board(wait, number, reservation.tags)
+    board = holding.awaited(reservation, number, options)
     if options.acquire:
         reservation.acquire(board["name"])
     if options.json:

@@ -8,11 +8,10 @@ from typing import Any, Dict, Iterable, List, Optional, Set
 from fizgruk import calls, history, job_file, records, wants
 from fizgruk._tools import tables, terminal
 from fizgruk.artifacts import counts_in_words
-from fizgruk.desk import tell, views, waiting
+from fizgruk.desk import REFUSED, tell, views, waiting
 from fizgruk.errors import NoLog, Refused
 from fizgruk.models import Results, view_of
 
-REFUSED = 3
 LAST = 50
 # Of so many bytes from the history's end a user's own jobs are looked for, where the newest lines
 # have too few.

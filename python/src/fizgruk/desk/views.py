@@ -1,14 +1,13 @@
 """The desk's views, as lines of text or as JSON."""
 import argparse
 import json
+import sys
 from typing import Any, Dict, List, Sequence, Tuple
 
 from fizgruk import calls, history, submissions, wants
 from fizgruk._tools import asking, tables
-from fizgruk.desk import tell
+from fizgruk.desk import REFUSED, tell
 from fizgruk.errors import BadSettings, Code, Refused
-
-REFUSED = 3
 
 
 def show(
@@ -25,6 +24,14 @@ def show(
 
 def print_json(said: Dict[str, Any]) -> None:
     print(json.dumps(said, ensure_ascii=False, separators=(",", ":")), flush=True)
+
+
+def bytes_of(file: str) -> bytes:
+    """What is in a file, or comes as the input where that is `-`."""
+    if file == "-":
+        return sys.stdin.buffer.read()
+    with open(file, "rb") as opened:
+        return opened.read()
 
 
 def show_boards(desk: calls.Desk, options: argparse.Namespace) -> int:
