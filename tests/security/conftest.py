@@ -7,28 +7,15 @@ from typing import Any, Callable, Iterator, List
 import pytest
 
 from door_site import RULES, WORDS, Door
-from machine import Machine
-from nginx_site import Site
-from served import STARTED, Farm
+from machine import Machine, booted
+from nginx_site import Site, make_site_fixture  # noqa: F401
+from served import Farm
 
 
 @pytest.fixture(scope="module")
 def machine(program: str, tmp_path_factory: pytest.TempPathFactory) -> Iterator[Machine]:
     """A machine with a systemd of its own and a desk that is set up, for the tests of a file."""
-    booted = Machine(str(tmp_path_factory.mktemp("machine")), program)
-    STARTED.remove(booted.process)  # (it lasts longer than a test)
-    yield booted
-    booted.end()
-
-
-@pytest.fixture
-def make_site(folder: str) -> Callable[..., Site]:
-    """Makes the example's site before a farm, in the test's folder."""
-
-    def make(farm: Farm, *changes: Any) -> Site:
-        return Site(farm, folder, changes)
-
-    return make
+    yield from booted(program, tmp_path_factory)
 
 
 @pytest.fixture

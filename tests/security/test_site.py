@@ -10,41 +10,16 @@ import ssl
 import threading
 import time
 import urllib.parse
-from typing import Callable, Dict, Iterator, List, Tuple
+from typing import Callable, Dict, List, Tuple
 
 import pytest
 
-from browser import Browser, Visit, wants_a_browser
-from nginx_site import WORDS, Site, line_to, raw
+from browser import Visit, browser_fixture, visit_fixture  # noqa: F401
+from nginx_site import WORDS, Site, farm_fixture, line_to, raw, site_fixture  # noqa: F401
 from served import TOOLS, Farm, read, wait_until
 
 JSON = "application/json"
 RESERVE = ("-d", '{"tags":[]}')
-
-
-@pytest.fixture
-def farm(make_farm: Callable[..., Farm]) -> Farm:
-    return make_farm([("b1", "bbb", ["rack=3"])])
-
-
-@pytest.fixture
-def site(farm: Farm, make_site: Callable[..., Site]) -> Site:
-    return make_site(farm)
-
-
-@pytest.fixture(scope="module")
-def browser(tmp_path_factory: pytest.TempPathFactory) -> Iterator[Browser]:
-    wants_a_browser()
-    started = Browser(str(tmp_path_factory.mktemp("browser")))
-    yield started
-    started.end()
-
-
-@pytest.fixture
-def visit(browser: Browser) -> Iterator[Visit]:
-    begun = browser.visit()
-    yield begun
-    begun.end()
 
 
 def reserved(farm: Farm) -> int:

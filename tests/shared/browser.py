@@ -10,7 +10,7 @@ import select
 import shutil
 import subprocess
 import tempfile
-from typing import Any, Iterable, List, Optional, Set
+from typing import Any, Iterable, Iterator, List, Optional, Set
 
 import pytest
 
@@ -241,3 +241,23 @@ def luminance(colour: List[float]) -> float:
     shares = [it / 255 for it in colour[:3]]
     linear = [it / 12.92 if it <= 0.03928 else float(((it + 0.055) / 1.055) ** 2.4) for it in shares]
     return 0.2126 * linear[0] + 0.7152 * linear[1] + 0.0722 * linear[2]
+
+
+# ---- fixtures, which a file of tests or a conftest imports
+
+
+@pytest.fixture(name="browser", scope="session")
+def browser_fixture(tmp_path_factory: pytest.TempPathFactory) -> Iterator[Browser]:
+    """A Chromium for all tests of a process."""
+    wants_a_browser()
+    started = Browser(str(tmp_path_factory.mktemp("browser")))
+    yield started
+    started.end()
+
+
+@pytest.fixture(name="visit")
+def visit_fixture(browser: Browser) -> Iterator[Visit]:
+    """Pages of a browser that keeps no login."""
+    begun = browser.visit()
+    yield begun
+    begun.end()

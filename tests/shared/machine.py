@@ -9,7 +9,9 @@ import pathlib
 import signal
 import subprocess
 import time
-from typing import IO, List, Optional, Sequence
+from typing import IO, Iterator, List, Optional, Sequence
+
+import pytest
 
 from served import STARTED, TOP
 from wants import lacks, wants
@@ -178,3 +180,17 @@ class Machine:
         script = 'mount -t cgroup2 cgroup2 "$1" && find "$1/$2" -depth -type d -exec rmdir {} + || :'
         words: Sequence[str] = ["unshare", "--mount", "--propagation", "private", "sh", "-c", script, "sh"]
         subprocess.run([*words, self.room, self.group], check=False, stderr=subprocess.DEVNULL)
+
+
+def booted(program: str, folders: pytest.TempPathFactory) -> Iterator[Machine]:
+    """A machine, for a fixture of any scope."""
+    machine = Machine(str(folders.mktemp("machine")), program)
+    STARTED.remove(machine.process)  # (it may last longer than a test)
+    yield machine
+    machine.end()
+
+
+@pytest.fixture(name="machine")
+def machine_fixture(program: str, tmp_path_factory: pytest.TempPathFactory) -> Iterator[Machine]:
+    """A machine with a systemd of its own and a desk that is set up, for a test."""
+    yield from booted(program, tmp_path_factory)

@@ -10,7 +10,9 @@ import socket
 import ssl
 import subprocess
 import sys
-from typing import Any, Dict, List, Optional, Sequence, Tuple
+from typing import Any, Callable, Dict, List, Optional, Sequence, Tuple
+
+import pytest
 
 from served import STARTED, TOOLS, TOP, Farm, environment, free_port, wait_until
 from wants import wants
@@ -185,3 +187,29 @@ def write(folder: str, name: str, text: str, mode: int) -> str:
         opened.write(text)
     os.chmod(file, mode)
     return file
+
+
+# ---- fixtures, which a file of tests or a conftest imports
+
+MakeSite = Callable[..., Site]
+
+
+@pytest.fixture(name="make_site")
+def make_site_fixture(folder: str) -> MakeSite:
+    """Makes the example's site before a farm, in the test's folder."""
+
+    def make(farm: Farm, *changes: Any) -> Site:
+        return Site(farm, folder, changes)
+
+    return make
+
+
+@pytest.fixture(name="farm")
+def farm_fixture(make_farm: Callable[..., Farm]) -> Farm:
+    """A farm of one board, for the site."""
+    return make_farm([("b1", "bbb", ["rack=3"])])
+
+
+@pytest.fixture(name="site")
+def site_fixture(farm: Farm, make_site: MakeSite) -> Site:
+    return make_site(farm)

@@ -7,7 +7,9 @@ import http.server
 import os
 import threading
 from types import TracebackType
-from typing import Any, Dict, List, Optional, Tuple, Type, cast
+from typing import Any, Callable, Dict, List, Optional, Tuple, Type, cast
+
+import pytest
 
 import fizgruk
 from served import TOP, Farm
@@ -151,3 +153,21 @@ class Front(http.server.ThreadingHTTPServer):
     def keys(self, path: str) -> List[Optional[str]]:
         """The keys of the commands to a path."""
         return [it[2].get("x-key") for it in self.asked if it[:2] == ("POST", path)]
+
+
+# ---- fixtures, which a file of tests imports
+
+
+@pytest.fixture(name="no_settings", autouse=True)
+def no_settings_fixture(monkeypatch: pytest.MonkeyPatch) -> None:
+    """The tests' own process has no settings, and no home that has some."""
+    for name in [it for it in os.environ if it.startswith("DESK_")]:
+        monkeypatch.delenv(name)
+    for name in ("HOME", "XDG_CONFIG_HOME"):
+        monkeypatch.setenv(name, "/nonexistent")
+
+
+@pytest.fixture(name="farm")
+def farm_fixture(make_farm: Callable[..., Farm]) -> Farm:
+    """A farm of three boards, of which b1 alone has hdmi."""
+    return make_farm(BOARDS)

@@ -2,32 +2,15 @@
 from __future__ import annotations
 
 import time
-from typing import Any, Callable, Iterator, List, Optional, Sequence
+from typing import Callable, Iterator, List, Optional, Sequence
 
 import pytest
 
-from browser import Browser, Visit, wants_a_browser
-from nginx_site import Site
+from browser import Browser, browser_fixture, visit_fixture  # noqa: F401
+from nginx_site import make_site_fixture  # noqa: F401
 from pages import BOARDS, HOUR, Lab, begin_at
 from served import Board, Farm
 from watched import Labs, watched_farms
-
-
-@pytest.fixture(scope="session")
-def browser(tmp_path_factory: pytest.TempPathFactory) -> Iterator[Browser]:
-    """A Chromium for all tests of a process."""
-    wants_a_browser()
-    started = Browser(str(tmp_path_factory.mktemp("browser")))
-    yield started
-    started.end()
-
-
-@pytest.fixture
-def visit(browser: Browser) -> Iterator[Visit]:
-    """Pages of a browser that keeps no login."""
-    begun = browser.visit()
-    yield begun
-    begun.end()
 
 
 @pytest.fixture
@@ -53,16 +36,6 @@ def lab(make_lab: Callable[..., Lab]) -> Lab:
     made = make_lab(at=time.time() + HOUR)
     made.farm.start()
     return made
-
-
-@pytest.fixture
-def make_site(folder: str) -> Callable[..., Site]:
-    """Makes the example's site before a farm, in the test's folder."""
-
-    def make(farm: Farm, *changes: Any) -> Site:
-        return Site(farm, folder, changes)
-
-    return make
 
 
 @pytest.fixture

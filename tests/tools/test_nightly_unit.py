@@ -2,11 +2,10 @@
 from __future__ import annotations
 
 import json
-from typing import Any, Iterator
+from typing import Any
 
 import pytest
-from machine import PORT, Machine
-from served import STARTED
+from machine import PORT, Machine, machine_fixture  # noqa: F401
 
 pytestmark = [pytest.mark.xdist_group("packages"), pytest.mark.slow(60)]
 # Without the site, whose certificate and passwords other tests have: the desk itself, asked by an account that may.
@@ -16,14 +15,6 @@ User=farm-dispatch
 Environment=DESK_SERVER=http://127.0.0.1:{PORT} DESK_PASSWORD_FILE= PATH=/srv/clock:/usr/bin:/bin
 """
 TURNED = "[Timer]\nOnCalendar=\nRandomizedDelaySec=0\nOnActiveSec=1\n"
-
-
-@pytest.fixture
-def machine(program: str, tmp_path_factory: pytest.TempPathFactory) -> Iterator[Machine]:
-    booted = Machine(str(tmp_path_factory.mktemp("machine")), program)
-    STARTED.remove(booted.process)
-    yield booted
-    booted.end()
 
 
 def set_day(machine: Machine, day: str) -> None:

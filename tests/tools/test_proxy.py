@@ -16,23 +16,13 @@ from typing import Any, Callable, Iterator, List, Sequence, Set, Tuple
 import pytest
 
 from browser import Page, Visit
-from nginx_site import WORDS, Site, write
+from nginx_site import WORDS, Site, farm_fixture, site_fixture, write  # noqa: F401
 from served import TOOLS, Farm, Tool, read, wait_until
 
 JSON = "application/json"
 FORBIDDEN = {"code": 403, "text": "Forbidden"}
 SHARED = ("-H", "cache-control: max-age=1")
 RESERVE = ("-d", '{"tags":[]}')
-
-
-@pytest.fixture
-def farm(make_farm: Callable[..., Farm]) -> Farm:
-    return make_farm([("b1", "bbb", ["rack=3"])])
-
-
-@pytest.fixture
-def site(farm: Farm, make_site: Callable[..., Site]) -> Site:
-    return make_site(farm)
 
 
 def reservations(farm: Farm) -> List[Tuple[str, List[str]]]:

@@ -23,7 +23,9 @@ import fizgruk
 from fizgruk import reservations, settings, waiting
 from fizgruk.version import VERSION
 from nginx_site import Site
-from python_front import BOARDS, JOB, PATH, SOURCES, SRC, Front, Passer, client_of, rows, states
+from python_front import (  # noqa: F401
+    BOARDS, JOB, PATH, SOURCES, SRC, Front, Passer, client_of, farm_fixture, no_settings_fixture, rows, states,
+)
 from served import STARTED, TOP, Farm, environment, read, wait_until
 from wants import wants, wants_python_with
 
@@ -41,21 +43,6 @@ print(client.job(1).state == "Running", client.boards()[0].tags[0].upper())
 """
 
 
-@pytest.fixture(autouse=True)
-def no_settings(monkeypatch: pytest.MonkeyPatch) -> None:
-    """The tests' own process has no settings, and no home that has some."""
-    for name in [it for it in os.environ if it.startswith("DESK_")]:
-        monkeypatch.delenv(name)
-    for name in ("HOME", "XDG_CONFIG_HOME"):
-        monkeypatch.setenv(name, "/nonexistent")
-
-
-@pytest.fixture
-def farm(make_farm: MakeFarm) -> Farm:
-    """A farm of three boards, of which b1 alone has hdmi."""
-    return make_farm(BOARDS)
-
-
 @pytest.fixture
 def front(farm: Farm) -> Front:
     """A server that keeps connections, in front of that farm."""
@@ -67,26 +54,29 @@ def front(farm: Farm) -> Front:
 
 @pytest.mark.slow(15)
 def test_pip_installs_it(folder: str) -> None:
-    """pip installs the package from its folder, with its types, and pytest finds its plugin."""
-    python = wants_python_with("pip", "setuptools", "wheel")
+    """pip installs the package from its folder into a fresh environment, without a network, with its
+    types, and pytest finds its plugin."""
+    python = wants_python_with("pip", "setuptools", "venv", "wheel")
     copied, to = os.path.join(folder, "python"), os.path.join(folder, "installed")
     left = shutil.ignore_patterns("__pycache__", "build", "*.egg-info", ".mypy_cache")
     shutil.copytree(SOURCES, copied, ignore=left)
-    words = ["-m", "pip", "install", "-q", "--no-build-isolation", "--no-index", "--no-deps", "--target", to, copied]
-    subprocess.run([python, *words], check=True, env={**os.environ, "PIP_DISABLE_PIP_VERSION_CHECK": "1"})
-    told = "import fizgruk; print(fizgruk.__version__)"
-    told += "; import importlib.metadata as it; print(it.version('fizgruk'))"
-    around = environment(PYTHONPATH=to)
-    ran = subprocess.run([python, "-c", told], capture_output=True, text=True, check=True, env=around)
-    assert ran.stdout == f"{VERSION}\n{VERSION}\n"
-    ran = subprocess.run([python, f"{to}/bin/desk", "--version"], capture_output=True, text=True, check=True, env=around)
-    assert ran.stdout == f"desk {VERSION}\n", "the command comes with it"
-    files = {it for it in os.listdir(f"{to}/fizgruk") if it != "__pycache__"}
+    around = environment(PIP_DISABLE_PIP_VERSION_CHECK="1")
+
+    def said(*words: str) -> str:
+        return subprocess.run(words, capture_output=True, text=True, check=True, env=around, cwd=folder).stdout
+
+    said(python, "-m", "venv", "--system-site-packages", "--without-pip", to)  # (pip, its tools and pytest are Debian's)
+    own = f"{to}/bin/python"
+    said(own, "-m", "pip", "install", "-q", "--no-build-isolation", "--no-index", copied)
+    told = "import fizgruk; print(fizgruk.__version__, fizgruk.__path__[0])"
+    version, place = said(own, "-c", told).split()
+    assert version == VERSION and place.startswith(to)
+    assert said(own, "-c", "import importlib.metadata as it; print(it.version('fizgruk'))") == f"{VERSION}\n"
+    assert said(f"{to}/bin/desk", "--version") == f"desk {VERSION}\n", "the command comes with it"
+    files = {it for it in os.listdir(place) if it != "__pycache__"}
     assert files == {it for it in os.listdir(f"{SRC}/fizgruk") if it != "__pycache__"}
     assert "py.typed" in files
-    words = [sys.executable, "-m", "pytest", "--help"]
-    ran = subprocess.run(words, capture_output=True, text=True, check=True, env=around, cwd=folder)
-    assert "\n  --farm=TAGS" in ran.stdout
+    assert "\n  --farm=TAGS" in said(own, "-m", "pytest", "--help")
 
 
 @pytest.mark.slow(20)

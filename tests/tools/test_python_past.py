@@ -16,26 +16,13 @@ import pytest
 import fizgruk
 from dispatch_lab import Lab, MakeLab, lab_fixture, make_lab_fixture  # noqa: F401
 from fizgruk.aio import AsyncClient
-from python_front import BOARDS, JOB, PATH, Passer, client_of, rows, states
+from python_front import (  # noqa: F401
+    BOARDS, JOB, PATH, Passer, client_of, farm_fixture, no_settings_fixture, rows, states,
+)
 from served import STARTED, Farm, environment, wait_until
 
 MakeFarm = Callable[..., Farm]
 RUN = "job_name = 'boot'\ndevice_type = 'bbb'\nrun = '{}'\n"
-
-
-@pytest.fixture(autouse=True)
-def no_settings(monkeypatch: pytest.MonkeyPatch) -> None:
-    """The tests' own process has no settings, and no home that has some."""
-    for name in [it for it in os.environ if it.startswith("DESK_")]:
-        monkeypatch.delenv(name)
-    for name in ("HOME", "XDG_CONFIG_HOME"):
-        monkeypatch.setenv(name, "/nonexistent")
-
-
-@pytest.fixture
-def farm(make_farm: MakeFarm) -> Farm:
-    """A farm of three boards, of which b1 alone has hdmi."""
-    return make_farm(BOARDS)
 
 
 def with_past(lab: Lab, **more: Any) -> fizgruk.Client:

@@ -2,22 +2,11 @@
 before the desk's unit begins."""
 from __future__ import annotations
 
-from typing import Iterator
-
 import pytest
-from machine import Machine
-from served import STARTED
+from machine import Machine, machine_fixture  # noqa: F401
 
 pytestmark = [pytest.mark.xdist_group("packages"), pytest.mark.slow(30)]
 TO, HOME = "/mnt/farm-standby", "/var/lib/farm"
-
-
-@pytest.fixture
-def machine(program: str, tmp_path_factory: pytest.TempPathFactory) -> Iterator[Machine]:
-    booted = Machine(str(tmp_path_factory.mktemp("machine")), program)
-    STARTED.remove(booted.process)
-    yield booted
-    booted.end()
 
 
 def test_the_nightly_copy_is_made(machine: Machine) -> None:
