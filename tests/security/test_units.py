@@ -1,6 +1,7 @@
 """The units: how much systemd-analyze(1) finds open in each, and that each does its work so, under a systemd."""
 from __future__ import annotations
 
+import concurrent.futures
 import glob
 import os
 import re
@@ -13,14 +14,11 @@ from machine_lab import MachineLab
 from served import TOP
 from wants import wants
 
-# (What the account board runs are a lab's own ways, also by sudo, which filters of system calls shut out.)
-OF_BOARDS = ("farm-access-guard.service", "farm-access-sshd.service")
-UNITS = sorted(
-    it for it in glob.glob(os.path.join(TOP, "examples", "*.service")) if os.path.basename(it) not in OF_BOARDS
-)
+UNITS = sorted(glob.glob(os.path.join(TOP, "examples", "*.service")))
 MOST = 2.0
-# A job does what its lab lets it: devices, networks, and programs of all kinds.
-MOST_OF_A_JOB = 5.0
+# A job does what its lab lets it: devices, networks, and programs of all kinds. A session at a board has devices and
+# networks too, and its sshd sets the account that it has already.
+OPENER = {"farm-job@.service": 5.0, "farm-access-sshd.service": 2.4, "farm-access-guard.service": 2.2}
 WATCH = """[desk]
 server = "http://127.0.0.1:880"
 user = "admin"
@@ -48,7 +46,7 @@ def test_a_unit_is_open_by_no_more_than(unit: str) -> None:
     said = subprocess.run(words, capture_output=True, text=True, check=False).stdout
     found = re.search(r"Overall exposure level for \S+: ([0-9.]+)", said)
     assert found, said
-    assert float(found.group(1)) <= (MOST_OF_A_JOB if "@" in unit else MOST), said
+    assert float(found.group(1)) <= OPENER.get(os.path.basename(unit), MOST), said
 
 
 @pytest.fixture(scope="module")
@@ -129,3 +127,84 @@ def test_the_watcher_tells_by_a_webhook(lab: MachineLab) -> None:
     assert lab.machine.status("farm-watch") == "active"
     lab.tell("admin", "/boards/b3/health", {"health": "Good"})
     lab.machine.run("systemctl", "stop", "farm-watch", "hook")
+
+
+# As the package fizgruk-access does it; the desk's port lets `board` in.
+WAYS = """set -e
+getent passwd board > /dev/null || \\
+    adduser --system --group --quiet --no-create-home --home /var/lib/farm-access --shell /bin/sh board
+install -d -o board -g board -m 0711 /var/lib/farm-access
+install -d -o board -g board -m 0750 /var/lib/farm-access/consoles
+install -d -o board -g board -m 0755 /var/lib/farm-access/shown
+install -d -m 0755 /etc/farm/keys
+key=/var/lib/farm-access/ssh_host_ed25519_key
+[ -e $key ] || runuser -u board -- ssh-keygen -q -t ed25519 -N '' -C '' -f $key
+sed 's,/usr/bin/farm-access,/usr/local/bin/farm-access,' /tmp/source/examples/farm-access-sshd.conf \\
+    > /etc/farm/farm-access-sshd.conf
+install -D -m 644 /tmp/source/examples/farm-port-access.nft /etc/farm/port.d/access.nft
+systemctl reload farm-port
+for name in ann bob; do
+    ssh-keygen -q -t ed25519 -N '' -C '' -f /root/$name
+    install -m 644 /root/$name.pub /etc/farm/keys/$name
+done
+systemctl start farm-access-sshd farm-access-guard
+"""
+# A console that says what it hears, a line that says what it may do, and power that is noted.
+ACCESS = """[[ways]]
+boards = "*"
+console = { unix = "/run/echo" }
+power = { on = ["/bin/sh", "-c", "echo {board} >> /var/lib/farm-access/on"] }
+say = ["/bin/echo"]
+sleep = ["/bin/sh", "-c", "sleep 600 & sleep 600"]
+may = ["/bin/sh", "-c", "grep -E 'NoNewPrivs|CapBnd|Seccomp:' /proc/self/status; unshare -U true || echo no namespace; touch /etc/x"]
+"""
+ECHO = """import os, socket, threading
+def answer(line):
+    while (said := line.recv(4096)):
+        line.sendall(said)
+server = socket.socket(socket.AF_UNIX)
+server.bind("/run/echo")
+os.chmod("/run/echo", 0o666)
+server.listen()
+while True:
+    threading.Thread(target=answer, args=(server.accept()[0],), daemon=True).start()
+"""
+
+
+@pytest.mark.xdist_group("machine")
+@pytest.mark.slow(25)
+def test_sessions_at_boards_work(lab: MachineLab) -> None:
+    """By ssh, with a console, power and a lab's own ways, until the hold ends; and no more than that."""
+    wants("ssh", "sshd", "ssh-keygen")
+    machine = lab.machine
+    machine.write("/etc/farm/access.toml", ACCESS)
+    machine.write("/tmp/echo.py", ECHO)
+    machine.run("sh", "-c", WAYS)
+    machine.run("systemd-run", "--unit=echo", "python3", "/tmp/echo.py")
+    number = lab.tell("ann", "/reservations", {"tags": ["name=b2"]})["number"]
+    machine.wait("b2", "sh", "-c", f"curl -sS http://127.0.0.1:880/boards | grep -o '\"holder\":\"reservation {number}\"'")
+    lab.tell("ann", f"/reservations/{number}/acquire")
+
+    def goes(person: str, *words: str, said: str = "") -> "subprocess.CompletedProcess[str]":
+        ssh = ["ssh", "-F", "none", "-p", "2222", "-i", f"/root/{person}", "-o", "BatchMode=yes", "-o", "LogLevel=ERROR"]
+        line = " ".join([*ssh, "-o", "StrictHostKeyChecking=no", "board@127.0.0.1", *words])
+        return machine.run("sh", "-c", f"printf '{said}' | timeout 100 {line}", check=False)
+
+    machine.wait("sshd", "sh", "-c", "ss -ltn | grep :2222")
+    hello = goes("ann", "b2", "say", "hello")
+    assert (hello.returncode, hello.stdout) == (0, "hello\n"), (hello, machine.journal("farm-access-sshd"))
+    assert goes("bob", "b2", "say", "hello").returncode == 5, "not the holder"
+    assert goes("ann", "b2", "power", "on").returncode == 0
+    assert machine.run("cat", "/var/lib/farm-access/on").stdout == "b2\n"
+    assert "heard" in goes("ann", "b2", "console", said="heard\\n").stdout
+    may = goes("ann", "b2", "may")
+    assert "CapBnd:\t0000000000000000\n" in may.stdout and "NoNewPrivs:\t1\n" in may.stdout and "Seccomp:\t2\n" in may.stdout
+    assert "no namespace\n" in may.stdout and "Read-only file system" in may.stderr
+    with concurrent.futures.ThreadPoolExecutor() as pool:
+        session = pool.submit(goes, "ann", "b2", "sleep")
+        machine.wait("both of its processes", "sh", "-c", "[ $(pgrep -fxc 'sleep 600') = 2 ] && echo yes")
+        lab.tell("ann", f"/reservations/{number}/cancel")
+        assert session.result().returncode == 6, "the hold ended"
+    assert machine.run("pgrep", "-fx", "sleep 600", check=False).stdout == ""
+    assert machine.status("farm-access-guard") == "active"
+    machine.run("systemctl", "stop", "farm-access-sshd", "farm-access-guard", "echo")
