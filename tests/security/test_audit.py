@@ -87,6 +87,18 @@ def test_who_doesnt_wait_for_an_answer_has_a_line(farm: Farm, site: Site) -> Non
     assert wait_until("its line", lambda: lines_of(site))[0]["body"] == RESERVE
 
 
+def test_a_command_that_got_no_answer_has_a_line(farm: Farm, site: Site) -> None:
+    """Nobody knows whether it was done."""
+    os.kill(farm.process.pid, signal.SIGSTOP)
+    line, fields = site.connection()
+    line.request("POST", "/reservations", body=RESERVE, headers={**fields, "x-key": "k1"})
+    time.sleep(1)
+    farm.kill()
+    answer = line.getresponse()
+    assert (answer.status, json.loads(answer.read())) == (502, {"code": 502, "text": "Bad Gateway"})
+    assert [(it["command"], it["body"], it["key"], it["status"]) for it in lines_of(site)] == [("POST /reservations", RESERVE, "k1", 502)]
+
+
 def test_a_command_is_in_the_log_of_requests_too(site: Site) -> None:
     told(site, "-d", RESERVE, "/reservations")
     assert "POST /reservations" in site.asked_of_desk()

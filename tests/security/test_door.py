@@ -84,6 +84,8 @@ def test_a_token_stands_for_its_owner_until_it_is_ended(door: Door) -> None:
     assert door.by_token(token, *RESERVE, "/reservations")[0] == 200 and door.owners() == ["ann"]
     assert '"login":"ann (token 1 nightly)"' in read(f"{door.folder}/audit.log")
     assert door.by_token(token, "/queue")[0] == 200
+    admins = door.told("-d", '{"name":"ci"}', "/tokens", user="ann.admin")[1]["token"]
+    assert door.by_token(admins, "-d", '{"health":"Bad"}', "/boards/b1/health")[0] == 403, "an admin's token is no admin's"
     assert door.site.got("/whoami", "-H", f"authorization: Bearer {token}", user="")[2] == b"ann"
     assert [it["name"] for it in door.told("/tokens")[1]["tokens"]] == ["nightly"]
     assert token not in str(door.told("/tokens")) and door.told("/tokens", user="bob")[1] == {"tokens": []}
@@ -178,7 +180,7 @@ def test_where_the_desk_gives_it_no_answer_what_has_a_limit_isnt_let_through(
     asked = doors.Door(rules.rules_in("/nowhere/door.toml"), kept.Kept(":memory:"), known, commands.Desk(door.farm.server))
 
     def gives(user: str, path: str, body: bytes) -> int:
-        return asked.command(commands.Command(user, user, "POST", path, (), body)).status
+        return asked.command(commands.Command(user, "POST", path, (), body)).status
 
     job = b"job_name = 'x'\ndevice_type = 'bbb'"
     with pytest.raises(commands.Refused, match="your limits can't be told") as refused:

@@ -268,8 +268,8 @@ def raw(door: Door, head: str, body: bytes = b"", is_closed: bool = True) -> byt
             said += more
 
 
-HEAD = "POST /reservations HTTP/1.0\nx-what: command\nx-user: ann\nx-login: ann\n"
-NEXT = b'POST /reservations HTTP/1.0\r\nx-what: command\r\nx-user: admin\r\nx-login: admin\r\ncontent-length: 11\r\n\r\n{"tags":[]}'
+HEAD = "POST /reservations HTTP/1.0\nx-what: command\nx-login: ann\n"
+NEXT = b'POST /reservations HTTP/1.0\r\nx-what: command\r\nx-login: admin\r\ncontent-length: 11\r\n\r\n{"tags":[]}'
 
 
 FRAMINGS = [
@@ -277,7 +277,7 @@ FRAMINGS = [
     ("content-length: 0x0b\n", 400), ("content-length: 11, 11\n", 400), ("content-length: -1\n", 400), ("content-length: 1 1\n", 400),
     ("content-length: \u00b9\u00b9\n", 400), ("transfer-encoding: chunked\n", 501),
     ("transfer-encoding: chunked\ncontent-length: 11\n", 501),
-    ("transfer-encoding: x\n", 501), ("content-length: 65537\n", 413), ("content-length: 11\nx-user: admin\n", 400),
+    ("transfer-encoding: x\n", 501), ("content-length: 65537\n", 413),
     ("content-length: 11\nx-login: admin\n", 400), ("content-length: 11\nx-what: who\n", 400), ("content-length: 99\n", 0),
 ]
 
@@ -297,7 +297,9 @@ def test_what_stands_behind_a_body_is_no_request(door: Door) -> None:
 
 NEVER_ASKED = [
     ("GET / HTTP/1.0\n", 400), ("POST /reservations HTTP/1.0\nx-what: command\n", 401), ("FOO / HTTP/1.0\n", 501), ("x\n", 400),
-    ("POST /reservations HTTP/1.0\nx-what: command\nx-login: a;b\n", 401), ("POST reservations HTTP/1.0\nx-what: command\n", 404),
+    ("POST /reservations HTTP/1.0\nx-what: command\nx-login: a;b\n", 401),
+    ("POST /reservations HTTP/1.0\nx-what: command\nx-login: ann (token 1 x) y\n", 401),
+    ("POST reservations HTTP/1.0\nx-what: command\n", 404),
     ("POST /\u00e9 HTTP/1.0\nx-what: command\nx-login: ann\n", 404),
     ("POST / HTTP/1.0\nx-what: command\nx-login: ann\nx-key: \x01\x7f\n", 50),
 ]

@@ -108,7 +108,7 @@ def test_the_door_answers_nginx_alone(lab: MachineLab) -> None:
     assert lab.machine.run(*named, user="www-data").stdout == "200"
     assert lab.machine.run(*who, user="www-data").stdout == "401"
     assert lab.machine.run(*named, user="ann", check=False).returncode == 7
-    command = [*ask, "-H", "x-what: command", "-H", "x-user: ann", "-H", "x-login: ann", "-d", '{"tags":[]}', "http://door/reservations"]
+    command = [*ask, "-H", "x-what: command", "-H", "x-login: ann", "-d", '{"tags":[]}', "http://door/reservations"]
     before = len(lab.look("/reservations")["reservations"])
     lab.machine.wait("it sees the desk", "sh", "-c", f"[ \"$({' '.join(map(repr, command))})\" = 200 ] && echo yes")
     assert len(lab.look("/reservations")["reservations"]) == before + 1

@@ -42,8 +42,8 @@ class Handler(http.server.BaseHTTPRequestHandler):
     def _answer(self) -> None:
         what = self._field("x-what")
         if what == "who":
-            user, login = self.server.door.who(self._field("x-login"), self._field("x-bearer"))
-            self._send(200, b"", [("x-farm-user", user), ("x-farm-login", login)])
+            user, token = self.server.door.who(self._field("x-login"), self._field("x-bearer"))
+            self._send(200, b"", [("x-farm-user", user), ("x-farm-token", token)])
         elif what == "command":
             answer = self.server.door.command(self._command())
             self._send(answer.status, answer.body, [*answer.fields, ("x-farm-number", answer.number)])
@@ -57,8 +57,7 @@ class Handler(http.server.BaseHTTPRequestHandler):
 
     def _command(self) -> Command:
         keys: List[str] = self.headers.get_all("x-key") or []
-        user, login = self._field("x-user"), self._field("x-login")
-        return Command(user, login, self.command, self._path(), keys, self._body())
+        return Command(self._field("x-login"), self.command, self._path(), keys, self._body())
 
     def _field(self, name: str) -> str:
         found = self.headers.get_all(name) or [""]

@@ -1,20 +1,21 @@
 """A command on its way through the door: to the desk, and its answer as it came."""
 import http.client
 import json
+import re
 from typing import NamedTuple, Sequence, Tuple
 
 from fizgruk import settings
-from fizgruk.words import BadFile
+from fizgruk.words import NAMES, BadFile
 
+LOGIN = re.compile(rf"({NAMES.pattern})(?: \(token [0-9]{{1,9}} {NAMES.pattern}\))?")
 PATIENCE = 30.0  # seconds for each step of the desk's
 LONGEST_ANSWER = 65536
 
 
 class Command(NamedTuple):
-    """What nginx hands on, of whose asking it is sure."""
+    """What nginx hands on, of whose asking it is sure: by a login, or by a token, as farm-door told it before."""
 
-    user: str  # in the desk's words
-    login: str  # in the audit's words, the owner first
+    login: str
     method: str
     path: str
     keys: Sequence[str]  # one at most, or the desk refuses it
@@ -22,7 +23,13 @@ class Command(NamedTuple):
 
     @property
     def owner(self) -> str:
-        return self.login.partition(" ")[0]
+        """Whose command it is; nobody's where that can't be read."""
+        found = LOGIN.fullmatch(self.login)
+        return found.group(1) if found else ""
+
+    @property
+    def is_by_token(self) -> bool:
+        return self.owner != self.login
 
     @property
     def key(self) -> str:
@@ -72,8 +79,8 @@ class Desk:
             raise BadFile(f"{server} is no http:// address, as the desk's port is one")
         self.host, self.port = address.hostname or "", address.port or 80
 
-    def answer(self, command: Command) -> Answer:
-        """Hands a command on, once. Raises Refused where no answer comes: nobody knows then whether it was done."""
+    def answer(self, command: Command, user: str) -> Answer:
+        """Hands a command on, once, as this user's. Raises Refused where no answer comes: nobody knows then whether it was done."""
         line = http.client.HTTPConnection(self.host, self.port, timeout=PATIENCE)
         try:
             line.connect()
@@ -81,7 +88,7 @@ class Desk:
             raise NotReached(502) from fault
         try:
             line.putrequest(command.method, command.path, skip_accept_encoding=True)
-            line.putheader("x-user", command.user)
+            line.putheader("x-user", user)
             for key in command.keys:
                 line.putheader("x-key", key)
             line.putheader("content-length", str(len(command.body)))

@@ -29,12 +29,16 @@ class Door:
     # ---- who asks
 
     def who(self, login: str, bearer: str) -> Tuple[str, str]:
-        """As whom the desk is asked, and by which login or token; raises Refused. `login` is whose password nginx has
-        checked, nothing where a token came in its place."""
-        user, by = (login, login) if login else self._of_token(bearer)
-        if not NAMES.fullmatch(user):
+        """As whom the desk is asked, and by which token, where it is one; raises Refused. `login` is whose password
+        nginx has checked, nothing where a token came in its place."""
+        if not login:
+            return self._of_token(bearer)
+        if not NAMES.fullmatch(login):
             raise Refused(401)
-        return ("admin" if user in self.rules.admins and login else user), by
+        return self._user_of(login), ""
+
+    def _user_of(self, login: str) -> str:
+        return "admin" if login in self.rules.admins else login
 
     def _of_token(self, bearer: str) -> Tuple[str, str]:
         found = BEARER.fullmatch(bearer)
@@ -49,10 +53,10 @@ class Door:
         """Hands a command on where no limit is met. A user's go one after another, so that a repetition finds what is
         known of the first."""
         kind = LIMITED.get(command.path)
-        if not NAMES.fullmatch(command.owner):
+        if not command.owner:
             raise Refused(401)
         if kind is None or command.method != "POST" or self.rules.is_unlimited(command.owner):
-            return self.desk.answer(command)
+            return self._handed_on(command)
         wish, groups = wishes.READERS[kind](command.body), self.rules.groups_of(command.owner)
         for it in groups:
             _compare_priority(it, wish)
@@ -61,12 +65,16 @@ class Door:
             raise Refused(503)
         try:
             if self.kept.has_passed(command.owner, kind, command.key):
-                return self.desk.answer(command)
+                return self._handed_on(command)
             for it in groups:
                 self._compare_hour(it, kind)
             return self._counted(command, Passed(kind, command.owner, wish.boards), groups)
         finally:
             turn.release()
+
+    def _handed_on(self, command: Command) -> Answer:
+        """An admin's token is no admin's."""
+        return self.desk.answer(command, command.owner if command.is_by_token else self._user_of(command.owner))
 
     def _counted(self, command: Command, asked: Passed, groups: List[Group]) -> Answer:
         """Hands a command on that counts from now on, but where it surely isn't done."""
@@ -79,7 +87,7 @@ class Door:
         try:
             note = self.kept.let(asked.owner, asked.kind, command.key)
             is_done = True
-            answer = self.desk.answer(command)
+            answer = self._handed_on(command)
             is_done = not answer.is_refusal
             return answer
         except NotReached:
