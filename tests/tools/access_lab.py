@@ -117,6 +117,7 @@ class Lab:
         self.port, self.pdu, self.echo = free_port(), free_port(), free_port()
         self.is_root = os.geteuid() == 0
         self.console = f"127.0.0.1:{free_port()}" if tcp else self.path("b1.socket")
+        self.conserver = ""  # its port, where a test has one
         self.board_words = [SLOW] if slow else []
         self.make_files(before, rate, after, ways)
 

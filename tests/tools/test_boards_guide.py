@@ -40,6 +40,8 @@ RUN_HERE = {
     "desk console --reserve virtual": "test_an_emulated_board_from_reserve_to_its_prompt",
     "nft add table inet boards": "test_the_firewall_takes_its_rules",
     "nft 'add chain inet boards out { type filter hook output priority 0; }'": "test_the_firewall_takes_its_rules",
+    "nft 'add rule inet boards out oif lo tcp dport { 782, 7820-7835 } meta skuid != { 0, board } drop'":
+        "test_the_firewall_takes_its_rules",
     "nft 'add rule inet boards out oif lo tcp dport 16421 meta skuid != { 0, board } drop'": "test_the_firewall_takes_its_rules",
 }
 INIT = """\
@@ -194,10 +196,13 @@ def lab(program: str, tmp_path_factory: pytest.TempPathFactory) -> Iterator[Lab]
         made.tell("admin", "/boards/virt-1/health", {"health": "Good"})
         return made
 
-    text = blocks("toml")[0].replace("/run/qemu", "PLACE").replace("/run/ser2net/{board}", "PLACE/{board}.socket")
+    port = str(free_port())
+    text = blocks("toml")[0].replace('"old-*"', '"b1"').replace('"782"', f'"{port}"')
+    text = text.replace("/run/qemu", "PLACE").replace("/run/ser2net/{board}", "PLACE/{board}.socket")
     text = text.replace("/usr/local/bin/qemu-power", os.path.join(TOP, "examples/qemu-power"))
     ways = text.replace("{", "{{").replace("}", "}}").replace("PLACE", "{place}")
     made = access_lab.make(farm, ways=ways)
+    made.conserver = port
     make_board(made, str(tmp_path_factory.mktemp("virt")))
     key = made.path("people", "ann")
     made.write("ssh.conf", f"IdentityFile {key}\nIdentitiesOnly yes\nStrictHostKeyChecking no\nLogLevel ERROR\n"
@@ -251,6 +256,32 @@ def test_check_says_of_each_board_which_way_answers(lab: Lab) -> None:
     assert "virt-1 tcp: it has no tag address=.." in said
     assert "b1 console: answers" in said
     assert any(it.startswith("b2 console: ") and "No such file" in it for it in said)
+
+
+def test_conserver_s_client_is_a_way_and_its_escapes_are_no_shell(lab: Lab) -> None:
+    """The client ends with the hold, and runs nothing for who is at it."""
+    wants("conserver", "console")
+    text = blocks("conserver")[0].replace("old-1", "b1").replace("/dev/boards/b1", lab.path("b1.tty"))
+    lab.write("conserver.cf", text.replace("/var/log/conserver", lab.path("home")).replace("7820", str(free_port())))
+    lab.write("conserver.passwd", "")
+    files = ["-C", lab.path("conserver.cf"), "-P", lab.path("conserver.passwd"), "-U", lab.path("home", "pid")]
+    lab.start("conserver", "conserver", *files, "-p", lab.conserver, "-M", "127.0.0.1")
+    wait_until("conserver", lambda: access_lab.answers(f"127.0.0.1:{lab.conserver}"))
+    held = lab.reserve("ann", "b1")
+    line = lab.begin("ann", "b1", "conserver")
+    assert line.stdin and line.stdout
+    made = lab.path("home", "made")
+    line.stdin.write(b"typed" + f"\x05c|touch {made}\n".encode())
+    line.stdin.flush()
+    until(lambda: b"typed" in lab.text("b1"))
+    assert b"typed" in lab.text("b1"), lab.said("conserver")
+    time.sleep(2)
+    lab.cancel("ann", held)
+    assert line.wait(60) == 6
+    said = line.stdout.read()
+    assert b"typed" in said and not os.path.exists(made), said
+    until(lambda: not lab.pids_of(lab.conserver, "/usr/bin/console"))
+    assert not lab.sessions()
 
 
 def test_an_emulated_board_from_reserve_to_its_prompt(lab: Lab, capsys: pytest.CaptureFixture[str]) -> None:
