@@ -257,9 +257,17 @@ MOMENT           WHAT              OWNER TOOK    ABOUT
 
 
 def used(folder: str) -> str:
-    """Ten jobs of ann wait 10, 20 .. 100 s; the median by the nearest rank is 50, the ninth of ten 90."""
+    """Ten jobs of ann wait 10, 20 .. 100 s; the median by the nearest rank is 50, the ninth of ten 90. zoe held b2 for
+    two hours, as farm-watch says beside the dispatcher's folder."""
+    shown = os.path.join(folder, "farm-watch", "shown")
+    os.makedirs(shown)
+    hold = {
+        "kind": "hold", "key": "x", "reservation": 9, "owner": "zoe", "board": "b2", "type": "bbb",
+        "began": NOW - 4 * HOUR, "ended": NOW - 2 * HOUR, "reason": "",
+    }
+    write(shown, "holds.jsonl", f"{json.dumps(hold)}\n" + json.dumps({**hold, "kind": "other"}) + '\n{"kind":"ho')
     return past_of(
-        folder,
+        os.path.join(folder, "farm-dispatch"),
         job_line(1, held=50 * HOUR, ago=31 * DAY),
         job_line(2, "zoe", boards=["b2"], held=3 * HOUR, outcome="Incomplete", ago=2 * DAY),
         job_line(3, "zoe", boards=["c1"], kind="ccc", held=DAY, outcome="Infra", ago=29 * DAY + DAY // 2),
@@ -276,19 +284,19 @@ def test_usage_by_owner(farm: Farm, folder: str) -> None:
     # (the third began before the 30 days, of which it has half a day, less what has gone by meanwhile)
     assert 14.0 < rows["zoe"].pop("hours") <= 15.0
     assert rows == {
-        "zoe": {"jobs": 2, "complete": 0, "incomplete": 1, "infra": 1, "canceled": 0, "waited_median": None,
-                "waited_ninth": None},
-        "ann": {"jobs": 11, "complete": 10, "incomplete": 0, "infra": 0, "canceled": 1, "hours": 3.0,
-                "waited_median": 50, "waited_ninth": 90},
+        "zoe": {"jobs": 2, "complete": 0, "incomplete": 1, "infra": 1, "canceled": 0, "holds": 1, "held": 2.0,
+                "waited_median": None, "waited_ninth": None},
+        "ann": {"jobs": 11, "complete": 10, "incomplete": 0, "infra": 0, "canceled": 1, "hours": 3.0, "holds": 0,
+                "held": 0.0, "waited_median": 50, "waited_ninth": 90},
     }
 
 
 def test_usage_by_board_and_by_type(farm: Farm, folder: str) -> None:
     past = used(folder)
     prints(farm, """\
-BOARD JOBS COMPLETE INCOMPLETE INFRA CANCELED HOURS WAITED  NINTH
-b2       2        0          1     0        1 4.0   -       -
-b1      11       10          0     0        1 2.0   0:00:50 0:01:30
+BOARD JOBS COMPLETE INCOMPLETE INFRA CANCELED HOURS HOLDS HELD WAITED  NINTH
+b2       2        0          1     0        1 4.0       1 2.0  -       -
+b1      11       10          0     0        1 2.0       0 0.0  0:00:50 0:01:30
 """, "--history", past, "usage", "--by", "board", "--since", "3d")
     types = cells(desk(farm, "--history", past, "usage", "--by", "type", "--since", "2020-01-01")[1])
     assert [[it[0], it[1], it[6]] for it in types[1:]] == [["bbb", "13", "56.0"], ["ccc", "1", "24.0"]]
@@ -302,7 +310,7 @@ def test_bad_words_of_usage(words: Sequence[str]) -> None:
 
 def test_usage_of_a_file_that_was_put_aside(farm: Farm, folder: str) -> None:
     past = used(folder)
-    kept = shutil.copy(os.path.join(past, "history.jsonl"), os.path.join(folder, "older.jsonl"))
+    kept = shutil.copy(os.path.join(past, "history.jsonl"), os.path.join(past, "older.jsonl"))
     both = [desk(farm, "--history", it, "usage", "--by", "board", "--since", "2020-01-01") for it in (past, kept)]
     assert both[0] == both[1] and len(cells(both[0][1])) == 4
 

@@ -152,6 +152,28 @@ def test_the_client_finds_history_and_logs_beside_the_desk(kept: str, farm: Farm
     assert farm.job(again)["text"] == farm.job(1)["text"]
 
 
+def test_holds_of_people_are_served_and_counted(kept: str, site: Site) -> None:
+    del kept
+    assert site.got("/holds.jsonl")[0] == 404
+    assert site.desk("usage")[2] == "desk: holds of people aren't counted: farm-watch keeps none here\n"
+    os.makedirs(f"{site.folder}/watch/shown")
+    row = {
+        "kind": "hold", "key": "x", "reservation": 9, "owner": "zoe", "board": "b2", "type": "bbb",
+        "began": int(time.time()) - 7200, "ended": int(time.time()) - 3600, "reason": "",
+    }
+    write(f"{site.folder}/watch", "watch.db", "secret", 0o644)
+    write(f"{site.folder}/watch/shown", "holds.jsonl", f"{json.dumps(row)}\n", 0o644)
+    status, fields, body = site.got("/holds.jsonl")
+    assert (status, json.loads(body), fields["content-type"]) == (200, row, "text/plain; charset=utf-8")
+    assert (fields["x-content-type-options"], fields["cache-control"]) == ("nosniff", "no-cache")
+    assert site.got("/holds.jsonl", user="")[0] == 401 and site.got("/holds.jsonl", "-X", "PUT", "-d", "x")[0] == 405
+    for path in ("/watch.db", "/holds.jsonl/../watch.db", "/holds.jsonl/", "/shown/holds.jsonl"):
+        status, _, body = site.got(path)
+        assert status in (400, 403, 404) and b"secret" not in body, path
+    said = json.loads(site.desk("--json", "usage")[1])["usage"]
+    assert [(it["name"], it["holds"], it["held"]) for it in said] == [("zoe", 1, 1.0), ("ann", 0, 0.0)]
+
+
 def test_the_client_finds_what_a_job_left_beside_the_desk(kept: str, site: Site) -> None:
     assert site.desk("artifacts", "1")[0] == 3, "it left nothing"
     os.mkdir(f"{kept}/artifacts/1")

@@ -13,8 +13,8 @@ import time
 from typing import Dict, List, Tuple
 
 import pytest
-from desks import GROUP, write
-from served import TOOLS, TOP, Tool, environment, wait_until
+from desks import GROUP, desk, write
+from served import TOOLS, TOP, Tool, environment, read, wait_until
 from wants import wants
 from watched import HOUR, Labs, Watched
 
@@ -39,6 +39,26 @@ def watch(*words: str, **more: str) -> Tuple[int, str, str]:
 def content_to(lab: Watched, owner: str) -> str:
     """The text of the mail to an owner."""
     return str(next(it for it in lab.mailbox.mails() if it["to"] == at(owner)).get_content())
+
+
+def test_what_people_held_is_counted_by_the_client(watched: Labs) -> None:
+    """Beside a dispatcher's folder; the folder lets others through to that alone."""
+    lab = watched("[board]\nbad = true\n")
+    lab.start()
+    number = lab.holds("bob")
+    lab.looked(2)
+    lab.farm.tell("bob", f"/reservations/{number}/cancel")
+    shown = os.path.join(lab.place, "shown", "holds.jsonl")
+    row = json.loads(wait_until("its line", lambda: read(shown)))
+    assert (row["owner"], row["board"], row["reservation"]) == ("bob", "b1", number)
+    past = os.path.join(lab.folder, "farm-dispatch")
+    os.makedirs(past)
+    write(past, "history.jsonl", "")
+    os.symlink(lab.place, os.path.join(lab.folder, "farm-watch"))
+    used = json.loads(desk(lab.farm, "--history", past, "--json", "usage")[1])["usage"]
+    assert [(it["name"], it["jobs"], it["holds"]) for it in used] == [("bob", 0, 1)]
+    modes = {it: os.stat(os.path.join(lab.place, it)).st_mode & 0o777 for it in ("", "shown", "watch.db", "shown/holds.jsonl")}
+    assert modes == {"": 0o711, "shown": 0o755, "watch.db": 0o600, "shown/holds.jsonl": 0o644}
 
 
 # ---- jobs

@@ -1,10 +1,12 @@
 """Messages of farm-watch that aren't taken at once, and farm-watch killed (kill -9)."""
 from __future__ import annotations
 
+import contextlib
 import os
 import random
 import re
 import signal
+import sqlite3
 import subprocess
 import sys
 import time
@@ -170,6 +172,34 @@ def test_where_the_desk_has_no_room_for_replies_holds_are_ended_without_keys(wat
     text = f"farm: reservation {number} was ended: you had held h1 for 13 hours"
     lab.mails([("ann@lab.example", text)])
     assert lab.farm.reservation(number)["state"] == "canceled"
+
+
+@pytest.mark.slow(10)
+def test_events_of_an_hour_are_one_mail_over_a_kill(watched: Labs) -> None:
+    """None is told before; the hour's end is noted by hand."""
+    lab = watched("[job]\nended = true\nevery = '1h'\nby = ['mail']\n[board]\nbad = true\nby = ['mail']\n")
+    lab.start()
+    numbers = [lab.runs(), lab.runs("Infra")]
+    other = lab.runs(user="bob")
+    lab.looked(3)
+    lab.tool.kill()
+    lab.start()
+    lab.farm.tell("admin", "/boards/b2/health", {"health": "Bad"})
+    lab.mails([("lab@lab.example", "farm: board b2 is Bad")])
+    lab.stop()
+    with contextlib.closing(sqlite3.connect(os.path.join(lab.place, "watch.db"))) as line, line:
+        waiting = line.execute("SELECT due, every FROM deliveries WHERE done IS NULL").fetchall()
+        assert [(due % 3600, every) for due, every in waiting] == [(0, 3600)] * 3
+        line.execute("UPDATE deliveries SET due = 1 WHERE done IS NULL")
+    lab.start()
+    wait_until("three mails in all", lambda: len(lab.mailbox.mails()) == 3)
+    lab.looked(3)
+    mails = {str(it["to"]): it for it in lab.mailbox.mails()}
+    assert len(lab.mailbox.mails()) == 3
+    assert mails["ann@lab.example"]["x-farm-event"] == "digest"
+    text = str(mails["ann@lab.example"].get_content())
+    assert [text.count(f"job {it}") >= 2 for it in numbers] == [True, True] and f"job {other}" not in text
+    assert f"job {other}" in str(mails["bob@lab.example"]["subject"])
 
 
 @pytest.mark.slow(60)

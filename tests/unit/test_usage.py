@@ -1,4 +1,4 @@
-"""What jobs that ended have used: hours, outcomes, and how long they waited."""
+"""What jobs and holds that ended have used: hours, outcomes, and how long jobs waited."""
 from __future__ import annotations
 
 import argparse
@@ -18,7 +18,14 @@ def job(owner: str, began: int, ended: int, **more: Any) -> Dict[str, Any]:
     return {**said, "outcome": "Complete", "submitted": began - 60, **more}
 
 
-def used(monkeypatch: pytest.MonkeyPatch, rows: List[Dict[str, Any]], by: str = "owner", since: int = 0) -> List[Any]:
+def hold(owner: str, began: int, ended: int, board: str = "b1") -> Dict[str, Any]:
+    return {"kind": "hold", "owner": owner, "board": board, "type": "bbb", "began": began, "ended": ended}
+
+
+def used(
+    monkeypatch: pytest.MonkeyPatch, rows: List[Dict[str, Any]], by: str = "owner", since: int = 0,
+    holds: Optional[List[Dict[str, Any]]] = None,
+) -> List[Any]:
     """The rows of the usage since a moment."""
     shown: List[List[Any]] = []
 
@@ -26,6 +33,10 @@ def used(monkeypatch: pytest.MonkeyPatch, rows: List[Dict[str, Any]], by: str = 
         @staticmethod
         def rows() -> List[Dict[str, Any]]:
             return rows
+
+        @staticmethod
+        def holds() -> Optional[List[Dict[str, Any]]]:
+            return holds
 
     monkeypatch.setattr(views, "history_of", lambda desk, options: Past)
     monkeypatch.setattr(views, "show", lambda options, said, found, columns: shown.append(found))
@@ -50,6 +61,26 @@ def test_a_job_counts_once_for_each_of_its_boards(monkeypatch: pytest.MonkeyPatc
     rows = [job("ann", 0, HOUR, boards=["b1", "b2"]), job("bob", 0, HOUR, boards=["b2"])]
     found = used(monkeypatch, rows, by="board")
     assert [(it["name"], it["hours"], it["jobs"]) for it in found] == [("b2", 2.0, 2), ("b1", 1.0, 1)]
+
+
+def test_holds_of_people_count_beside_jobs_from_the_moment_on(
+    monkeypatch: pytest.MonkeyPatch, capsys: pytest.CaptureFixture[str]
+) -> None:
+    jobs = [job("ann", 5 * HOUR, 6 * HOUR)]
+    holds = [
+        hold("bob", 0, 7 * HOUR), hold("bob", 8 * HOUR, 9 * HOUR, "b2"), hold("ann", 5 * HOUR, 6 * HOUR),
+        hold("cat", 0, 4 * HOUR - 1), hold("bob", 9 * HOUR, 8 * HOUR),
+    ]
+    found = used(monkeypatch, jobs, since=4 * HOUR, holds=holds)
+    assert [(it["name"], it["jobs"], it["hours"], it["holds"], it["held"]) for it in found] == [
+        ("bob", 0, 0.0, 3, 4.0), ("ann", 1, 1.0, 1, 1.0),
+    ]
+    boards = used(monkeypatch, jobs, by="board", since=4 * HOUR, holds=holds)
+    assert [(it["name"], it["holds"], it["held"]) for it in boards] == [("b1", 3, 4.0), ("b2", 1, 1.0)]
+    assert [it["holds"] for it in used(monkeypatch, jobs, by="type", holds=holds)] == [5]
+    assert capsys.readouterr().err == ""
+    assert [it["holds"] for it in used(monkeypatch, jobs)] == [0]
+    assert capsys.readouterr().err == "desk: holds of people aren't counted: farm-watch keeps none here\n"
 
 
 def test_types_are_summed_and_equals_stand_by_name(monkeypatch: pytest.MonkeyPatch) -> None:

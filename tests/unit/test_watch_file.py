@@ -30,6 +30,8 @@ FAULTS = [
     (f"{MAIL}[job]\nended = 'yes'\n",
      "line 6: [job] ended: 'yes' is none of these: true, false or a list of \"Complete\", "
      "\"Incomplete\", \"Infra\", \"Canceled\""),
+    (f"{MAIL}[job]\nended = true\nevery = '30s'\n", "line 7: [job] every: '30s' isn't within 1 minute to 1 day"),
+    (f"{MAIL}[job]\nended = true\nevery = 3600\n", "line 7: [job] every: 3600 is no time, as \"4h\" or \"90 minutes\" is one"),
     (f"{MAIL}[job]\nended = true\nby = ['webhook']\n",
      "line 7: [job] by: there is no table [webhook]"),
     (f"{MAIL}[board]\nbad = 1\n", "line 6: [board] bad: 1 is neither true nor false"),
@@ -94,7 +96,7 @@ def test_a_whole_file(tmp_path: pathlib.Path) -> None:
         f"[desk]\nserver = 'http://desk'\n{MAIL}sendmail = '/bin/mail'\n"
         f"[owners]\nbob = 'b.smith@other.example'\ncat = ''\n{HOOK}"
         "[hold]\nremind = '90 minutes'\nend = '1d'\nby = ['webhook', 'mail']\n"
-        "[job]\nended = ['Infra', 'Complete']\nby = ['mail']\n[board]\nbad = true\nfree = 'all'\n"
+        "[job]\nended = ['Infra', 'Complete']\nby = ['mail']\nevery = '1h'\n[board]\nbad = true\nfree = 'all'\n"
         "[pass]\nlate = '10s'\n[full]\nat = [95, 80, 95]\n"
     ))
     assert rules.mail is not None and rules.webhook is not None
@@ -107,6 +109,7 @@ def test_a_whole_file(tmp_path: pathlib.Path) -> None:
     assert (rules.remind, rules.end, rules.late) == (5400.0, 86400.0, 10.0)
     assert (rules.outcomes, rules.bad, rules.free) == (("Complete", "Infra"), True, ("reservation", "group"))
     assert (rules.levels, rules.desk) == ((80, 95), {"server": "http://desk"})
+    assert rules.every == {"job": 3600.0}
     both = ("mail", "webhook")
     assert rules.by == {"hold": both, "job": ("mail",), "board": both, "pass": both, "full": both, "room": both}
 

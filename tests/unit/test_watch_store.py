@@ -188,3 +188,107 @@ def test_events_are_kept_for_ninety_days(file: str, clock: Clock) -> None:
 
 def rows_of(store: Store, table: str) -> List[Any]:
     return store.line.execute(f"SELECT * FROM {table}").fetchall()
+
+
+# ---- events that are told together
+
+HOUR = 3600
+FULL = NOW - NOW % HOUR + HOUR  # the next full hour
+
+
+def daily(name: str, owner: str = "ann", every: int = HOUR, at: int = NOW) -> Event:
+    return Event(name, "try", at, owner, f"subject of {name}", f"text of {name}", {"fact": name}, ("mail",), every)
+
+
+def test_events_of_a_time_are_told_at_its_end_as_one_an_owner(file: str, clock: Clock) -> None:
+    store = Store(file)
+    keep(store, daily("one"), daily("two", "bob"), daily("three"), event("alone"))
+    store.done(take(store), "mail")
+    clock.at = FULL - 1
+    assert taken(store) == [] and 0 < (store.due("mail") or 0) <= 1
+    clock.at = FULL + 1
+    first = take(store)
+    assert (first.body["event"], first.body["owner"]) == ("digest", "ann")
+    assert first.body["subject"].startswith("2 messages since ")
+    assert [it["fact"] for it in first.body["events"]] == ["one", "three"]
+    for text in ("subject of one", "text of one", "subject of three", "text of three"):
+        assert text in first.body["text"]
+    store.done(first, "mail")
+    second = take(store)
+    assert (second.body["fact"], second.body["owner"]) == ("two", "bob"), "one alone is told as it is"
+    store.done(second, "mail")
+    assert taken(store) == [] and store.due("mail") is None
+
+
+def test_they_wait_over_a_kill_and_none_is_lost(file: str, clock: Clock) -> None:
+    keep(Store(file), daily("one"))
+    keep(Store(file), daily("two"))
+    assert taken(Store(file)) == []
+    clock.at = FULL + 1
+    assert [it["fact"] for it in take(Store(file)).body["events"]] == ["one", "two"]
+
+
+def test_each_try_has_the_same_events_and_the_same_id(file: str, clock: Clock) -> None:
+    """Also over a kill, and where others are due meanwhile, which are told as another."""
+    store = Store(file)
+    keep(store, daily("one"), daily("two"))
+    clock.at = FULL + 1
+    first = take(store)
+    store.fail(first, "mail")
+    keep(store, daily("three", at=FULL + 2), daily("four", at=FULL + 2))
+    clock.at = FULL + HOUR + 1
+    store = Store(file)
+    tries = {}
+    for _ in range(2):
+        it = take(store)
+        tries[it.ident] = it
+        store.done(it, "mail")
+    assert tries[first.ident].body == first.body and tries[first.ident].at == first.at
+    (other,) = (it for ident, it in tries.items() if ident != first.ident)
+    assert [it["fact"] for it in other.body["events"]] == ["three", "four"]
+    assert taken(store) == []
+
+
+def test_more_than_fit_are_several_messages(file: str, clock: Clock, monkeypatch: pytest.MonkeyPatch) -> None:
+    monkeypatch.setattr(watch_store, "MOST_TOGETHER", 200)
+    store = Store(file)
+    keep(store, *(daily(f"{it}") for it in range(341)))
+    clock.at = FULL + 1
+    told = []
+    for _ in range(2):
+        it = take(store)
+        told += [event["fact"] for event in it.body["events"]]
+        assert it.body["text"].count("subject of") == len(it.body["events"]) + 50
+        assert f"The texts of {len(it.body['events']) - 50} more aren't in this message." in it.body["text"]
+        store.done(it, "mail")
+    assert told == [str(it) for it in range(341)] and taken(store) == []
+
+
+def test_times_of_two_lengths_are_two_messages(file: str, clock: Clock) -> None:
+    store = Store(file)
+    keep(store, daily("one"), daily("two"), daily("day", every=DAY))
+    clock.at = FULL + 1
+    assert [it["fact"] for it in take(store).body["events"]] == ["one", "two"]
+
+
+def test_a_clock_that_is_set_back_holds_up_no_message(file: str, clock: Clock) -> None:
+    store = Store(file)
+    keep(store, daily("one", at=NOW + 30 * DAY))
+    assert taken(store) == ["one"]
+
+
+def test_a_file_of_an_earlier_version_is_taken_up(file: str, clock: Clock) -> None:
+    line = sqlite3.connect(file)
+    line.executescript("""
+CREATE TABLE seen (kind TEXT, key TEXT, value TEXT NOT NULL, PRIMARY KEY (kind, key));
+CREATE TABLE events (number INTEGER PRIMARY KEY AUTOINCREMENT, name TEXT UNIQUE NOT NULL, at INTEGER NOT NULL, body TEXT NOT NULL);
+CREATE TABLE deliveries (event INTEGER REFERENCES events, way TEXT, tries INTEGER NOT NULL, due REAL NOT NULL,
+    done REAL, PRIMARY KEY (event, way));
+INSERT INTO events (name, at, body) VALUES ('old', 1, '{"fact": "old", "owner": "ann", "subject": "x"}');
+INSERT INTO deliveries (event, way, tries, due) VALUES (1, 'mail', 3, 9);
+""")
+    line.close()
+    for _ in range(2):
+        store = Store(file)
+    keep(store, daily("new"))
+    assert taken(store) == ["old"]

@@ -7,10 +7,11 @@ from typing import Any, Dict, Iterator, List, Optional, Sequence, Tuple
 
 import pytest
 from hand_clock import NOW, Clock
-from farm_watch import events as watch_events, holds as watch_holds, passes as watch_passes, watcher
+from farm_watch import ended as watch_ended, events as watch_events, holds as watch_holds, passes as watch_passes, watcher
 from farm_watch.rules import Mail, Rules
 from farm_watch.store import Store
 from farm_watch.watcher import Watcher
+from fizgruk import records
 from fizgruk.errors import Code, Refused
 
 HOUR = 3600
@@ -143,7 +144,8 @@ class Lab:
     def watches(self, **said: Any) -> "Lab":
         """A process begins to watch, also after another one; it looks once."""
         self.store = Store(self.file)
-        self.watcher = Watcher(self.desk, self.store, rules(**said), self.troubles.append)  # type: ignore[arg-type]
+        place = os.path.dirname(self.file)
+        self.watcher = Watcher(self.desk, self.store, rules(**said), self.troubles.append, place)  # type: ignore[arg-type]
         self.looks()
         return self
 
@@ -165,7 +167,7 @@ class Lab:
 @pytest.fixture
 def lab(monkeypatch: pytest.MonkeyPatch) -> Iterator[Lab]:
     clock = Clock()
-    for module in (watch_events, watch_holds, watch_passes, watcher):
+    for module in (watch_ended, watch_events, watch_holds, watch_passes, watcher):
         if hasattr(module, "time"):
             monkeypatch.setattr(module, "time", clock)
     with tempfile.TemporaryDirectory(dir="/dev/shm" if os.path.isdir("/dev/shm") else None) as folder:
@@ -538,3 +540,213 @@ def test_the_highest_level_is_told_once(lab: Lab, monkeypatch: pytest.MonkeyPatc
         full[0] = level
         lab.looks()
     assert lab.told() == [("", "the farm is 80 % full"), ("", "the farm is 95 % full")]
+
+
+# ---- the holds that have ended
+
+
+def lines(lab: Lab) -> List[Dict[str, Any]]:
+    """The holds that are written down, without their keys, of which each has its own."""
+    file = os.path.join(os.path.dirname(lab.file), "shown", "holds.jsonl")
+    rows = list(records.rows_of(file))
+    assert len({it.pop("key") for it in rows}) == len(rows)
+    return rows
+
+
+def hold_of(number: int, began: float, ended: float, owner: str = "ann", board: str = "b1", reason: str = "") -> Dict[str, Any]:
+    return {
+        "kind": "hold", "reservation": number, "owner": owner, "board": board, "type": "bbb", "began": int(began),
+        "ended": int(ended), "reason": reason,
+    }
+
+
+def acquires(lab: Lab, number: int, name: str) -> None:
+    lab.desk.gives(number, name, holder="reservation")
+    lab.looks(5)
+    lab.desk.boards[name].update(state="Running")
+    lab.looks(5)
+
+
+def frees(lab: Lab, name: str) -> None:
+    lab.desk.boards[name].update(state="Idle", holder="none")
+
+
+def test_a_hold_that_was_seen_from_its_waiting_on_is_written_down_at_its_end(lab: Lab) -> None:
+    """Without a question for all reservations, over another process."""
+    lab.watches()
+    number = lab.desk.waits("bob")
+    lab.looks()
+    lab.desk.gives(number, "b1", holder="reservation")
+    for _ in range(3):
+        lab.looks(5)
+    lab.desk.boards["b1"].update(state="Running")
+    lab.looks(5)
+    began = lab.clock.at
+    for _ in range(100):
+        lab.looks(50)
+    lab.watches()
+    assert lines(lab) == []
+    frees(lab, "b1")
+    lab.looks(5)
+    assert lines(lab) == [hold_of(number, began, lab.clock.at, "bob")]
+    assert "/reservations" not in lab.desk.asked
+
+
+def test_a_hold_nobody_saw_waiting_has_its_owner_by_a_question_at_its_end(lab: Lab) -> None:
+    """Of several that end at once, or within a minute, one question."""
+    lab.watches()
+    first, second = lab.desk.holds("b1", NOW, "bob"), lab.desk.holds("b2", NOW, "zoe")
+    lab.looks(5)
+    began = lab.clock.at
+    lab.looks(600)
+    frees(lab, "b1")
+    lab.looks(5)
+    frees(lab, "b2")
+    lab.looks(5)
+    assert lines(lab) == [hold_of(first, began, began + 605, "bob")]
+    lab.looks(60)
+    assert lines(lab)[1:] == [hold_of(second, began, began + 610, "zoe", "b2")]
+    assert lab.desk.asked.count("/reservations") == 2
+
+
+def test_a_board_that_is_released_and_acquired_again_is_two_holds(lab: Lab) -> None:
+    lab.watches()
+    number = lab.desk.waits()
+    lab.looks()
+    acquires(lab, number, "b1")
+    began = lab.clock.at
+    lab.desk.boards["b1"].update(state="Reserved")
+    lab.looks(30)
+    lab.desk.boards["b1"].update(state="Running")
+    lab.looks(5)
+    frees(lab, "b1")
+    lab.looks(5)
+    assert lines(lab) == [hold_of(number, began, began + 30), hold_of(number, began + 35, began + 40)]
+
+
+def test_what_was_only_given_to_a_reservation_is_no_hold(lab: Lab) -> None:
+    lab.watches()
+    number = lab.desk.waits()
+    lab.looks()
+    lab.desk.gives(number, "b1", holder="reservation")
+    lab.looks(5)
+    frees(lab, "b1")
+    lab.looks(5)
+    assert lines(lab) == [] and "/reservations" not in lab.desk.asked
+
+
+def test_a_hold_that_ended_while_nobody_looked_counts_until_it_was_seen_last(lab: Lab) -> None:
+    lab.watches()
+    number = lab.desk.waits()
+    lab.looks()
+    acquires(lab, number, "b1")
+    began = lab.clock.at
+    for _ in range(10):
+        lab.looks(30)
+    frees(lab, "b1")
+    lab.clock.at += 5 * HOUR
+    lab.watches()
+    (row,) = lines(lab)
+    assert began + 240 <= row["ended"] <= began + 300
+
+
+def test_a_hold_that_farm_watch_ends_says_so(lab: Lab) -> None:
+    lab.watches(end=HOUR)
+    number = lab.desk.holds("b1", NOW, "bob")
+    lab.looks(5)
+    lab.looks(HOUR)
+    lab.looks(5)
+    (row,) = lines(lab)
+    assert (row["reservation"], row["owner"], row["reason"]) == (number, "bob", "ended by farm-watch after 1 hour")
+
+
+def test_holds_of_the_farm_before_end_with_it(lab: Lab) -> None:
+    """And what had the same numbers there isn't taken for this farm's."""
+    lab.watches()
+    number = lab.desk.waits("bob")
+    lab.looks()
+    acquires(lab, number, "b1")
+    began = lab.clock.at
+    lab.desk = Desk(lab.clock)
+    lab.desk.count = 1
+    again = lab.desk.holds("b1", lab.clock.at, "zoe")
+    assert again == number
+    lab.clock.at += 5
+    lab.watches()
+    assert lines(lab) == [hold_of(number, began, began + 5, "bob")]
+    lab.looks(5)
+    frees(lab, "b1")
+    lab.looks(5)
+    assert [it["owner"] for it in lines(lab)] == ["bob", "zoe"]
+
+
+@pytest.mark.parametrize("step", ["before the line", "in the line", "behind the line"])
+def test_a_line_is_there_once_over_a_kill(lab: Lab, monkeypatch: pytest.MonkeyPatch, step: str) -> None:
+    lab.watches()
+    number = lab.desk.waits()
+    lab.looks()
+    acquires(lab, number, "b1")
+    frees(lab, "b1")
+
+    def dies(*_: object) -> None:
+        raise SystemExit
+
+    if step == "behind the line":
+        monkeypatch.setattr(lab.store, "forget_holds", dies)
+    else:
+        was = records.append
+
+        def half(file: str, rows: Any) -> None:
+            was(file, [])
+            if step == "in the line":
+                with open(file, "a", encoding="utf-8") as opened:
+                    opened.write('{"kind":"hold","ke')
+            raise SystemExit
+
+        monkeypatch.setattr(records, "append", half)
+    with pytest.raises(SystemExit):
+        lab.looks(5)
+    monkeypatch.undo()
+    monkeypatch.setattr(watch_ended, "time", lab.clock)
+    lab.watches()
+    assert [it["reservation"] for it in lines(lab)] == [number]
+    assert lab.store.ended_holds() == []
+
+
+def test_what_cant_be_written_down_is_told_and_waits(lab: Lab, monkeypatch: pytest.MonkeyPatch) -> None:
+    lab.watches()
+    number = lab.desk.waits()
+    lab.looks()
+    acquires(lab, number, "b1")
+    frees(lab, "b1")
+    shown = os.path.join(os.path.dirname(lab.file), "shown")
+    with open(shown, "w", encoding="utf-8"):
+        pass
+    lab.looks(5)
+    assert lab.troubles == [f"{shown}/holds.jsonl can't be written: File exists"]
+    os.unlink(shown)
+    lab.looks(5)
+    assert [it["reservation"] for it in lines(lab)] == [number]
+    assert os.stat(shown).st_mode & 0o777 == 0o755 and os.stat(f"{shown}/holds.jsonl").st_mode & 0o777 == 0o644
+
+
+def test_a_desk_that_shows_no_reservations_keeps_no_look_from_being_kept(lab: Lab, monkeypatch: pytest.MonkeyPatch) -> None:
+    lab.watches(bad=True)
+    number = lab.desk.holds("b1", NOW, "bob")
+    lab.looks(5)
+    was = lab.desk.look
+
+    def look(path: str) -> Any:
+        if path == "/reservations":
+            raise Refused(503, 0, "no memory")
+        return was(path)
+
+    monkeypatch.setattr(lab.desk, "look", look)
+    frees(lab, "b1")
+    lab.desk.boards["b2"]["health"] = "Bad"
+    lab.looks(5)
+    assert lab.told() == [("", "board b2 is Bad")] and len(lab.troubles) == 1
+    monkeypatch.undo()
+    monkeypatch.setattr(watch_ended, "time", lab.clock)
+    lab.looks(60)
+    assert [it["reservation"] for it in lines(lab)] == [number]

@@ -2,6 +2,7 @@
 import time
 from typing import Any, Dict, List, Sequence, Tuple
 
+from farm_watch.digest import moment
 from farm_watch.rules import Rules
 from farm_watch.store import Event
 from fizgruk import job_file, limits
@@ -30,7 +31,7 @@ class Events:
         if ways:
             self.found.append(Event(
                 f"{self.farm}.{kind}.{name}", kind, int(time.time()), owner, subject,
-                "\n".join(lines), facts, ways,
+                "\n".join(lines), facts, ways, int(self.rules.every.get(table, 0)),
             ))
 
     def hold_reminder(self, row: Dict[str, Any], begin: int, now: float) -> None:
@@ -207,11 +208,6 @@ def fullness(status: Dict[str, Any]) -> float:
 def bytes_of(size: int) -> str:
     """A size in words, to three digits."""
     return limits.size_words(int(float(f"{size:.3g}")))
-
-
-def moment(at: float) -> str:
-    """A moment in this machine's zone."""
-    return time.strftime("%Y-%m-%d %H:%M:%S %Z", time.localtime(at)).strip()
 
 
 def title_of(text: str) -> str:

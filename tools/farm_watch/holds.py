@@ -8,10 +8,11 @@ since then only moves that on. A hold that was reminded of may have been refresh
 import time
 from typing import Any, Callable, Dict, Optional
 
+from farm_watch.ended import say_why
 from farm_watch.events import Events
 from farm_watch.rules import Rules
 from farm_watch.store import Seen, Store
-from fizgruk import calls
+from fizgruk import calls, limits
 from fizgruk.errors import Code, Refused
 
 LEASE = 60
@@ -106,6 +107,7 @@ class Holds:
         if self._is_over(begin, now) and (row["state"] == "acquired" or began_to_end):
             if self._end(key):
                 seen["holds"].pop(key, None)
+                say_why(seen, row["number"], f"ended by farm-watch after {limits.words_of(now - begin)}")
                 events.hold_ended(row, begin, now)
         elif row["state"] == "acquired" and self._is_to_tell(begin, reminded, now):
             seen["holds"][key][3] = begin

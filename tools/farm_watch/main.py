@@ -139,13 +139,16 @@ def run(options: argparse.Namespace, rules: Rules) -> int:
     desk = calls.Desk(asking.settings_of("watch", options, "admin"), patience=0)
     desk.timeout = min(desk.timeout, LONGEST_CALL)
     place = os.path.realpath(options.folder)
-    os.makedirs(place, mode=0o750, exist_ok=True)
+    # (the proxy goes through it to what is shown; all else in it is this account's alone)
+    os.umask(0o077)
+    folders.made_for_all(place)
     lock = disk.take_lock(os.path.join(place, folders.LOCK))
     if lock is None:
         return end(FAULT, f"{place} is in use by another farm-watch")
     file = os.path.join(place, "watch.db")
     try:
         store = Store(file)
+        os.chmod(file, 0o600)
     except sqlite3.Error as fault:
         return end(FAULT, f"{file}: {fault}")
     once = Once()
@@ -157,7 +160,7 @@ def run(options: argparse.Namespace, rules: Rules) -> int:
         teller.start()
     print(f"looks every {options.every:g} s at {desk.server}: {summary(rules)}", flush=True)
     try:
-        return serve(Watcher(desk, store, rules, once.tell), tellers, stops, options.every)
+        return serve(Watcher(desk, store, rules, once.tell, place), tellers, stops, options.every)
     finally:
         for teller in tellers:
             teller.end()

@@ -13,6 +13,7 @@ CHANNELS = ("mail", "webhook")
 OUTCOMES = ("Complete", "Incomplete", "Infra", "Canceled")
 LONGEST_HOLD, LONGEST_LATE = 365 * 86400, 86400
 SHORTEST_HOLD, SHORTEST_LATE = 60, 10
+SHORTEST_DIGEST, LONGEST_DIGEST = 60, 86400
 OWNER = "{owner}"
 SENDMAIL = "/usr/sbin/sendmail"  # where the file names none
 SHUT = "/var/lib/farm-access/shown/access.json"
@@ -57,6 +58,7 @@ class Rules:
     late: Optional[float]
     levels: Tuple[int, ...]
     by: Dict[str, Tuple[str, ...]]
+    every: Dict[str, float] = dataclasses.field(default_factory=dict)  # of rules whose events are told together
     below: Optional[int] = None  # bytes of room
     paths: Tuple[str, ...] = ()
     shut: str = ""  # the file that says which boards are
@@ -203,7 +205,7 @@ def command_of(value: Any) -> str:
 
 
 HOLD = time_of(SHORTEST_HOLD, LONGEST_HOLD)
-BY = {"by": channels_of}
+BY = {"by": channels_of, "every": time_of(SHORTEST_DIGEST, LONGEST_DIGEST)}
 # The tables of a file, the keys of each, and how their values are read.
 TABLES: Dict[str, Dict[str, Callable[[Any], Any]]] = {
     "desk": {word: text_of for word in settings.WORDS},
@@ -276,6 +278,7 @@ class Reader:
             late=found["pass"].get("late"),
             levels=found["full"].get("at", ()),
             by=self.channels(found),
+            every={name: found[name]["every"] for name in RULES if "every" in found[name]},
             below=found["room"].get("below"),
             paths=found["room"].get("paths", PATHS),
             shut=found["board"].get("shut", ""),

@@ -3,7 +3,9 @@ look, and what it has to tell.
 
 A look's events and what was seen by it are kept in one commit, so an event is kept once however
 often the process is killed. Each event has a delivery for each way of telling it. A delivery is
-noted before it is tried, with the moment of the next try, and once it is done.
+noted before it is tried, with the moment of the next try, and once it is done. Events of rules with `every` are due
+at the end of such a time, by the clock, and told together (farm_watch.digest): which they are is noted as they are
+tried first, so that each try has the same.
 """
 import contextlib
 import dataclasses
@@ -12,7 +14,9 @@ import secrets
 import sqlite3
 import threading
 import time
-from typing import Any, Dict, Iterator, List, NamedTuple, Optional, Sequence, Tuple
+from typing import Any, Dict, Iterable, Iterator, List, NamedTuple, Optional, Sequence, Tuple
+
+from farm_watch import digest
 
 TABLES = """
 CREATE TABLE IF NOT EXISTS seen (kind TEXT, key TEXT, value TEXT NOT NULL, PRIMARY KEY (kind, key));
@@ -21,9 +25,13 @@ CREATE TABLE IF NOT EXISTS events (
     body TEXT NOT NULL);
 CREATE TABLE IF NOT EXISTS deliveries (
     event INTEGER REFERENCES events, way TEXT, tries INTEGER NOT NULL, due REAL NOT NULL,
-    done REAL, PRIMARY KEY (event, way));
+    done REAL, every INTEGER NOT NULL DEFAULT 0, batch INTEGER, PRIMARY KEY (event, way));
 CREATE INDEX IF NOT EXISTS waiting ON deliveries (way, due) WHERE done IS NULL;
+CREATE TABLE IF NOT EXISTS ended_holds (key TEXT PRIMARY KEY, line TEXT NOT NULL);
 """
+# What a file of an earlier version lacks.
+ADDED = {"every": "INTEGER NOT NULL DEFAULT 0", "batch": "INTEGER"}
+MOST_TOGETHER = 500  # events that are told in one message
 DAY = 86400
 FIRST_WAIT, LONGEST_WAIT = 5.0, 3600.0
 GIVES_UP, KEPT = 5 * DAY, 90 * DAY  # a delivery is tried so long; an event is kept so long
@@ -42,23 +50,25 @@ class Event:
     text: str
     facts: Dict[str, Any]
     ways: Tuple[str, ...]
+    every: int = 0  # seconds, at whose end it is told with all others of its owner
 
 
 class Delivery(NamedTuple):
-    """An event on one way: `ident` is the same at each try, and no other event's."""
+    """An event on one way, or several that are told together: `ident` is the same at each try, and no other's."""
 
     number: int
     ident: str
     tries: int
     at: int
     body: Dict[str, Any]
+    numbers: Tuple[int, ...] = ()
 
 
 # What was seen, by its kinds: the farm's own numbers; each board's health; open groups of jobs and
 # reservations that wait, with their owners; holds, and those that may be ended; file systems that
-# lack room; boards that are shut.
+# lack room; boards that are shut; what people hold (farm_watch.ended).
 Seen = Dict[str, Dict[str, Any]]
-KINDS = ("farm", "boards", "groups", "waiting", "holds", "endings", "room", "shut")
+KINDS = ("farm", "boards", "groups", "waiting", "holds", "endings", "room", "shut", "held")
 
 
 def nothing() -> Seen:
@@ -73,8 +83,12 @@ class Store:
         self.line = sqlite3.connect(file, check_same_thread=False, isolation_level=None)
         self.line.execute("PRAGMA synchronous = FULL")
         self.line.executescript(TABLES)
-        # what isn't told yet, or was being told when the process was killed, is tried at once
-        self.line.execute("UPDATE deliveries SET due = 0 WHERE done IS NULL")
+        there = {row[1] for row in self.line.execute("PRAGMA table_info(deliveries)")}
+        for name in ADDED.keys() - there:
+            self.line.execute(f"ALTER TABLE deliveries ADD COLUMN {name} {ADDED[name]}")
+        # what isn't told yet, or was being told when the process was killed, is tried at once; what is to be told
+        # together waits for its time
+        self.line.execute("UPDATE deliveries SET due = 0 WHERE done IS NULL AND (every = 0 OR batch IS NOT NULL)")
         self.kept = self._seen()
         self.mark = self._mark()
 
@@ -106,11 +120,12 @@ class Store:
         """What was seen at the last look that was kept; the caller's own."""
         return {kind: dict(self.kept.get(kind, {})) for kind in KINDS}
 
-    def keep(self, seen: Seen, events: Sequence[Event]) -> None:
-        """Keeps what a look saw, and its events, in one commit; nothing where nothing is new."""
+    def keep(self, seen: Seen, events: Sequence[Event], ended: Sequence[Dict[str, Any]] = ()) -> None:
+        """Keeps what a look saw, its events, and the lines of the holds that have ended, in one commit;
+        nothing where nothing is new."""
         seen = {**seen, "file": self.kept["file"]}
         changes = list(_changes(self.kept, seen))
-        if not (changes or events):
+        if not (changes or events or ended):
             return
         with self._change() as line:
             for kind, key, text in changes:
@@ -121,7 +136,20 @@ class Store:
                     line.execute("INSERT OR REPLACE INTO seen VALUES (?, ?, ?)", row)
             for event in events:
                 _add(line, event)
+            for it in ended:
+                line.execute("INSERT OR IGNORE INTO ended_holds VALUES (?, ?)", (it["key"], json.dumps(it)))
         self.kept = {kind: dict(rows) for kind, rows in seen.items()}
+
+    def ended_holds(self) -> List[Dict[str, Any]]:
+        """The lines of the holds that have ended, which may not be written down yet."""
+        with self.lock:
+            rows = self.line.execute("SELECT line FROM ended_holds ORDER BY rowid").fetchall()
+        return [json.loads(it) for it, in rows]
+
+    def forget_holds(self, keys: Iterable[str]) -> None:
+        """Removes the lines that are written down."""
+        with self._change() as line:
+            line.executemany("DELETE FROM ended_holds WHERE key = ?", [(it,) for it in keys])
 
     # ---- what is to be told
 
@@ -132,22 +160,48 @@ class Store:
         with self._change() as line:
             # (a moment that is far ahead was noted before the machine's clock was set back)
             row = line.execute(
-                "SELECT event, tries, at, body FROM deliveries JOIN events ON number = event "
-                "WHERE way = ? AND done IS NULL AND (due <= ? OR due > ?) "
+                "SELECT event, tries, at, body, every, batch FROM deliveries JOIN events ON number = event "
+                "WHERE way = ? AND done IS NULL AND (due <= ? OR due > ? + max(?, every) + 1) "
                 "ORDER BY tries > 0, due, event",
-                (way, now, now + LONGEST_WAIT + 1),
+                (way, now, now, LONGEST_WAIT),
             ).fetchone()
             if row is None:
                 return None
-            number, tries, at, body = row
-            self._try_again(line, (number, way), tries + 1, now)
-        return Delivery(number, f"{self.mark}-{number}", tries + 1, at, json.loads(body))
+            number, tries, at, body, every, batch = row
+            it = Delivery(number, f"{self.mark}-{number}", tries + 1, at, json.loads(body), (number,))
+            if every:
+                it = self._together(line, way, it, every, batch, now)
+            self._try_again(line, it, way, now)
+        return it
 
-    def _try_again(self, line: sqlite3.Connection, key: Tuple[int, str], tries: int,
-                   now: float) -> None:
-        line.execute(
+    def _together(self, line: sqlite3.Connection, way: str, it: Delivery, every: int, batch: Optional[int],
+                  now: float) -> Delivery:
+        """All events that are told with one on its way: those of its owner that are due when the first of them is
+        tried, the same ones at each try."""
+        if batch is None:
+            found = line.execute(
+                "SELECT number, at, body FROM deliveries JOIN events ON number = event WHERE way = ? AND done IS NULL "
+                "AND every = ? AND batch IS NULL AND (due <= ? OR due > ? + every + 1) ORDER BY number",
+                (way, every, now, now),
+            ).fetchall()
+            rows = [row for row in found if json.loads(row[2])["owner"] == it.body["owner"]][:MOST_TOGETHER]
+            batch = int(rows[0][0])
+            keys = [(batch, number, way) for number, _, _ in rows]
+            line.executemany("UPDATE deliveries SET batch = ? WHERE event = ? AND way = ?", keys)
+        else:
+            rows = line.execute(
+                "SELECT number, at, body FROM deliveries JOIN events ON number = event WHERE way = ? AND batch = ? "
+                "ORDER BY number", (way, batch),
+            ).fetchall()
+        bodies = [json.loads(body) for _, _, body in rows]
+        numbers = tuple(number for number, _, _ in rows)
+        ident = f"{self.mark}-{batch}" if len(rows) == 1 else f"{self.mark}-{batch}-{numbers[-1]}"
+        return Delivery(batch, ident, it.tries, rows[-1][1], digest.body_of(bodies), numbers)
+
+    def _try_again(self, line: sqlite3.Connection, it: Delivery, way: str, now: float) -> None:
+        line.executemany(
             "UPDATE deliveries SET tries = ?, due = ? WHERE event = ? AND way = ?",
-            (tries, now + wait_after(tries), *key),
+            [(it.tries, now + wait_after(it.tries), number, way) for number in it.numbers],
         )
 
     def fail(self, it: Delivery, way: str) -> bool:
@@ -155,7 +209,7 @@ class Store:
         now = time.time()
         gives_up = now - it.at > GIVES_UP
         with self._change() as line:
-            self._try_again(line, (it.number, way), it.tries, now)
+            self._try_again(line, it, way, now)
         if gives_up:
             self.done(it, way)
         return not gives_up
@@ -163,9 +217,9 @@ class Store:
     def done(self, it: Delivery, way: str) -> None:
         """Notes that a delivery is done."""
         with self._change() as line:
-            line.execute(
+            line.executemany(
                 "UPDATE deliveries SET done = ? WHERE event = ? AND way = ?",
-                (time.time(), it.number, way),
+                [(time.time(), number, way) for number in it.numbers],
             )
 
     def due(self, way: str) -> Optional[float]:
@@ -219,7 +273,8 @@ def _add(line: sqlite3.Connection, event: Event) -> None:
         (event.name, event.at, json.dumps(body)),
     )
     if added.rowcount:
-        rows: List[Tuple[Any, ...]] = [(added.lastrowid, way, 0, 0.0) for way in event.ways]
+        due = (event.at // event.every + 1) * event.every if event.every else 0
+        rows: List[Tuple[Any, ...]] = [(added.lastrowid, way, 0, float(due), event.every) for way in event.ways]
         line.executemany(
-            "INSERT INTO deliveries (event, way, tries, due) VALUES (?, ?, ?, ?)", rows
+            "INSERT INTO deliveries (event, way, tries, due, every) VALUES (?, ?, ?, ?, ?)", rows
         )

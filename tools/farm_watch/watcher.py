@@ -7,6 +7,7 @@ the view of all reservations, which grows with the farm's age, only once a hold 
 import time
 from typing import Any, Callable, Dict, List, NamedTuple, Optional, Set, Tuple
 
+from farm_watch.ended import EndedHolds
 from farm_watch.events import Events, fullness
 from farm_watch.history import History
 from farm_watch.holds import Holds
@@ -45,9 +46,9 @@ class Watcher:
     """Watches one desk."""
 
     def __init__(
-        self, desk: calls.Desk, store: Store, rules: Rules, told: Callable[[str], None]
+        self, desk: calls.Desk, store: Store, rules: Rules, told: Callable[[str], None], place: str
     ):
-        """`told` is called with a trouble that is nobody's event."""
+        """`told` is called with a trouble that is nobody's event; `place` is the folder."""
         self.desk = desk
         self.store = store
         self.rules = rules
@@ -56,6 +57,7 @@ class Watcher:
         self.room = Room(store, rules, told)
         self.shut = Shut(store, rules, told)
         self.holds = Holds(desk, store, rules, self.passes.note_own, told)
+        self.ended = EndedHolds(desk, store, place, told)
         self.checked: Optional[Set[str]] = None
         self.types = -1
         self.left = 0
@@ -67,6 +69,8 @@ class Watcher:
         self.left = MOST_JOBS
         self.history.begin_look()
         look = self._look()
+        self.ended.write()
+        waited = self.store.seen()["waiting"]
         seen, is_first = self._begun(look)
         events = Events(self.rules, seen["farm"]["number"])
         if not is_first:
@@ -79,7 +83,9 @@ class Watcher:
         self._passes(seen, look, events)
         now = max(time.time(), look.status["clock"])
         self.holds.note(seen, look.held("reservation"), now)
-        self.store.keep(seen, events.found)
+        ended = self.ended.note({} if is_first else waited, seen, look.held("reservation"), now)
+        self.store.keep(seen, events.found, ended)
+        self.ended.write()
         self.before = {it["name"]: it for it in look.lab.boards}
         self.clock = look.status["clock"]
         self.holds.care(Events(self.rules, seen["farm"]["number"]), now)
@@ -123,6 +129,7 @@ class Watcher:
             **nothing(),
             "room": seen["room"],
             "shut": seen.get("shut", {}),
+            "held": seen["held"],
             "farm": {
                 "number": farm.get("number", 0) + 1,
                 "next": 1,

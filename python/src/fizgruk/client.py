@@ -234,7 +234,9 @@ class Client:
         hours first."""
         ago = since.total_seconds() if isinstance(since, datetime.timedelta) else 0
         moment = since.timestamp() if isinstance(since, datetime.datetime) else time.time() - ago
-        return [models.Use(**it) for it in usage.uses_of(self._past().rows(), int(moment), by)]
+        past = self._past()
+        rows = [*past.rows(), *(past.holds() or ())]
+        return [models.Use(**it) for it in usage.uses_of(rows, int(moment), by)]
 
     def _past(self) -> Past:
         return history.past_of(self._desk, self._place)

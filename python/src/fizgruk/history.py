@@ -53,6 +53,17 @@ class Served:
                 raise NoLog from refusal
             raise self._about(refusal)
 
+    def holds(self) -> Optional[List[Dict[str, Any]]]:
+        """The lines of people's holds that ended, the oldest first; None where none are served."""
+        try:
+            said = b"".join(self.desk.stream(f"/{records.HOLDS}"))
+        except Refused as refusal:
+            if refusal.status == calls.NOT_FOUND:
+                return None
+            raise
+        rows = map(records.row_of, said.split(b"\n"))
+        return [it for it in rows if it is not None and it["kind"] == "hold"]
+
     def artifact(self, group: int, name: str) -> Iterator[bytes]:
         """The bytes of a file that is kept of a group, by its name there. Raises NoArtifact."""
         try:
@@ -101,6 +112,14 @@ class Kept:
         """All lines, the oldest first."""
         del last
         return iter(records.rows_of(self.lines))
+
+    def holds(self) -> Optional[List[Dict[str, Any]]]:
+        """The lines of people's holds that ended, the oldest first, as farm-watch keeps them beside this
+        folder; None where it keeps none."""
+        file = os.path.join(os.path.dirname(self.folder), records.OF_HOLDS)
+        if not os.path.isfile(file):
+            return None
+        return [it for it in records.rows_of(file) if it["kind"] == "hold"]
 
     def moments(self) -> submissions.Looks:
         """When numbers were given, as far as it is known."""

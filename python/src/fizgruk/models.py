@@ -182,8 +182,9 @@ class HealthChange:
 
 @dataclasses.dataclass(frozen=True)
 class Use:
-    """What an owner used, or of a board or a type was used, by jobs that ended. Waits, in seconds, are
-    None where it isn't known when jobs were submitted; `waited_ninth` is longer than nine of ten."""
+    """What an owner used, or of a board or a type was used, by jobs that ended, and by people's holds
+    (`holds`, of `held` hours), where farm-watch keeps these. Waits, in seconds, are None where it isn't
+    known when jobs were submitted; `waited_ninth` is longer than nine of ten."""
 
     name: str
     jobs: int
@@ -192,6 +193,8 @@ class Use:
     infra: int
     canceled: int
     hours: float
+    holds: int
+    held: float
     waited_median: Optional[int]
     waited_ninth: Optional[int]
 

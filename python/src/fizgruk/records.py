@@ -13,6 +13,8 @@ from typing import Any, Deque, Dict, Iterable, List, NamedTuple, Optional, Set, 
 from fizgruk._tools import disk
 
 LINES, NEWEST, HEALTHS = "history.jsonl", "history.json", "healths.json"
+HOLDS = "holds.jsonl"  # of farm-watch, as the site serves it, and as it stands beside the dispatcher's folder
+OF_HOLDS = "farm-watch/shown/holds.jsonl"
 MOST_SHOWN = 200
 CHECK = "health check"  # the name of a job that the desk makes itself
 BY_ADMIN = "by the admin"
@@ -25,6 +27,7 @@ FIELDS = {
         "reason",
     ),
     "health": ("board", "from", "to", "at", "reason"),
+    "hold": ("key", "reservation", "owner", "board", "type", "began", "ended", "reason"),  # of farm-watch
 }
 
 
@@ -51,7 +54,7 @@ class History:
         self.effects: Dict[str, Effect] = {}  # of jobs that ended, until the health is seen
         self.healths: Dict[str, str] = _healths_in(self.known)
         self.is_shown = False
-        _append(self.lines, [])
+        append(self.lines, [])
         for row in rows_of(self.lines):
             self._take(row)
             if row["kind"] == "job" and row["group"] in wanted:
@@ -104,7 +107,7 @@ class History:
 
     def _add(self, rows: List[Dict[str, Any]]) -> None:
         if rows:
-            _append(self.lines, rows)
+            append(self.lines, rows)
             for row in rows:
                 self._take(row)
             self.show()
@@ -182,7 +185,7 @@ def row_of(line: bytes) -> Optional[Dict[str, Any]]:
     return row if wanted and all(it in row for it in wanted) else None
 
 
-def _append(file: str, rows: List[Dict[str, Any]]) -> None:
+def append(file: str, rows: List[Dict[str, Any]]) -> None:
     """Adds lines to a history, all of them or none, behind its last whole one, and waits until they
     are on the disk."""
     text = "".join(f"{json.dumps(it, ensure_ascii=False, separators=(',', ':'))}\n" for it in rows)

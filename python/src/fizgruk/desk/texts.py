@@ -95,11 +95,12 @@ accepted, by their login, their address, their words and the number that was ans
 file of the site's machine, \
 which root and the group adm may read.""",
     "usage": """\
-Show what jobs used, how they ended and how long they waited. A line has how many jobs ended since \
+Show what jobs used, how they ended and how long they waited, and what people held. A line has how many jobs ended since \
 WHEN, and how; the hours for which they held boards since then; and how long they waited from \
 their submission to their begin: half of them no longer than 'WAITED', nine of ten no longer than \
 'NINTH'. Jobs that were submitted while nobody looked, and health checks, count in neither. Checks \
-are the admin's jobs; reservations aren't counted.""",
+are the admin's jobs. 'HOLDS' has how many holds of people ended since WHEN, 'HELD' the hours for which \
+they held boards since then, as farm-watch(8) saw them; where it keeps none this is told.""",
     "reserve": """\
 Reserve a board that has all these tags, and print the reservation's number. One that was given a \
 board has to be acquired within a minute. Where this waits and is interrupted, the reservation is \

@@ -6,13 +6,18 @@ from typing import Optional
 
 from fizgruk import calls, limits, usage
 from fizgruk._tools import tables
-from fizgruk.desk import views
+from fizgruk.desk import tell, views
 
 
 def show_usage(desk: calls.Desk, options: argparse.Namespace) -> int:
     """Shows who used, or what was used, since a moment; the most hours first."""
     since = options.since
-    rows = usage.uses_of(views.history_of(desk, options).rows(), since, options.by)
+    past = views.history_of(desk, options)
+    lines = list(past.rows())
+    holds = past.holds()
+    if holds is None:
+        tell("holds of people aren't counted: farm-watch keeps none here")
+    rows = usage.uses_of([*lines, *(holds or ())], since, options.by)
     said = {"by": options.by, "since": since, "until": int(time.time()), "usage": rows}
     first: tables.Column = (options.by.upper(), operator.itemgetter("name"))
     return views.show(options, said, rows, [first, *COLUMNS])
@@ -37,6 +42,8 @@ def waited(seconds: Optional[int]) -> str:
 COLUMNS = [
     *tables.of("jobs", *(it.lower() for it in usage.OUTCOMES)),
     ("HOURS", lambda it: f"{it['hours']:.1f}"),
+    *tables.of("holds"),
+    ("HELD", lambda it: f"{it['held']:.1f}"),
     ("WAITED", lambda it: waited(it["waited_median"])),
     ("NINTH", lambda it: waited(it["waited_ninth"])),
 ]
