@@ -13,7 +13,7 @@ from typing import IO, Iterator, List, Optional, Sequence
 
 import pytest
 
-from served import STARTED, TOP
+from served import PATIENCE, STARTED, TOP
 from wants import lacks, wants
 
 ACCOUNTS = ("farm", "farm-dispatch", "farm-door", "farm-metrics", "farm-watch")
@@ -98,7 +98,7 @@ class Machine:
 
     def _booted(self) -> int:
         """The process that is the machine's first, once it has booted."""
-        until = time.monotonic() + 60
+        until = time.monotonic() + PATIENCE
         while time.monotonic() < until and self.process.poll() is None:
             for pid in self._children():
                 self.first = pid
@@ -144,7 +144,7 @@ class Machine:
     def status(self, unit: str) -> str:
         return self.run("systemctl", "is-active", unit, check=False).stdout.strip()
 
-    def wait(self, what: str, *words: str, limit: float = 60) -> str:
+    def wait(self, what: str, *words: str, limit: float = PATIENCE) -> str:
         """What a command says once it ends well and says something."""
         until = time.monotonic() + limit
         while True:

@@ -6,6 +6,7 @@ import time
 from typing import Any, List
 
 from machine import Machine
+from served import PATIENCE
 
 BOARDS = ("b1", "b2", "b3")
 PLACE = "/var/lib/farm-dispatch"
@@ -44,7 +45,7 @@ class MachineLab:
         text = f"job_name = 'test'\ndevice_type = 'bbb'\nrun = '''\n{run}\n'''\n{more}"
         return int(self.tell("ann", "/jobs", text)["number"])
 
-    def finished(self, number: int, limit: float = 90) -> str:
+    def finished(self, number: int, limit: float = PATIENCE) -> str:
         until = time.monotonic() + limit
         while True:
             view = self.look(f"/jobs/{number}")

@@ -16,6 +16,7 @@ TOP = os.path.realpath(os.path.join(os.path.dirname(__file__), "../.."))
 TOOLS = os.path.join(TOP, "tools")
 LIBRARY = os.path.join(TOP, "python/src")
 MODULES = [TOOLS, LIBRARY]
+PATIENCE = 240.0  # seconds for what comes within one on an idle machine
 # Processes that are killed at the end of the test that started them, and those that last for the whole run.
 STARTED: List["subprocess.Popen[Any]"] = []
 LASTING: List["subprocess.Popen[Any]"] = []
@@ -53,7 +54,7 @@ def demand(what: str, wanted: object, found: object) -> None:
     assert found == wanted, f"{what}: wanted {wanted!r}, got {found!r}"
 
 
-def wait_until(what: str, call: Callable[[], Any], limit: float = 60) -> Any:
+def wait_until(what: str, call: Callable[[], Any], limit: float = PATIENCE) -> Any:
     """Waits until a call gives something true, and returns that. It asks less often the longer it waits."""
     until, pause = time.monotonic() + limit, 0.02
     while True:
@@ -207,7 +208,7 @@ class Tool:
         self.send(signal.SIGKILL)
         self.process.wait()
 
-    def ends(self, limit: float = 60) -> int:
+    def ends(self, limit: float = PATIENCE) -> int:
         """The exit status, once it has ended."""
         return self.process.wait(timeout=limit)
 

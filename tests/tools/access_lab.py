@@ -16,7 +16,7 @@ import tempfile
 import time
 from typing import Any, Callable, Dict, List, NamedTuple, Optional, Sequence
 
-from served import LASTING, STARTED, TOOLS, TOP, Farm, free_port, wait_until
+from served import LASTING, PATIENCE, STARTED, TOOLS, TOP, Farm, free_port, wait_until
 from wants import wants
 
 PEOPLE = ("ann", "bob", "eve")
@@ -406,7 +406,7 @@ def kill(pid: int, number: int = signal.SIGKILL) -> None:
         pass
 
 
-def until(true: Callable[[], Any], seconds: float = 100) -> float:
+def until(true: Callable[[], Any], seconds: float = PATIENCE) -> float:
     """Waits until something is true, and says for how long it wasn't."""
     since = time.monotonic()
     while not true() and time.monotonic() < since + seconds:

@@ -16,7 +16,7 @@ import time
 from typing import Any, Callable, Dict, Iterator, List, Optional, Sequence, Tuple
 
 import pytest
-from served import MODULES, STARTED, Board, Farm, Tool, environment, read, wait_until
+from served import MODULES, PATIENCE, STARTED, Board, Farm, Tool, environment, read, wait_until
 
 # Runs the line `run = '..'` of a job's text, and notes that it began and ended.
 COMMAND = """#!/bin/sh
@@ -94,7 +94,7 @@ class Lab:
         """Whether a patched dispatcher is where it waits, or where it was killed."""
         return os.path.exists(self.mark)
 
-    def finished(self, number: int, limit: float = 60) -> str:
+    def finished(self, number: int, limit: float = PATIENCE) -> str:
         """The result of a job, once it is Finished."""
         wait_until(f"job {number} is Finished", lambda: self.farm.job(number)["state"] == "Finished", limit)
         return str(self.farm.job(number)["result"])

@@ -84,7 +84,7 @@ def lab(program: str, tmp_path_factory: pytest.TempPathFactory) -> Iterator[Lab]
 
 
 def ended(lab: Lab, number: int) -> str:
-    until(lambda: lab.farm.job(number)["state"] == "Finished", 60)
+    until(lambda: lab.farm.job(number)["state"] == "Finished")
     return str(lab.farm.job(number)["result"])
 
 

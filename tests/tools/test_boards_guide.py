@@ -290,7 +290,7 @@ def test_an_emulated_board_from_reserve_to_its_prompt(lab: Lab, capsys: pytest.C
     line = subprocess.Popen(words, stdin=subprocess.PIPE, stdout=subprocess.PIPE, stderr=subprocess.DEVNULL)
     STARTED.append(line)
     assert line.stdin and line.stdout
-    until(lambda: lab.tell("dispatcher", "/pass") and lab.farm.board("virt-1")["state"] == "Running", 60)
+    until(lambda: lab.tell("dispatcher", "/pass") and lab.farm.board("virt-1")["state"] == "Running")
     assert subprocess.run(desk(lab, "power", "virt-1", "on"), capture_output=True, check=False).returncode == 0
     os.set_blocking(line.stdout.fileno(), False)
     said = b""
@@ -305,7 +305,7 @@ def test_an_emulated_board_from_reserve_to_its_prompt(lab: Lab, capsys: pytest.C
     assert b"the-board# " in said, said[-500:]
     line.stdin.write(b"echo $((6 * 7))\r")
     line.stdin.flush()
-    until(lambda: prompts() and b"\n42" in said, 60)
+    until(lambda: prompts() and b"\n42" in said)
     assert b"\n42" in said, said[-300:]
     with capsys.disabled():
         print(f" [prompt {time.monotonic() - since:.1f} s after desk console, {took:.1f} s of them of the board]", end="")
