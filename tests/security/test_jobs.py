@@ -141,7 +141,7 @@ def test_what_a_job_left_is_kept_within_what_it_may_read(lab: MachineLab) -> Non
 ln -s /etc/shadow out/link; ln {PLACE}/history.jsonl out/hard; ln -s {PLACE}/id out/id; mkfifo out/pipe""")
     lab.finished(number)
     place = f"{PLACE}/artifacts/{number}"
-    lab.machine.wait("what it left", "test", "-e", f"{place}/index.json")
+    lab.machine.wait("what it left", "cat", f"{place}/index.json")
     index = json.loads(lab.machine.run("cat", f"{place}/index.json", user="www-data").stdout)
     assert [it["name"] for it in index["files"]] == ["log"]
     assert {it["name"]: it["why"] for it in index["left_out"]} == {
@@ -149,7 +149,8 @@ ln -s /etc/shadow out/link; ln {PLACE}/history.jsonl out/hard; ln -s {PLACE}/id 
     }
     assert lab.machine.run("cat", f"{place}/1", user="www-data").stdout == "said\n"
     assert lab.machine.run("stat", "-c", "%U %a", f"{place}/1").stdout == "farm-dispatch 644\n"
-    assert lab.machine.run("getfattr", "-d", "-m", "-", f"{place}/1").stdout == ""
+    listed = f"import os; print(os.listxattr('{place}/1'))"
+    assert lab.machine.run("/usr/bin/python3", "-c", listed).stdout == "[]\n", "no access list of the job's account"
     lab.machine.wait("its line", "grep", f'"job":{number},.*"artifacts"', f"{PLACE}/history.jsonl")
 
 
