@@ -323,6 +323,7 @@ class Served:
         self.looks = list(looks)
         self.desk = types.SimpleNamespace(server="http://desk")
         self.room = types.SimpleNamespace(look=lambda: None)
+        self.shut = types.SimpleNamespace(look=lambda: None)
         self.store = types.SimpleNamespace(remove_old=lambda: self.cleaned.append(True))
         self.cleaned: List[bool] = []
         self.away: List[str] = []
