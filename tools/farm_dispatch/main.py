@@ -10,6 +10,7 @@ from typing import Any, Callable, Dict, List, Optional, Sequence
 from farm_dispatch import cage_limits, cages, folders, parts
 from farm_dispatch.clocks import UNSYNCHRONIZED, Clocks
 from farm_dispatch.dispatcher import ADOPT, Dispatcher
+from farm_dispatch.notes import Notes
 from farm_dispatch.runner import wake
 from fizgruk import calls, limits, words as texts
 from fizgruk._tools import asking, disk, parsers, terminal
@@ -103,6 +104,11 @@ MORE = {
         "The boards whose groups it runs, by a tag as 'worker=rack2', where several dispatchers "
         "share a desk; who serves a group's first board runs its command",
     ),
+    "notes": (
+        "FILE",
+        "/etc/farm/notes.toml",
+        "The lab's notes of boards, which DIR/notes.json shows, where the file is there",
+    ),
     "clock": (
         "WORD",
         "synchronized",
@@ -181,10 +187,11 @@ def main(words: Optional[Sequence[str]] = None) -> int:
         has_limits = options.cage == cages.CGROUP and cage_limits.enable(cages.own_cgroup())
         dispatcher = Dispatcher(desk, place, options, own)
         clocks = Clocks(desk, place, options.clock == "synchronized")
+        notes = Notes(place, options.notes, lambda text: end(0, text))
         tell_of_itself(desk, place, options)
         if (options.memory_limit or options.process_limit) and not has_limits:
             end(0, NO_LIMITS)
-        status = serve(dispatcher, clocks, Wakes(place), stops)
+        status = serve(dispatcher, clocks, notes, Wakes(place), stops)
         part.close()
         return status
     except Stopped:
@@ -305,6 +312,7 @@ def use(options: argparse.Namespace, more: Dict[str, Optional[str]]) -> None:
     if options.serves and not texts.TAGS.fullmatch(options.serves):
         raise BadSettings(f"serves: {options.serves!r} is no tag, as worker=rack2 is one")
     options.cage = cage_of(more["cage"] or MORE["cage"][1])
+    options.notes = more["notes"] or MORE["notes"][1]
     options.clock = more["clock"] or MORE["clock"][1]
     if options.clock not in ("synchronized", "any"):
         raise BadSettings(f"clock: {options.clock!r} is neither synchronized nor any")
@@ -334,7 +342,9 @@ def time_of(text: str) -> float:
         return limits.time_of(text)
 
 
-def serve(dispatcher: Dispatcher, clocks: Clocks, wakes: "Wakes", stops: Stops) -> int:
+def serve(
+    dispatcher: Dispatcher, clocks: Clocks, notes: Notes, wakes: "Wakes", stops: Stops
+) -> int:
     """Passes and looks after the jobs until a signal comes, or the desk doesn't take the caller."""
     due = time.monotonic()
     cleaned: Optional[float] = None
@@ -347,6 +357,8 @@ def serve(dispatcher: Dispatcher, clocks: Clocks, wakes: "Wakes", stops: Stops) 
             if cleaned is None or now >= cleaned + HOUR:
                 cleaned = now
                 dispatcher.remove_old()
+            if passes:
+                notes.look()
             trouble = one_round(dispatcher, clocks, passes)
         except Refused as refusal:
             if refusal.status in (401, 403):

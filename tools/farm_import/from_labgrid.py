@@ -1,9 +1,11 @@
 """farm-from-labgrid: a lab file from the places that labgrid's coordinator keeps."""
 import argparse
+import os
 import re
 from typing import Any, Dict, List, Optional, Sequence, Tuple
 
 from farm_import import lab_file
+from fizgruk import notes
 from fizgruk._tools import parsers, terminal
 
 PROGRAM = "farm-from-labgrid"
@@ -34,6 +36,10 @@ def parser_of() -> parsers.Parser:
     about = """\
 The tag whose value is the board's type (default %(default)s). The tag stays a tag."""
     parser.add_argument("--type-tag", metavar="KEY", default="board", help=about)
+    about = """\
+Write the places' comments there, as notes of boards (/etc/farm/notes.toml has the lab's); none may be
+there."""
+    parser.add_argument("--notes", metavar="FILE", help=about)
     about = "The type of places without that tag, which are not told then (default place)."
     parser.add_argument("--type", metavar="NAME", help=about)
     return parser
@@ -41,10 +47,30 @@ The tag whose value is the board's type (default %(default)s). The tag stays a t
 
 def lab_of(options: argparse.Namespace) -> lab_file.LabFile:
     """The lab of a coordinator's places."""
-    lab = lab_file.LabFile()
+    if options.notes and os.path.lexists(options.notes):
+        raise lab_file.Unreadable(f"{options.notes} is there: name another, and put both together")
+    lab, comments = lab_file.LabFile(), {}
     for name, place in places_of(options.places).items():
+        before = set(lab.boards)
         carry(lab, name, place, options)
+        comment = place.get("comment")
+        if comment not in NOTHING and options.notes:
+            comments.update({it: str(comment) for it in lab.boards.keys() - before})
+    if options.notes:
+        write_notes(lab, options.notes, comments)
     return lab
+
+
+def write_notes(lab: lab_file.LabFile, file: str, comments: Dict[str, str]) -> None:
+    """Writes the comments of boards as their notes."""
+    lines = []
+    for board, comment in sorted(comments.items()):
+        if len(comment) > notes.LONGEST:
+            lab.note(f"place {board}", f"its comment is cut to {notes.LONGEST:,} letters")
+        text = lab_file.basic(comment[: notes.LONGEST])
+        lines += [f"[boards.{lab_file.key_of(board)}]", f"comment = {text}", ""]
+    with open(file, "x", encoding="utf-8") as new:
+        new.write("\n".join(lines))
 
 
 def places_of(file: str) -> Dict[str, Dict[str, Any]]:
@@ -104,13 +130,16 @@ def carry(
         note(where, f"it has no tag {options.type_tag}: its type is {kind}")
     kind = lab.add_type(where, kind)
     lab.add_board(where, name, kind, [f"{key}={value}" for key, value in tags.items()])
-    note_rest(lab, where, place)
+    note_rest(lab, where, place, bool(options.notes))
 
 
-def note_rest(lab: lab_file.LabFile, where: str, place: Dict[str, Any]) -> None:
+def note_rest(
+    lab: lab_file.LabFile, where: str, place: Dict[str, Any], has_notes: bool
+) -> None:
+    """Notes the rest of a place; its comment isn't lost where notes of boards are written."""
     for alias in _items(place.get("aliases")):
         lab.note(where, f"alias {alias} isn't carried over")
-    if place.get("comment") not in NOTHING:
+    if place.get("comment") not in NOTHING and not has_notes:
         lab.note(where, f"comment {' '.join(str(place['comment']).split())!r} isn't carried over")
     for match in _items(place.get("matches")):
         lab.note_usual(where, f"match {_match_text(match)} isn't carried over")

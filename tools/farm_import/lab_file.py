@@ -1,6 +1,7 @@
 """A lab file that is written from what another system knows of its boards, and what couldn't be
 carried over."""
 import argparse
+import json
 import os
 import re
 import sys
@@ -107,12 +108,12 @@ class LabFile:
         """The lab file."""
         lines = [f"# {it}" for it in self.head] + ([""] if self.head else [])
         for name, (check, every) in sorted(self.types.items()):
-            lines += [*self._remark("types", name), f"[types.{_key(name)}]"]
+            lines += [*self._remark("types", name), f"[types.{key_of(name)}]"]
             lines += [f'check = "{check}"', f"every = {every}"] if check != "none" else []
             lines += [""]
         for name, (kind, tags, health) in sorted(self.boards.items()):
             listed = ", ".join(f'"{it}"' for it in tags)
-            lines += [*self._remark("boards", name), f"[boards.{_key(name)}]"]
+            lines += [*self._remark("boards", name), f"[boards.{key_of(name)}]"]
             lines += [f'type = "{kind}"', f"tags = [{listed}]"]
             lines += [f'health = "{health}"', ""] if health else [""]
         return "\n".join(lines)
@@ -159,7 +160,13 @@ class LabFile:
         return f"{word}={self.word(where, f'value of tag {key}', value, TAG_VALUE)}"
 
 
-def _key(name: str) -> str:
+def basic(text: str) -> str:
+    """A text in quotes: JSON's are TOML's, but for one letter."""
+    return json.dumps(text, ensure_ascii=False).replace("\x7f", "\\u007f")
+
+
+def key_of(name: str) -> str:
+    """A name as a key."""
     return name if re.fullmatch("[A-Za-z0-9_-]+", name) else f'"{name}"'
 
 

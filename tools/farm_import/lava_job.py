@@ -1,10 +1,9 @@
 """A LAVA job definition as a job file of the desk's: what the desk and farm-dispatch read stands at the
 top, and the definition, as it was written, where run-job-lava looks for it."""
-import json
 import re
 from typing import Any, Callable, Dict, List, Optional, Tuple
 
-from farm_import.lab_file import LabFile, Unreadable
+from farm_import.lab_file import LabFile, Unreadable, basic
 from fizgruk import job_file, limits
 from fizgruk.bounds import HIGHEST_PRIORITY, LONGEST_JOB_FILE, MOST_WANTS, NAME
 
@@ -179,11 +178,6 @@ def _words_of(seconds: float) -> str:
 
 
 # ---- TOML
-
-
-def basic(text: str) -> str:
-    """A text in quotes: JSON's are TOML's, but for one letter."""
-    return json.dumps(text, ensure_ascii=False).replace("\x7f", "\\u007f")
 
 
 def long_text(text: str) -> str:

@@ -6,7 +6,7 @@ import logging
 import time
 from typing import Callable, Dict, Iterator, List, Literal, Optional, Sequence, TypeVar, Union
 
-from fizgruk import calls, history, job_file, models, records, settings, usage, waiting
+from fizgruk import calls, history, job_file, models, notes, records, settings, usage, waiting
 from fizgruk.artifacts import Artifact
 from fizgruk.calls import Body, Desk, Row, fresh_key, part
 from fizgruk.errors import BadJobFile, Code, FizgrukError, Refused
@@ -214,6 +214,11 @@ class Client:
         """The bytes of what a job left under a name. Raises NoArtifact where there is none."""
         left = history.Artifacts(self._desk, self._past(), number)
         return b"".join(left.bytes_of(left.of(name)))
+
+    def notes(self, board: str) -> Dict[str, str]:
+        """What the lab has noted of a board: of `place`, `owner`, `wiki`, `comment` those that there
+        are."""
+        return notes.notes_of(self._desk, self._place).of(board)
 
     def history(
         self, board: Optional[str] = None, last: int = LAST

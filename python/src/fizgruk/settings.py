@@ -28,6 +28,7 @@ OF_LAB = (*WORDS, "history", "access")
 OF_DISPATCH = (
     "limit", "most", "retry", "clock", "keep_logs", "cage", "log_limit", "folder_limit",
     "memory_limit", "process_limit", "artifacts_limit", "artifact_limit", "artifact_count", "serves",
+    "notes",
 )
 # The sections of a file, each with its settings.
 SECTIONS = {

@@ -149,6 +149,7 @@ OFFERS: Dict[str, Offer] = {
     "N": reservations_of,
     "NAME": lambda desk, options: (),
     "TOKEN": tokens_of,
+    "boards TAG": lambda desk, options: [*tags_of(desk, options), *names_of("boards")(desk, options)],
     "tags TAG": own_tags_of,
     "add-board TAG": own_tags_of,
     "cancel N": open_jobs_of,

@@ -5,12 +5,11 @@ from typing import Any, Dict, List, Optional
 
 from fizgruk import calls, settings, wants
 from fizgruk._tools import tables
-from fizgruk.desk import tell, views
+from fizgruk.desk import FAULT, REFUSED, tell, views
 from fizgruk.errors import BadSettings, FizgrukError, Refused, Unreachable
 
 PATIENCE = 2.0
 LONGEST = 10.0  # seconds for which a lab's answer is waited for
-REFUSED, FAULT = 3, 4
 NONE = "the settings have no labs: a section [lab NAME] for each"
 
 

@@ -52,7 +52,8 @@ STATUSES = (
 
 OF_ALL = {
     "boards": """\
-Show the boards, or those that have all of these tags. 'CHECKED' is when the last health check of \
+Show the boards, or those that have all of these tags; of a board that is named, by its name alone or \
+by 'name=BOARD', also what the lab has noted of it. 'CHECKED' is when the last health check of \
 a board ended. With --all-labs a lab that gives no answer is told, and the exit status is 4 then, or 3 \
 where it refuses, also though the boards of the others are shown; with --json there is an object for \
 each lab.""",

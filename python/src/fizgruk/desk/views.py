@@ -4,10 +4,12 @@ import json
 import sys
 from typing import Any, Dict, List, Sequence, Tuple
 
-from fizgruk import calls, history, submissions, wants
+from fizgruk import calls, history, notes, submissions, wants
 from fizgruk._tools import asking, tables
 from fizgruk.desk import REFUSED, tell
 from fizgruk.errors import BadSettings, Code, Refused
+
+BY_NAME = "name="
 
 
 def show(
@@ -35,10 +37,36 @@ def bytes_of(file: str) -> bytes:
 
 
 def show_boards(desk: calls.Desk, options: argparse.Namespace) -> int:
-    """Shows the boards of the desk, or of all labs."""
-    want = wants.Want("", tuple(options.tags))
-    rows = [it for it in desk.look("/boards")["boards"] if wants.fits(it, want)]
-    return show(options, {"boards": rows}, rows, tables.BOARDS)
+    """Shows the boards of the desk that have these tags, and of those that are named their notes."""
+    there = desk.look("/boards")["boards"]
+    tags = tags_of(there, options.tags)
+    rows = [it for it in there if wants.fits(it, wants.Want("", tags))]
+    said = {"boards": rows}
+    if not any(it.startswith(BY_NAME) for it in tags):
+        return show(options, said, rows, tables.BOARDS)
+    found = notes.notes_of(desk, asking.values_of("desk", options)["history"])
+    noted = {it["name"]: found.of(it["name"]) for it in rows if found.of(it["name"])}
+    status = show(options, {**said, **({"notes": noted} if noted else {})}, rows, tables.BOARDS)
+    if not options.json:
+        print("".join(lines_of_note(it) for it in noted.values()), end="", flush=True)
+    if found.fault:
+        tell(f"notes of boards: {found.fault}")
+    return status
+
+
+def tags_of(boards: Sequence[Dict[str, Any]], given: Sequence[str]) -> Tuple[str, ...]:
+    """Tags, of which one that no board has may be a board's name."""
+    names = {it["name"] for it in boards}
+    own = {tag for it in boards for tag in it["tags"]}
+    return tuple(f"{BY_NAME}{it}" if it in names - own else it for it in given)
+
+
+def lines_of_note(note: notes.Note) -> str:
+    """A board's notes: a line for each key, or more, of which the later are indented."""
+    width = max(map(len, notes.KEYS)) + 2
+    return "".join(
+        f"{f'{key}:':{width}}{text}".replace("\n", f"\n{' ' * width}") + "\n" for key, text in note.items()
+    )
 
 
 def show_types(desk: calls.Desk, options: argparse.Namespace) -> int:
