@@ -1,6 +1,6 @@
 #!/usr/bin/env python3
 """A lab's two days in about eight minutes, with every tool on:
-python3 tests/tools/lab_days.py bin/farm [SECONDS [SEED]]
+python3 tests/tools/lab_days.py [--site] bin/farm [SECONDS [SEED]]
 
 Run by hand, since it takes that long; `make test` leaves it out. Fourteen boards of three types
 (one checked by the hour, one by jobs, one never) are served from files. People submit a hundred
@@ -20,7 +20,8 @@ with the history; and nothing is left running. It prints the figures in a table,
 status 1 where anything deviated.
 
 SECONDS is how long people work, 430 where no number is given (at least 300, for holds to end and
-sixty kills to come); SEED makes the same people again.
+sixty kills to come); SEED makes the same people again. With --site people ask with a password each through the
+example's nginx with farm-door, as packaged, which is killed too; it wants nginx and openssl.
 """
 from __future__ import annotations
 
@@ -45,6 +46,7 @@ from typing import Any, Callable, Counter, Dict, List, NamedTuple, Optional, Seq
 
 sys.path.insert(0, os.path.join(os.path.dirname(os.path.abspath(__file__)), "../shared"))
 from desks import DESK, write  # noqa: E402
+from people_site import PeopleSite  # noqa: E402
 from served import TOOLS, Farm, Tool, environment, read, wait_until  # noqa: E402
 from watched import Hook, Mailbox  # noqa: E402
 
@@ -53,6 +55,7 @@ EARLY = [*(f"bbb-0{it}" for it in range(1, 5)), *(f"qemu-0{it}" for it in range(
          *(f"rpi-0{it}" for it in range(1, 5))]
 LATE = ["bbb-05", "rpi-05"]
 MEANS = {"0": "Complete", "3": "Incomplete", "75": "Infra", "signal": "Infra"}
+PEOPLE = ("ann", "bob", "cid", "dan", "eva", "fay", "gus", "hal", "ida", "jon", "kim", "leo", "admin")
 REMIND, END = 60, 90  # seconds of a hold; the shortest that farm-watch takes are 60
 # Notes when it began and ended, with its boards; takes so long and ends as the job's text says.
 COMMAND = """#!/bin/sh
@@ -115,9 +118,11 @@ def lab_file(boards: Sequence[str]) -> str:
 class Lab:
     """The desk, its tools, and all that is known of them from outside."""
 
-    def __init__(self, program: str, room: str, seconds: int) -> None:
+    def __init__(self, program: str, room: str, seconds: int, has_site: bool = False) -> None:
         self.room = room
         self.deviations: List[str] = []
+        self.site: Optional[PeopleSite] = None
+        self.drained = threading.Event()
         self.commands: List[Command] = []
         self.submitted: Dict[int, Submitted] = {}
         self.canceled: Set[int] = set()
@@ -134,6 +139,9 @@ class Lab:
         self.farm = self.aged_farm(program, seconds)
         self.first = self.look("/status")["next"]
         self.write_files()
+        if has_site:
+            os.mkdir(f"{room}/site")
+            self.site = PeopleSite(self.farm, f"{room}/site", PEOPLE)
         self.tools: Dict[str, Tool] = {}
         for name in ("dispatcher", "watcher", "follower"):
             os.mkdir(f"{room}/{name}")
@@ -141,7 +149,6 @@ class Lab:
         # (what ended before farm-watch's first look isn't told)
         wait_until("a first look", lambda: "sees " in self.tools["watcher"].output())
         self.over = time.monotonic() + seconds
-        self.drained = threading.Event()
 
     def aged_farm(self, program: str, seconds: int) -> Farm:
         """A farm whose boards were checked an hour ago, less some part of the days."""
@@ -205,6 +212,9 @@ at = [80, 95]
         if name == "desk":
             self.farm.kill()
             self.farm.start()
+        elif name == "door" and self.site:
+            self.site.door.kill()
+            self.site.door.start()
         else:
             self.tools[name].kill()
             self.start(name)
@@ -221,9 +231,10 @@ at = [80, 95]
     def ask(self, user: str, method: str, path: str, body: object = None, key: Optional[str] = None) -> Tuple[int, Any]:
         """An answer, asked for again until it comes."""
         until = time.monotonic() + 60
+        way: Union[PeopleSite, Farm] = self.site if self.site and user in PEOPLE and not self.drained.is_set() else self.farm
         while True:
             with contextlib.suppress(OSError, ValueError, http.client.HTTPException):
-                status, said = self.farm.ask(user, method, path, body, key)
+                status, said = way.ask(user, method, path, body, key)
                 if status != 503:
                     return status, said
             if time.monotonic() > until:
@@ -250,11 +261,17 @@ at = [80, 95]
         ran = subprocess.run(
             [sys.executable, DESK, *words], capture_output=True, text=True, timeout=240,
             check=False, stdin=subprocess.DEVNULL,
-            env=environment(DESK_SERVER=self.farm.server, DESK_USER=user, **more),
+            env=environment(**self.settings(user), **more),
         )
         if ran.returncode:
             self.wrong(f"{user}: desk {' '.join(words)}: status {ran.returncode}: {ran.stderr}")
         return ran.stdout
+
+    def settings(self, user: str) -> Dict[str, str]:
+        """The settings by which the client asks as a person."""
+        if self.site:
+            return self.site.door.site.settings(user)
+        return {"DESK_SERVER": self.farm.server, "DESK_USER": user}
 
     def told(self, event: str, field: str, value: object) -> Any:
         """What the webhook was told of an event, if it was."""
@@ -450,7 +467,7 @@ def administers(lab: Lab, user: str, dice: random.Random) -> None:
 def kills(lab: Lab, dice: random.Random) -> None:
     while lab.left() > 0:
         time.sleep(dice.uniform(1, 7))
-        lab.kill(dice.choice(["desk", "dispatcher", "watcher"]))
+        lab.kill(dice.choice(["desk", "dispatcher", "watcher", *(["door"] if lab.site else [])]))
 
 
 def copies(lab: Lab, dice: random.Random) -> None:
@@ -802,6 +819,8 @@ def check_copies(lab: Lab, killed: float, standby: float) -> None:
 
 def ends_tools(lab: Lab) -> None:
     """Ends the tools; none tells of a fault of its own."""
+    if lab.site:
+        lab.site.end()
     for name in ("dispatcher", "watcher"):
         lab.tools[name].send(signal.SIGTERM)
         status = lab.tools[name].ends(60)
@@ -872,12 +891,12 @@ def show(
     print(f"{'deviated':<16} {'; '.join(lab.deviations) or 'nothing'}", flush=True)
 
 
-def main(program: str, seconds: Union[int, str] = 430, seed: Optional[str] = None) -> int:
+def main(has_site: bool, program: str, seconds: Union[int, str] = 430, seed: Optional[str] = None) -> int:
     dice = int(seed or random.randrange(10**6))
     print(f"lab_days: {seconds} s, seed {dice}", flush=True)
     with tempfile.TemporaryDirectory() as room:
         room = os.path.realpath(room)
-        lab = Lab(os.path.realpath(program), room, int(seconds))
+        lab = Lab(os.path.realpath(program), room, int(seconds), has_site)
         killed = lives(lab, int(seconds), random.Random(dice))
         check_metrics(lab, quiet=True)
         outcomes, waits = check_jobs(lab)
@@ -891,8 +910,11 @@ def main(program: str, seconds: Union[int, str] = 430, seed: Optional[str] = Non
         if sum(lab.kills.values()) < 60 or len(lab.submitted) != 200:
             lab.wrong(f"{sum(lab.kills.values())} kills, {len(lab.submitted)} submissions")
         show(lab, outcomes, waits, told, again, commands)
+        if lab.site:
+            print(f"through the site: {lab.site.told()}")
     return 1 if lab.deviations else 0
 
 
 if __name__ == "__main__":
-    sys.exit(main(*sys.argv[1:4]))
+    given = [it for it in sys.argv[1:] if it != "--site"]
+    sys.exit(main(len(given) < len(sys.argv) - 1, *given[:3]))

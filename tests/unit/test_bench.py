@@ -9,6 +9,7 @@ import farms
 import programs
 import pytest
 import table
+import through_site
 
 DUMP = """# callgrind format
 version: 1
@@ -126,3 +127,9 @@ def test_phases_have_64_of_each_command_but_the_passes() -> None:
 def test_each_table_is_read_in_order_of_its_key() -> None:
     assert farms.READS.count("ORDER BY") == 6
     assert "kept ORDER BY caller, ckey" in farms.READS
+
+
+def test_a_line_of_the_site_has_medians_and_how_much_longer_they_are() -> None:
+    alone, door = [float(it) for it in range(1, 102)], [it + 2.5 for it in range(1, 102)]
+    line = through_site.rows({"GET /": alone}, {"GET /": door})[-1]
+    assert line == "| `GET /` | 51.0 (100.0) | 53.5 (102.5) | +2.5 (+2.5) |"

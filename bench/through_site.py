@@ -1,5 +1,5 @@
 #!/usr/bin/env python3
-"""What the site costs a user, without farm-door and with it: python3 bench/site.py bin/farm [ROUNDS]
+"""What the site costs a user, without farm-door and with it: python3 bench/through_site.py bin/farm [ROUNDS]
 
 A lab of twenty users works through the example's nginx, as packaged: once with the site alone and once with farm-door and
 its usual limits, in rounds that alternate, over one farm. Each user's turn opens the page, looks at boards, queue and
@@ -53,7 +53,7 @@ def go(line: http.client.HTTPSConnection, fields: Dict[str, str], times: Times) 
         said = answer.read()
         times.setdefault(name, []).append(1000 * (time.perf_counter() - began))
         if answer.status != 200:
-            sys.exit(f"site: {method} {path}: {answer.status} {said[:200]!r}")
+            sys.exit(f"through_site: {method} {path}: {answer.status} {said[:200]!r}")
         if method == "POST":
             number = str(json.loads(said)["number"])
 
