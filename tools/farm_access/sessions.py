@@ -15,6 +15,7 @@ import time
 from typing import Any, Dict, List, Optional, Sequence
 
 from farm_dispatch import cages, strangers
+from fizgruk._tools import disk
 
 GRACE = 0.8  # seconds that a session of an ended hold has to end by itself
 DIES_WITHIN = 1.0
@@ -114,17 +115,7 @@ def _read(file: str) -> Optional[Session]:
 
 def lives(session: Session) -> bool:
     """Whether a session's own process lives."""
-    try:
-        opened = os.open(session.file, os.O_RDONLY | os.O_CLOEXEC | os.O_NOFOLLOW)
-    except OSError:
-        return False
-    try:
-        fcntl.flock(opened, fcntl.LOCK_SH | fcntl.LOCK_NB)
-        return False
-    except BlockingIOError:
-        return True
-    finally:
-        os.close(opened)
+    return disk.is_locked(session.file, fcntl.LOCK_SH)
 
 
 def is_deaf(session: Session) -> bool:

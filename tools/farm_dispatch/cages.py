@@ -27,6 +27,7 @@ import time
 from typing import Dict, Iterator, List, NamedTuple, Optional, Sequence, Set, Tuple
 
 from farm_dispatch import accounts
+from fizgruk._tools import disk
 
 ACCOUNT, CGROUP, NAMESPACE, NONE = "account", "cgroup", "namespace", "none"
 FORMS = (ACCOUNT, CGROUP, NAMESPACE, NONE)
@@ -134,7 +135,7 @@ def is_empty(mark: str, cage: Cage) -> bool:
         return "populated 1" not in lines_of(os.path.join(value, COMMAND, "cgroup.events"))
     if kind == "pidns":
         return first_of(value) is None
-    return not _found(value, cage) and not _is_locked(cage.lock)
+    return not _found(value, cage) and not disk.is_locked(cage.lock)
 
 
 def kill(mark: str, cage: Cage) -> None:
@@ -468,21 +469,6 @@ def _stat(pid: int) -> Tuple[str, List[str]]:
     text = _bytes(f"/proc/{pid}/stat").decode(errors="replace")
     fields = text.rpartition(")")[2].split()
     return (fields[0], fields) if fields else ("", [])
-
-
-def _is_locked(file: str) -> bool:
-    """Whether a process has this lock."""
-    try:
-        opened = os.open(file, os.O_RDWR | os.O_CLOEXEC | os.O_NOFOLLOW)
-    except OSError:
-        return False
-    try:
-        fcntl.flock(opened, fcntl.LOCK_EX | fcntl.LOCK_NB)
-        return False
-    except BlockingIOError:
-        return True
-    finally:
-        os.close(opened)
 
 
 def _locked(file: str) -> int:

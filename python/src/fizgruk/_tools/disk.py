@@ -61,6 +61,22 @@ def take_lock(file: str) -> Optional[int]:
     return opened
 
 
+def is_locked(file: str, against: int = fcntl.LOCK_EX) -> bool:
+    """Whether a process has a lock on this file that stands against one of this kind."""
+    access = os.O_RDWR if against == fcntl.LOCK_EX else os.O_RDONLY
+    try:
+        opened = os.open(file, access | os.O_CLOEXEC | os.O_NOFOLLOW)
+    except OSError:
+        return False
+    try:
+        fcntl.flock(opened, against | fcntl.LOCK_NB)
+        return False
+    except BlockingIOError:
+        return True
+    finally:
+        os.close(opened)
+
+
 class Strange(ValueError):
     """A file isn't of the kind that it was made as."""
 

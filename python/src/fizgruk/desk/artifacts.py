@@ -8,10 +8,9 @@ from typing import List
 from fizgruk import calls, history
 from fizgruk._tools import tables, terminal
 from fizgruk.artifacts import Artifact, counts_in_words
-from fizgruk.desk import tell, views
+from fizgruk.desk import REFUSED, tell, views
 from fizgruk.errors import NoArtifact
 
-REFUSED = 3
 COLUMNS: List[tables.Column] = [("SIZE", operator.itemgetter("size")), ("NAME", operator.itemgetter("name"))]
 
 

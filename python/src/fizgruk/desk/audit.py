@@ -42,10 +42,7 @@ def show_audit(desk: calls.Desk, options: argparse.Namespace) -> int:
 def rows_in(file: str) -> Iterator[Row]:
     """The lines of a file of the site's; what is none of these is passed over."""
     with open(disk.opened_file(file), "rb") as lines:
-        while True:
-            line = lines.readline(LONGEST)
-            if not line:
-                return
+        for line in iter(lambda: lines.readline(LONGEST), b""):
             row = row_of(line)
             if row is not None:
                 yield row

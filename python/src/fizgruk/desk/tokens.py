@@ -5,10 +5,9 @@ from typing import Any, Callable, Dict, List
 from fizgruk import calls
 from fizgruk._tools import tables
 from fizgruk._tools.parsers import Parser
-from fizgruk.desk import tell, views
+from fizgruk.desk import REFUSED, tell, views
 from fizgruk.errors import Code, Refused, Unreachable
 
-REFUSED = 3
 COLUMNS: List[tables.Column] = [
     ("NUMBER", lambda it: it["number"]),
     ("NAME", lambda it: tables.printable(it["name"])),
