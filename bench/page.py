@@ -20,18 +20,22 @@ from served import Farm  # noqa: E402
 
 LONGEST_REDRAW = 50
 ROUNDS = 7
+# What of the page's modules is worked with.
+MODULES = """Promise.all(["state", "rows", "again", "search"].map(it => import(`/page/${it}.js`))).then(
+  ([{state}, {makeRows}, {draw}, {choose}]) => void (window.page = {makeRows, draw, choose,
+    get farm() { return state.farm; }, set farm(it) { state.farm = it; }}))"""
 # What is drawn anew, each with the farm as it was before the first of them.
 REDRAWS = [
-    ("the same again", "makeRows(); draw()"),
-    ("a second later", "draw()"),
+    ("the same again", "page.makeRows(); page.draw()"),
+    ("a second later", "page.draw()"),
     (
         "all boards changed",
-        """farm.boards = farm.boards.map(it => ({...it, health: "Unknown",
-          tags: [...it.tags, "new-" + performance.now()]})); makeRows(); draw()""",
+        """page.farm.boards = page.farm.boards.map(it => ({...it, health: "Unknown",
+          tags: [...it.tags, "new-" + performance.now()]})); page.makeRows(); page.draw()""",
     ),
-    ("two thousand claims gone", "farm.queue = farm.queue.slice(2000); makeRows(); draw()"),
-    ("a search", "choose('user-7')"),
-    ("the search's end", "choose('')"),
+    ("two thousand claims gone", "page.farm.queue = page.farm.queue.slice(2000); page.makeRows(); page.draw()"),
+    ("a search", "page.choose('user-7')"),
+    ("the search's end", "page.choose('')"),
     ("sorted", HEAD.format(table="queue", text="Owner") + ".querySelector('button').click()"),
 ]
 
@@ -42,12 +46,13 @@ def measure(program: str, folder: str) -> dict[str, float]:
     lab = Lab(browser, Farm(program, folder, []), "ann")
     lab.files.update(full_farm(int(time.time())))
     opened = lab.opened(before="", wide=1280, high=1000)
-    opened.ask("void (window.kept = {...farm})")
+    opened.ask(MODULES)
+    opened.ask("void (window.kept = {...page.farm})")
     least = {name: float("inf") for name, _ in REDRAWS}
     for _ in range(ROUNDS):
         for name, what in REDRAWS:
             least[name] = min(least[name], opened.cost(what))
-        opened.ask("void (farm = {...kept}, makeRows(), draw())")
+        opened.ask("void (page.farm = {...kept}, page.makeRows(), page.draw())")
     lab.end()
     browser.end()
     return least

@@ -29,6 +29,7 @@ PAGES = {
     "farm-from-labgrid.1": "farm_import.from_labgrid",
     "farm-from-lava.1": "farm_import.from_lava",
     "farm-metrics.8": "farm_metrics.main",
+    "farm-page.1": "farm_page.main",
     "farm-watch.8": "farm_watch.main",
 }
 # What each command has, and the page says once.

@@ -12,7 +12,7 @@ from wants import wants, wants_python_with
 SHELLS = ("#!/bin/sh", "#!/bin/bash", "#!/usr/bin/env bash")
 # What mypy reads at once, by the folder that it is called in. (Of tests/gate these are what the others import.)
 TYPED = {
-    "tools": ["farm_access", "farm_backup", "farm_dispatch", "farm_door", "farm_import", "farm_metrics", "farm_watch"],
+    "tools": ["farm_access", "farm_backup", "farm_dispatch", "farm_door", "farm_import", "farm_metrics", "farm_page", "farm_watch"],
     "python/src": ["fizgruk"],
     "tests/unit": ["."],
     "tests/tools": ["."],

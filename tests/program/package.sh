@@ -40,7 +40,7 @@ for file in lib/systemd/system/farm.service lib/systemd/system/farm-dispatch.ser
     lib/systemd/system/farm-door.service usr/bin/farm-door etc/nginx/farm-door.conf \
     lib/systemd/system/farm-job.socket lib/systemd/system/farm-job@.service usr/share/fizgruk/job-in-account \
     lib/systemd/system/farm-backup.timer lib/systemd/system/farm-metrics.timer \
-    usr/share/fizgruk/page/farm.html etc/nginx/sites-available/farm etc/farm/run-job etc/farm/check-board \
+    usr/share/fizgruk/page/farm.html usr/share/fizgruk/page/farm.js usr/bin/farm-page etc/nginx/sites-available/farm etc/farm/run-job etc/farm/check-board \
     etc/farm/run-job-labgrid etc/farm/run-job-lava; do
     grep -qx "./$file" "$folder/fizgruk-farm/files" || fail "fizgruk-farm has no $file"
 done

@@ -139,7 +139,7 @@ def test_the_client_makes_shows_and_ends_tokens(door: Door) -> None:
 ])
 def test_what_is_no_token_is_let_in_nowhere(door: Door, fields: Sequence[str]) -> None:
     words = [word for it in fields for word in ("-H", it)]
-    for path in ("/queue", "/", "/farm.js", "/history.json", "/logs/1", "/whoami", "/tokens"):
+    for path in ("/queue", "/", "/page/farm.js", "/history.json", "/logs/1", "/whoami", "/tokens"):
         assert door.site.got(path, *words, user="")[0] == 401, path
     assert door.site.said(*words, *RESERVE, "/reservations", user="")[0] == 401
     assert door.owners() == []

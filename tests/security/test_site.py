@@ -108,7 +108,7 @@ POLICY = "default-src 'none'; script-src 'self'; style-src 'self'; connect-src '
 def test_each_answer_forbids_frames_and_foreign_scripts_and_says_no_version(kept_files: None, site: Site) -> None:
     del kept_files
     for path, user, status in (
-        ("/", "ann", 200), ("/farm.js", "ann", 200), ("/queue", "ann", 200), ("/whoami", "ann", 200),
+        ("/", "ann", 200), ("/page/farm.js", "ann", 200), ("/queue", "ann", 200), ("/whoami", "ann", 200),
         ("/logs/1", "ann", 200), ("/history.json", "ann", 200), ("/queue", "", 401), ("/no/such", "ann", 404),
         ("/logs/2", "ann", 404),
     ):
@@ -162,10 +162,10 @@ def test_what_a_job_left_is_saved_and_shown_as_no_page_of_the_site(site: Site) -
 
 @pytest.mark.parametrize("name, kind", [("farm.css", "text/css"), ("farm.js", "text/javascript")])
 def test_the_pages_files_are_served_to_those_who_have_a_password(site: Site, name: str, kind: str) -> None:
-    status, fields, body = site.got(f"/{name}")
+    status, fields, body = site.got(f"/page/{name}")
     assert (status, fields["content-type"], fields["cache-control"]) == (200, f"{kind}; charset=utf-8", "no-cache")
     assert body.decode() == read(f"{TOOLS}/page/{name}")
-    assert site.got(f"/{name}", user="")[0] == 401
+    assert site.got(f"/page/{name}", user="")[0] == 401
 
 
 @pytest.mark.parametrize(

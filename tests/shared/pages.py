@@ -20,11 +20,14 @@ BOARDS: List[Board] = [("b1", "bbb", ["hdmi", "serial"]), ("b2", "bbb", ["serial
 HOUR = 3600
 PHONE = 390
 PAGE = os.path.join(TOOLS, "page", "farm.html")
-# The page's files, by their paths.
+# The page's files, by their paths, each with its name and its kind.
+KINDS = {".css": "text/css; charset=utf-8", ".js": "text/javascript; charset=utf-8"}
 FILES = {
     "/": ("farm.html", "text/html; charset=utf-8"),
-    "/farm.css": ("farm.css", "text/css; charset=utf-8"),
-    "/farm.js": ("farm.js", "text/javascript; charset=utf-8"),
+    **{
+        f"/page/{name}": (name, KINDS[os.path.splitext(name)[1]])
+        for name in sorted(os.listdir(os.path.dirname(PAGE))) if name.endswith(tuple(KINDS))
+    },
 }
 # Lets a page look every half second instead of every five.
 HURRY = """(real => window.setTimeout = (call, wait, ...more) =>
@@ -34,7 +37,7 @@ HURRY = """(real => window.setTimeout = (call, wait, ...more) =>
 SHOWN = """(() => {
   const words = cell => {
     const tags = [...cell.querySelectorAll(".tag")].map(it => it.textContent);
-    const parts = cell.querySelectorAll(".told, button:not(.tag), .owner, .owner ~ *");
+    const parts = cell.querySelectorAll(".told, button:not(.tag), a.link, .owner, .owner ~ *");
     return tags.length ? tags.join(" ") : parts.length
       ? [...parts].map(it => it.textContent.trim()).filter(it => it).join(" ")
       : cell.textContent.trim();
@@ -56,6 +59,8 @@ SHOWN = """(() => {
   return found;
 })()"""
 Shown = Dict[str, Any]
+# Something of what the page's script knows, or what is done with it.
+STATE = "import('/page/state.js').then(({{state}}) => {})"
 
 
 class Door(http.server.BaseHTTPRequestHandler):
@@ -258,12 +263,17 @@ def begin_at(farm: Farm, moment: float, boards: Sequence[Board] = BOARDS) -> Non
 
 # A row's button, and what is in a dialog.
 BUTTON = """[...[...document.querySelectorAll("#{table} tbody tr:not(.group)")]
-  .find(it => it.cells[0].textContent.trim() === "{row}").querySelectorAll("button")]
+  .find(it => it.cells[0].textContent.trim() === "{row}").querySelectorAll("button, a")]
   .find(it => it.textContent === "{text}")"""
 HEAD = """[...document.querySelectorAll("#{table} thead th")].find(
   it => it.textContent.trim() === "{text}")"""
 FACTS = """(id => Object.fromEntries([...document.querySelectorAll(`#${id} dt`)].map(
   it => [it.textContent, it.nextElementSibling.textContent.trim()])))"""
+
+
+def choose(opened: Page, words: str) -> None:
+    """Types words into the search."""
+    opened.ask(f"filter.value = {words!r}; void filter.dispatchEvent(new Event('input'))")
 
 
 def click(opened: Page, table: str, row: str, text: str) -> None:

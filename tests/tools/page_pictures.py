@@ -103,6 +103,30 @@ def past(now: int) -> bytes:
     return json.dumps({"at": now, "jobs": jobs, "boards": changes}).encode()
 
 
+def present(farm: Farm, now: int) -> Dict[str, bytes]:
+    """What the dispatcher tells of what runs, what waits and since when boards are held."""
+    began = {"Running": now - 12 * MINUTE, "Reserved": None}
+    since = {"rpi4b-02": now - 5 * HOUR, "rpi4b-04": now - 47 * MINUTE, "qemu-03": now - 30}
+    jobs, holds = [], []
+    for board in farm.look("/boards")["boards"]:
+        kind, _, number = board["holder"].partition(" ")
+        if kind == "job":
+            view = farm.job(int(number))
+            text = view["text"] or farm.job(view["group"])["text"]
+            jobs.append({"job": int(number), "group": view["group"], "owner": view["owner"], "board": board["name"],
+                         "type": board["type"], "name": text.splitlines()[0].partition("= ")[2].strip("'\""),
+                         "began": began[board["state"]], "limit": 3600})
+        elif kind == "reservation":
+            holds.append({"board": board["name"], "reservation": int(number), "since": since[board["name"]]})
+    groups = []
+    for claim in (it for it in farm.look("/queue")["queue"] if it["kind"] == "group"):
+        view = farm.job(claim["number"])
+        groups.append({"group": claim["number"], "name": "nightly", "submitted": now - 20 * claim["number"],
+                       "wants": [{"type": view["type"], "tags": view["tags"]}]})
+    told = {"/running.json": {"at": now, "jobs": jobs, "holds": holds}, "/waiting.json": {"at": now, "groups": groups}}
+    return {path: json.dumps(it).encode() for path, it in told.items()}
+
+
 def sights(farm: Farm, now: int) -> str:
     """A script by which a page has seen the jobs come, as one that was open all the time."""
     since = {"Running": now - 12 * MINUTE, "Reserved": now - MINUTE}
@@ -123,6 +147,8 @@ def draw(program: str, room: str, browser: Browser, folder: str) -> None:
     lab.farm.start()
     use(lab.farm, now)
     lab.files.update({"/history.json": past(now), "/logs/42": LOG.encode()})
+    lab.passes()
+    lab.files.update(present(lab.farm, now))
     for name, wide, high in (("page.png", 1280, 1600), ("page-phone.png", PHONE, 1800)):
         lab.passes()
         opened = lab.opened(wide=wide, high=high, before=sights(lab.farm, now))

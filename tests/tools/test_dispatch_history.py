@@ -412,3 +412,45 @@ def log_of(lab: Lab, number: int) -> str:
 
 def logs_in(lab: Lab) -> Set[str]:
     return set(os.listdir(os.path.join(lab.place, "logs")))
+
+
+def present_of(lab: Lab, name: str) -> Any:
+    text = read(os.path.join(lab.place, name))
+    return json.loads(text) if text else {}
+
+
+def holds_of(lab: Lab) -> Dict[str, int]:
+    return {it["board"]: it["since"] for it in present_of(lab, "running.json")["holds"]}
+
+
+def test_what_runs_what_waits_and_since_when_people_hold_boards_is_told(lab: Lab) -> None:
+    """A hold keeps its begin over the dispatcher's death, and of one that came meanwhile nothing is told."""
+    begun = int(time.time())
+    for name in ("b3", "b4", "b5", "b6"):
+        lab.farm.tell("admin", f"/boards/{name}/health", {"health": "Maintenance"})
+    dispatcher = lab.dispatch("--limit", "1 hour", every="0.1")
+    wait_until("it has looked", lambda: "at" in present_of(lab, "waiting.json"))
+    number = lab.farm.submit(f"{lab.sleep} 100")
+    wait_until("it runs", lambda: [it["began"] for it in present_of(lab, "running.json")["jobs"]] not in ([], [None]))
+    held = lab.farm.tell("bob", "/reservations", {"tags": []})["number"]
+    wait_until("bob's hold", lambda: holds_of(lab))
+    waits = lab.farm.submit("true", more="tags = ['serial']\n")
+    wait_until("the next one", lambda: present_of(lab, "waiting.json")["groups"])
+    run = present_of(lab, "running.json")["jobs"][0]
+    assert begun <= run.pop("began") <= time.time()
+    assert run == {"job": number, "group": number, "owner": "ann", "board": "b1", "type": "bbb", "name": "test",
+                   "limit": 3600}
+    claim = present_of(lab, "waiting.json")["groups"][0]
+    assert begun <= claim.pop("submitted") <= time.time()
+    assert claim == {"group": waits, "name": "test", "wants": [{"type": "bbb", "tags": ["serial"]}]}
+    since = holds_of(lab)
+    assert begun <= since["b2"] <= time.time()
+    lab.farm.tell("bob", f"/reservations/{held}/acquire")
+    dispatcher.kill()
+    lab.farm.tell("eve", "/reservations", {"tags": ["name=b3"]})
+    lab.farm.tell("admin", "/boards/b3/health", {"health": "Good"})
+    lab.farm.tell("admin", "/pass")
+    os.unlink(os.path.join(lab.place, "waiting.json"))
+    lab.dispatch("--limit", "1 hour", every="0.1")
+    wait_until("it looks again", lambda: present_of(lab, "waiting.json"))
+    assert holds_of(lab) == {"b2": since["b2"]}

@@ -35,6 +35,7 @@ PAGES: Dict[str, List[str]] = {
     "farm-from-labgrid.1": [],
     "farm-from-lava.1": [],
     "farm-metrics.8": [],
+    "farm-page.1": [],
     "farm-watch.8": [],
 }
 # A help of a terminal this wide has lines of a hundred letters.

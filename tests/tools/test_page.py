@@ -11,7 +11,9 @@ from typing import Callable, List, Set, Tuple
 import pytest
 
 from browser import Page
-from pages import BOARDS, FILES, HOUR, PHONE, SHOWN, Lab, Shown, names, seen, tell_at, until
+from pages import (
+    BOARDS, FILES, HOUR, PHONE, SHOWN, STATE, Lab, Shown, choose, names, seen, tell_at, until,
+)
 from served import TOOLS, wait_until
 
 pytestmark = pytest.mark.xdist_group("page1")
@@ -41,13 +43,14 @@ def test_boards_queue_and_reservations_with_the_time_left(lab: Lab) -> None:
     use(lab)
     shown = lab.look()
     assert shown["boards"] == [
-        ["b1", "bbb", "Good", "Reserved", "bob reservation 2", "< 1 min", "hdmi serial", ""],
+        ["b1", "bbb", "Good", "Offered", "bob reservation 2", "", "hdmi serial", ""],
         ["b2", "bbb", "Bad", "Idle", "", "", "serial", ""],
         ["c1", "ccc", "Good", "Running", "ann job 1 test", "", "", "Cancel"],
     ]
-    assert shown["queue"] == [["1", "reservation 3", "bob", "50", "1", "", ""]]
+    why = "1 board fits, held by reservation 2 of bob"
+    assert shown["queue"] == [["1", "reservation 3", "bob", "hdmi", "50", "", why, ""]]
     assert shown["reservations"] == [
-        ["2", "allocated", "60 s", "b1", "bob", "< 1 min", "100", "hdmi", ""],
+        ["2", "allocated", "60 s", "b1", "bob", "", "100", "hdmi", ""],
         ["3", "waiting", "60 s", "", "bob", "", "50", "hdmi", ""],
     ]
     counted = {it: shown["counts"][it] for it in ("boards", "queue", "reservations", "ended")}
@@ -57,7 +60,7 @@ def test_boards_queue_and_reservations_with_the_time_left(lab: Lab) -> None:
 
 
 FILTERED: List[Tuple[str, Tuple[List[str], List[str], List[str]]]] = [
-    ("hdmi", (["b1"], [], ["2", "3"])),
+    ("hdmi", (["b1"], ["1"], ["2", "3"])),
     ("bbb", (["b1", "b2"], [], [])),
     ("serial bad", (["b2"], [], [])),
     ("name=c1", (["c1"], [], [])),
@@ -79,21 +82,22 @@ def test_one_filter_looks_at_the_words_of_all_tables_part_or_whole(lab: Lab) -> 
     lab.farm.submit("true", "ccc", "ann")
     opened = lab.opened()
     for words, wanted in FILTERED:
-        opened.ask(f"choose({words!r})")
+        choose(opened, words)
         shown = opened.ask(SHOWN)
         assert tuple(names(shown, it) for it in ("boards", "queue", "reservations")) == wanted, words
         assert shown["counts"]["boards"] == f"({len(wanted[0])} of 3)", words
-        assert opened.ask("location.hash") == f"#{urllib.parse.quote(words)}"
+        assert opened.ask("location.search") == f"?q={urllib.parse.quote(words)}"
     assert shown["text"]["boards"] == "none has these words"
-    shown = lab.look(f"/#{urllib.parse.quote('serial bad')}")
-    assert names(shown) == ["b2"], "by its address"
+    for address in ("/?q={}", "/#{}"):
+        shown = lab.look(address.format(urllib.parse.quote("serial bad")))
+        assert names(shown) == ["b2"], "by its address, also by one of before"
 
 
 def test_a_click_on_a_tag_adds_it_to_the_filter(lab: Lab) -> None:
-    opened = lab.opened("/#hd")
+    opened = lab.opened("/?q=hd")
     opened.ask("document.querySelector('#boards .tag').click()")
     assert opened.ask("filter.value") == 'hd "hdmi"'
-    assert opened.ask("location.hash") == "#hd%20%22hdmi%22"
+    assert opened.ask("location.search") == "?q=hd%20%22hdmi%22"
 
 
 def test_news_leave_focus_and_selection_where_they_are(lab: Lab) -> None:
@@ -126,7 +130,7 @@ def test_it_doesnt_look_while_it_is_hidden_and_looks_when_it_is_seen_again(lab: 
     opened = lab.opened()
     hide = "(Object.defineProperty(document, 'hidden', {{value: {}, configurable: true}}), undefined)"
     opened.ask(hide.format("true"))
-    wait_until("its last look is over", lambda: not opened.ask("isLooking"))
+    wait_until("its last look is over", lambda: not opened.ask(STATE.format("state.isLooking")))
     lab.asked.clear()
     time.sleep(2)
     assert lab.asked == []
@@ -276,19 +280,19 @@ def test_a_claim_for_which_no_boards_can_come_says_which_are_out(make_lab: Calla
     opened = lab.open()
     shown = seen(opened)
     stuck = "collects boards, and can't be served: b2 is in Maintenance"
-    assert [it[5] for it in shown["queue"]] == [stuck, "can't be served: c2 is Bad"]
+    assert [it[6] for it in shown["queue"]] == [stuck, "can't be served: c2 is Bad"]
     assert shown["warned"] == f"group 1 {stuck}", "a group that collects is told on top"
     lab.asked.clear()
     lab.set_health(b2="Retired", c2="Good")
-    shown = until(opened, "a retired board", lambda it: "Retired" in it["queue"][0][5])
-    assert shown["queue"][1][5] == "", "it can be served"
+    shown = until(opened, "a retired board", lambda it: "Retired" in it["queue"][0][6])
+    assert shown["queue"][1][6] == "a board is free: it waits for the next pass", "it can be served"
     lab.looks_twice()
     assert [it for it, _ in lab.asked if "jobs" in it] == [], "jobs that it asked for again"
     # Each want alone could be met, by the one board; a held board and one to be checked may come.
     lab.farm.tell("admin", "/boards", {"name": "b3", "type": "bbb", "tags": []})
     lab.set_health(b3="Unknown")
-    shown = until(opened, "a board that may come", lambda it: "can't" not in it["queue"][0][5])
-    assert shown["queue"][0][5] == "collects boards"
+    shown = until(opened, "a board that may come", lambda it: "can't" not in it["queue"][0][6])
+    assert shown["queue"][0][6] == "collects boards"
     assert shown["warned"] == ""
 
 
@@ -316,7 +320,7 @@ def test_of_a_long_queue_the_first_fifty_stand_there(lab: Lab) -> None:
     assert not opened.ask(f"{more}.checkVisibility()")
     opened.ask(f"{fewer}.click()")
     assert len(opened.ask(SHOWN)["queue"]) == 50
-    opened.ask("choose('ann')")
+    choose(opened, "ann")
     shown = opened.ask(SHOWN)
     assert (len(shown["queue"]), shown["counts"]["queue"]) == (50, "(60 of 120)")
     assert shown["queue"][0][0] == "2", "ann's first place"
@@ -352,7 +356,7 @@ def test_a_phone_shows_all_without_moving_aside_long_words_too(lab: Lab) -> None
 def all_are_reached(opened: Page) -> None:
     """Goes through the page by Tab."""
     stops = """[...document.querySelectorAll("button, input, summary, a[href], [tabindex='0']")]
-      .filter(it => it.checkVisibility())"""
+      .filter(it => it.checkVisibility() && it.tabIndex >= 0)"""
     opened.ask("void (window.reached = new Set())")
     for place in range(opened.ask(f"{stops}.length")):
         opened.key("Tab", 9)
@@ -402,7 +406,11 @@ def test_its_script_and_style_are_its_own_files_and_name_no_other_place() -> Non
     for path, (name, _) in FILES.items():
         with open(os.path.join(TOOLS, "page", name), encoding="utf-8") as text:
             texts[path] = text.read()
-    named = re.findall(r"(?:href|src)=\"(.*?)\"", texts["/"])
-    assert named == ["data:,", "farm.css", "farm.js"]
-    assert re.findall(r"https?://|//[a-z]|@import|url\(", texts["/"] + texts["/farm.css"]) == []
-    assert re.findall(r"https?://|import ", texts["/farm.js"]) == []
+    named = [it for it in re.findall(r"(?:href|src)=\"(.*?)\"", texts["/"]) if not it.startswith("#/")]
+    assert set(named) == {"data:,", *(it[1:] for it in FILES if it not in ("/", "/page/keeper.js"))}
+    assert re.findall(r"https?://|//[a-z]|@import|url\(", texts["/"] + texts["/page/farm.css"]) == []
+    for path in (it for it in FILES if it.endswith(".js")):
+        code = re.sub(r"/\*\*.*?\*/", "", texts[path], flags=re.DOTALL)
+        assert re.findall(r"https?://|import\(", code) == [], path
+        sources = re.findall(r" from \"(.*?)\";", texts[path])
+        assert {f"/page/{it[2:]}" for it in sources} <= set(FILES), path

@@ -6,6 +6,7 @@ import time
 from typing import Any, Dict
 
 from pages import Lab
+from served import wait_until
 
 FACTS = """(() => {
   const facts = {};
@@ -23,7 +24,8 @@ def told(lab: Lab, sessions: Any = ()) -> None:
 
 def facts_of(lab: Lab, board: str) -> Dict[str, str]:
     opened = lab.opened()
-    opened.ask(f"openBoard({json.dumps(board)})")
+    opened.ask(f"void (location.hash = '#/boards/{board}')")
+    wait_until("it is open", lambda: bool(opened.ask("document.querySelector('#board dl dt') !== null")))
     return dict(opened.ask(FACTS))
 
 

@@ -9,7 +9,7 @@ import pytest
 
 from browser import Page
 from pages import (
-    BOARDS, PHONE, SHOWN, Lab, click, facts_of, full_farm, names, past, record, seen, tell_at, text_of, until,
+    BOARDS, PHONE, SHOWN, Lab, choose, click, facts_of, full_farm, names, past, record, seen, tell_at, text_of, until,
 )
 from served import Farm, wait_until
 
@@ -47,9 +47,9 @@ def test_ended_jobs_are_shown_found_and_ones_own(lab: Lab) -> None:
     assert shown["quiet"] == ""
     assert shown["ended"][0] == ["900", "test 900", "ann", "b1", "Complete", "5 min ago", "90 s", ""]
     assert names(shown, "ended") == ["900", "899", "898"]
-    opened.ask("choose('infra')")
+    choose(opened, "infra")
     assert names(opened.ask(SHOWN), "ended") == ["899"]
-    opened.ask("choose('')")
+    choose(opened, "")
     opened.ask("mine.click()")
     assert names(opened.ask(SHOWN), "ended") == ["900"]
 
@@ -114,7 +114,7 @@ def test_a_log_that_isnt_kept_any_more_is_told(lab: Lab) -> None:
     number = running(lab)
     lab.farm.tell("dispatcher", f"/jobs/{number}/finish", {"outcome": "Incomplete"})
     opened = lab.opened()
-    opened.ask(f"openJob({number})")
+    opened.ask(f"void (location.hash = '#/jobs/{number}')")
     wait_until("one that is gone", lambda: log_said(opened) == "no log is kept of it")
 
 
@@ -129,7 +129,7 @@ def test_a_board_tells_since_when_it_is_held_as_far_as_that_is_known(make_lab: C
     lab.passes()
     opened = lab.open()
     held = [[row[it] for it in (0, 4, 5)] for row in seen(opened)["boards"]]
-    assert held[0] == ["b1", f"bob reservation {number}", "2 h"]
+    assert held[0] == ["b1", f"bob reservation {number}", "> 2 h"], "its lease was set then, first or last"
     assert held[2] == ["c1", f"ann job {before} test", ""], "a job that was there"
     later = lab.farm.submit("true", "bbb")
     lab.passes()
@@ -137,8 +137,9 @@ def test_a_board_tells_since_when_it_is_held_as_far_as_that_is_known(make_lab: C
     assert shown["boards"][1][5] == "< 1 min"
     opened.close()
     opened = lab.opened()
-    shown = opened.ask(f"(offset += 9000000, draw(), {SHOWN})")
-    assert [it[5] for it in shown["boards"]] == ["4 h", "2 h", "> 2 h"], "two and a half hours later"
+    later_on = "Promise.all([import('/page/state.js'), import('/page/again.js')]).then(([{state}, {draw}]) =>"
+    shown = opened.ask(f"{later_on} (state.offset += 9000000, draw(), {SHOWN}))")
+    assert [it[5] for it in shown["boards"]] == ["> 4 h", "2 h", "> 2 h"], "two and a half hours later"
 
 
 def test_where_the_next_farm_begins_the_page_forgets_the_one_before(
@@ -163,6 +164,8 @@ def test_where_the_next_farm_begins_the_page_forgets_the_one_before(
 def test_a_full_farm_is_shown(lab: Lab) -> None:
     lab.files.update(full_farm(int(time.time())))
     shown = lab.look()
+    assert (shown["boards"], len(shown["groups"])) == ([], 8), "of many boards the types are seen at first"
+    shown = lab.look("/?flat")
     assert (len(shown["boards"]), len(shown["queue"])) == (256, 50)
     assert shown["counts"]["queue"] == "(3,000)"
 

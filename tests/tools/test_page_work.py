@@ -14,8 +14,8 @@ import pytest
 from browser import Visit
 from nginx_site import WORDS, Site
 from pages import (
-    BUTTON, HEAD, HOUR, SHOWN, Lab, Shown, answer, begin_at, buttons, click, facts_of, names, seen, sort_by, tell_at,
-    text_of, until,
+    BUTTON, HEAD, HOUR, SHOWN, STATE, Lab, Shown, answer, begin_at, buttons, choose, click, facts_of, names, seen, sort_by,
+    tell_at, text_of, until,
 )
 from served import Farm, wait_until
 
@@ -43,10 +43,10 @@ def test_mine_shows_what_is_the_viewers_by_the_address_too(lab: Lab) -> None:
     assert names(shown, "reservations") == [str(waits)]
     assert shown["counts"]["boards"] == "(1 of 3)"
     assert opened.ask("location.search") == "?mine"
-    opened.ask("choose('hdmi')")
+    choose(opened, "hdmi")
     shown = opened.ask(SHOWN)
     assert (shown["boards"], len(shown["reservations"])) == ([], 1), "hers that have a word"
-    shown = lab.look("/?mine#hdmi")
+    shown = lab.look("/?mine&q=hdmi")
     assert (shown["boards"], len(shown["reservations"])) == ([], 1), "by its address"
     lab.user = "bob"
     shown = lab.look("/?mine")
@@ -82,7 +82,7 @@ def test_numbers_sort_by_size(lab: Lab) -> None:
         lab.farm.submit("true", "ccc", more=f"priority = {priority}\n")
     opened = lab.opened()
     sort_by(opened, "queue", "Priority")
-    assert [it[3] for it in opened.ask(SHOWN)["queue"]] == ["7", "20", "100"]
+    assert [it[4] for it in opened.ask(SHOWN)["queue"]] == ["7", "20", "100"]
 
 
 def test_boards_stand_by_type_with_counts_and_a_type_can_be_closed(lab: Lab) -> None:
@@ -93,7 +93,7 @@ def test_boards_stand_by_type_with_counts_and_a_type_can_be_closed(lab: Lab) -> 
     lab.passes()
     opened = lab.opened()
     assert opened.ask(SHOWN)["groups"] == [
-        ["bbb", "4 boards", "1 busy 1 bad 2 retired"],
+        ["bbb", "4 boards", "1 held 1 bad 2 retired"],
         ["ccc", "1 board", "1 free"],
     ]
     opener = "document.querySelector('#boards tr.group button')"
@@ -102,9 +102,9 @@ def test_boards_stand_by_type_with_counts_and_a_type_can_be_closed(lab: Lab) -> 
     assert names(opened.ask(SHOWN)) == ["c1"]
     assert opened.ask(f"{opener}.getAttribute('aria-expanded')") == "false"
     assert opened.ask(f"document.activeElement === {opener}"), "where the focus is"
-    opened.ask("choose('hdmi')")
+    choose(opened, "hdmi")
     assert names(opened.ask(SHOWN)) == ["b1"], "words look into it"
-    opened.ask("choose('')")
+    choose(opened, "")
     assert names(opened.ask(SHOWN)) == ["c1"]
     opened.key("Enter", 13, "\r")
     assert len(opened.ask(SHOWN)["boards"]) == 5
@@ -125,12 +125,12 @@ def test_an_unknown_board_of_a_type_with_a_check_isnt_free(lab: Lab) -> None:
     assert shown["groups"][0] == ["bbb", "3 boards", "3 free"]
     assert shown["groups"][2] == ["ddd", "2 boards", "1 free 1 to be checked"]
     assert [buttons(shown, "boards", it) for it in ("b3", "d1", "d2")] == ["Reserve", "", "Reserve"]
-    opened.ask("tagField.value = 'usb'; tagField.dispatchEvent(new Event('input')); tagField.focus()")
-    assert opened.ask("fitting.textContent") == "3 boards fit, 2 free"
+    opened.ask("tags.value = 'usb'; tags.dispatchEvent(new Event('input')); tags.focus()")
+    assert opened.ask("fits.textContent") == "3 boards fit, 2 free"
 
 
 def test_slash_goes_to_the_search_and_escape_leaves_search_and_dialogs(lab: Lab) -> None:
-    opened = lab.opened("/#b1")
+    opened = lab.opened("/?q=b1")
     opened.key("/", 191, "/")
     assert opened.ask("document.activeElement.id") == "filter"
     opened.key("/", 191, "/")
@@ -152,7 +152,7 @@ def test_slash_goes_to_the_search_and_escape_leaves_search_and_dialogs(lab: Lab)
 def test_a_click_beside_a_dialog_closes_it_and_one_within_does_not(lab: Lab) -> None:
     opened = lab.opened()
     click(opened, "boards", "b1", "b1")
-    left = opened.ask("boardDialog.getBoundingClientRect().left")
+    left = opened.ask("board.getBoundingClientRect().left")
     opened.click_at(left + 4, 500)
     assert text_of(opened, "dialog:modal h2") == "b1"
     opened.click_at(left - 4, 500)
@@ -165,12 +165,12 @@ def test_a_click_beside_a_dialog_closes_it_and_one_within_does_not(lab: Lab) -> 
 def test_a_board_is_reserved_by_tags_which_are_offered_and_counted(lab: Lab) -> None:
     opened = lab.opened()
     assert buttons(opened.ask(SHOWN), "boards", "b2") == "Reserve"
-    opened.ask("tagField.focus()")
+    opened.ask("tags.focus()")
     opened.do("Input.insertText", text="serial hd")
     assert opened.ask("[...completions.children].map(it => it.value)") == ["serial hdmi"]
-    assert opened.ask("fitting.textContent") == "0 boards fit, 0 free"
+    assert opened.ask("fits.textContent") == "0 boards fit, 0 free"
     opened.do("Input.insertText", text="mi")
-    assert opened.ask("fitting.textContent") == "1 board fits, 1 free"
+    assert opened.ask("fits.textContent") == "1 board fits, 1 free"
     opened.key("Enter", 13, "\r")
     shown = until(opened, "it is reserved", lambda it: it["reservations"])
     path, used, body = lab.given.pop()
@@ -178,7 +178,7 @@ def test_a_board_is_reserved_by_tags_which_are_offered_and_counted(lab: Lab) -> 
     assert re.fullmatch(r"[0-9a-f]{32}", str(used)), "its key"
     assert lab.farm.reservation(1)["owner"] == "ann"
     assert buttons(shown, "reservations", "1") == "Extend Cancel"
-    wait_until("the field is empty again", lambda: bool(opened.ask("tagField.value") == ""))
+    wait_until("the field is empty again", lambda: bool(opened.ask("tags.value") == ""))
 
 
 def test_a_board_is_taken_extended_and_given_back_by_keys(lab: Lab) -> None:
@@ -219,7 +219,7 @@ def test_a_command_without_an_answer_is_sent_again_under_its_key(lab: Lab) -> No
     lab.troubles = [0, 503]
     click(opened, "boards", "b2", "Reserve")
     until(opened, "it is reserved", lambda it: len(it["reservations"]) == 1)
-    wait_until("the answer", lambda: bool(opened.ask("told.size") == 0))
+    wait_until("the answer", lambda: bool(opened.ask(STATE.format("state.told.size")) == 0))
     assert (len(lab.given), len({it[1] for it in lab.given})) == (3, 1), "how often it was sent, under how many keys"
     assert len(lab.farm.look("/reservations")["reservations"]) == 1, "done once"
 
@@ -248,7 +248,7 @@ def test_what_was_reserved_here_and_waits_is_extended(make_lab: Callable[..., La
     lab.passes()
     lab.reserve("ann", "hdmi")
     opened = lab.opened()
-    opened.ask("tagField.value = 'hdmi'; reserveForm.requestSubmit()")
+    opened.ask("tags.value = 'hdmi'; reserve.requestSubmit()")
     until(opened, "it waits", lambda it: len(it["reservations"]) == 3)
     deadline = int(lab.farm.reservation(3)["deadline"])
     wait_until("a second later", lambda: time.time() > deadline - 58)
@@ -275,10 +275,10 @@ def test_a_refusal_is_told_in_words_beside_the_row(make_lab: Callable[..., Lab])
     assert buttons(shown, "reservations", number) == f"Take Extend Cancel {told}"
     assert buttons(shown, "boards", "b1") == "Take Extend Cancel", "not beside its board"
     assert shown["news"] == f"Take reservation {number}: {told}"
-    opened.ask("tagField.value = 'vga'; reserveForm.requestSubmit()")
+    opened.ask("tags.value = 'vga'; reserve.requestSubmit()")
     told = "refused: no such boards (no boards that aren't Retired have all these tags)"
     wait_until("a refusal", lambda: text_of(opened, "#reserve-told") == told)
-    assert opened.ask("tagField.value") == "vga", "the words stay"
+    assert opened.ask("tags.value") == "vga", "the words stay"
     assert len(lab.given) == 2, "neither is sent again"
     for scheme in ("light", "dark"):
         opened.set_scheme(scheme)
@@ -287,7 +287,7 @@ def test_a_refusal_is_told_in_words_beside_the_row(make_lab: Callable[..., Lab])
 
 def test_what_is_told_beside_a_row_goes_after_two_minutes(lab: Lab) -> None:
     opened = lab.opened()
-    opened.ask("tagField.value = 'vga'; reserveForm.requestSubmit()")
+    opened.ask("tags.value = 'vga'; reserve.requestSubmit()")
     wait_until("a refusal", lambda: str(text_of(opened, "#reserve-told")).startswith("refused: no such boards"))
     opened.ask("void (Date.now = (real => () => real() + 121000)(Date.now))")
     wait_until("it is gone", lambda: text_of(opened, "#reserve-told") == "")
@@ -400,9 +400,7 @@ def test_behind_nginx_the_page_knows_who_logged_in_and_its_commands_are_taken(
     found = farm.reservation(1)
     assert (found["owner"], found["tags"]) == ("ann", ["name=b2"])
     farm.tell("dispatcher", "/pass")
-    until(opened, "it is allocated", lambda it: it["reservations"][0][1] == "allocated")
-    click(opened, "boards", "b2", "Take")
-    until(opened, "it is acquired", lambda it: it["reservations"][0][1] == "acquired")
+    until(opened, "it is taken when it comes", lambda it: it["reservations"][0][1] == "acquired")
     assert farm.reservation(1)["state"] == "acquired"
     click(opened, "boards", "b2", "Give back")
     answer(opened, "Give back")

@@ -26,6 +26,7 @@ from farm_dispatch.collectors import Collectors
 from farm_dispatch.groups import KILLS_AFTER, LOST, NOT_BEGUN, Group, Groups, Later
 from farm_dispatch.members import Rows
 from farm_dispatch.past import Past
+from farm_dispatch.present import Present
 from farm_dispatch.retries import Retries
 from farm_dispatch.starts import Starts
 from fizgruk import calls, limits, settings
@@ -65,6 +66,7 @@ class Dispatcher:
         self.collectors = Collectors(options.artifact_count, options.artifact_limit, options.artifacts_limit)
         self.told: Set[str] = set()
         self.past = Past(desk, place, self.groups.open)
+        self.present = Present(desk, place, self.groups, self.past)
         self.retries = Retries(desk, own)
         self.passes = Counter(place)
         self.turns = Turns(options.every, options.serves != parts.ALL)
@@ -74,12 +76,14 @@ class Dispatcher:
         that the end of a job asks for. There is no pass while no command can be started."""
         room.keep(self.place)
         self.starts.look()
-        if passes:
-            clock = self.past.look().get("clock", 0)
-            if not self.starts.fault and self.turns.is_mine(clock):
-                self._pass()
+        status = self.past.look() if passes else {}
+        if passes and not self.starts.fault and self.turns.is_mine(status.get("clock", 0)):
+            self._pass()
         while self._take_up() and not self.starts.fault:
             self._pass()
+        self._try("what runs", None, self.present.show_running)
+        if passes:
+            self._try("what waits", None, self.present.show_waiting, status)
         self.starts.end_round()
 
     def _pass(self) -> None:
@@ -90,6 +94,7 @@ class Dispatcher:
         """Does what each group that holds boards asks for. Returns whether a group was finished."""
         lab = self.desk.look("/boards")["boards"]
         self._try("the boards' health", None, self.past.see, lab)
+        self.present.see(lab)
         groups = self._groups(lab)
         self.faults.keep(groups.keys() | self.groups.open)
         self.running = {}

@@ -1,0 +1,376 @@
+"""A user's day with the status page, by mouse, and a second person's by the keyboard alone; at each width, in each
+state, with texts of strangers, on a slow line."""
+from __future__ import annotations
+
+import json
+import os
+import re
+import subprocess
+import time
+from typing import Callable, Iterator, List, Set, Tuple
+
+import pytest
+
+import page_pictures
+from browser import Browser, Page
+from pages import (
+    HOUR, SHOWN, STATE, Lab, buttons, choose, click, facts_of, full_farm, past, record, seen, tell_at, text_of, until,
+)
+from served import TOP, Farm, wait_until
+
+pytestmark = pytest.mark.xdist_group("page2")
+WIDTHS = (320, 360, 390, 480, 640, 705, 768, 820, 900, 961, 1024, 1025, 1280, 1600, 2560)
+TALLEST = 140
+# The tallest row, and what reaches beyond the window and isn't in a part that can be moved aside.
+LAID_OUT = """(() => {
+  const rows = [...document.querySelectorAll("main tbody tr")];
+  const reaches = [...document.querySelectorAll("body *")].filter(it => it.checkVisibility()
+    && it.getBoundingClientRect().right > innerWidth + 1 && !it.closest(".unseen, thead"));
+  return [document.documentElement.scrollWidth, Math.max(...rows.map(it => it.offsetHeight)),
+    reaches.map(it => it.outerHTML.slice(0, 80))];
+})()"""
+
+
+@pytest.fixture(name="example", scope="module")
+def example_fixture(program: str, browser: Browser, tmp_path_factory: pytest.TempPathFactory) -> Iterator[Lab]:
+    """The example lab in use, as ann sees it."""
+    now = int(time.time())
+    lab = Lab(browser, Farm(program, str(tmp_path_factory.mktemp("example")), []), "ann")
+    lab.farm.kill()
+    words = [lab.farm.program, "import", "--db", lab.farm.db, "--at", str(now - 27 * HOUR),
+             os.path.join(TOP, "examples", "lab.toml")]
+    subprocess.run(words, check=True, stdout=subprocess.DEVNULL)
+    lab.farm.start()
+    page_pictures.use(lab.farm, now)
+    lab.files.update({"/history.json": page_pictures.past(now), "/logs/42": page_pictures.LOG.encode()})
+    lab.passes()
+    lab.files.update(page_pictures.present(lab.farm, now))
+    yield lab
+    lab.end()
+    lab.farm.kill()
+
+
+def test_at_each_width_nothing_reaches_beyond_it_and_no_row_is_tall(example: Lab) -> None:
+    opened = example.opened()
+    for wide in WIDTHS:
+        opened.resize(wide, 6000)  # (a row out of sight isn't laid out)
+
+        def fits(wide: int = wide) -> bool:
+            needed, tallest, reaches = opened.ask(LAID_OUT)
+            return bool(needed == wide and tallest <= TALLEST and not reaches)
+
+        wait_until(f"it fits {wide}", fits, 20)
+    opened.close()
+
+
+def test_what_runs_and_what_waits_is_told_of_each(example: Lab) -> None:
+    opened = example.opened()
+    shown = opened.ask(SHOWN)
+    assert shown["queue"][0][:5] == ["1", "group 14", "ci", "rpi4b", "100"]
+    assert shown["queue"][0][6].startswith("4 boards fit: 1 Bad, 3 held (job 12 of ann, reservation 5 of bob")
+    assert shown["queue"][2][6] == "can't be served: rpi4b-03 is Bad"
+    since = {row[0]: row[5] for row in shown["boards"]}
+    assert since["rpi4b-02"] == "5 h" and re.fullmatch(r"\d\d min", since["qemu-01"])
+    choose(opened, "nightly")
+    assert [row[1] for row in opened.ask(SHOWN)["queue"]] == ["group 14", "group 15", "group 16"]
+    opened.ask("void (location.hash = '#/jobs/15')")
+    place = "place 2 of 4 in the queue: 4 boards fit"
+    wait_until("why it waits", lambda: facts_of(opened, "job").get("Waits", "").startswith(place))
+    opened.ask("void (location.hash = '#/jobs/7')")
+    runs = r"\d\d minutes of 60 minutes at most"
+    wait_until("how long it runs", lambda: bool(re.fullmatch(runs, facts_of(opened, "job").get("Runs for", ""))))
+    opened.close()
+
+
+def test_back_and_forward_go_from_one_to_the_next(example: Lab) -> None:
+    opened = example.opened("/?q=rpi4b#/boards/rpi4b-02")
+    title = "document.querySelector('dialog:modal h2')?.textContent || ''"
+    wait_until("by its address", lambda: bool(opened.ask(title) == "rpi4b-02"))
+    opened.ask("void (location.hash = '#/jobs/42')")
+    wait_until("a job", lambda: bool(opened.ask(title).startswith("Job 42")))
+    opened.ask("history.back()")
+    wait_until("back", lambda: bool(opened.ask(title) == "rpi4b-02"))
+    opened.ask("history.forward()")
+    wait_until("forward", lambda: bool(opened.ask(title).startswith("Job 42")))
+    opened.key("Escape", 27)
+    wait_until("closed", lambda: bool(opened.ask(title) == ""))
+    assert opened.ask("[location.search, location.hash]") == ["?q=rpi4b", ""]
+    opened.ask("document.querySelector('#boards a.owner').click()")
+    assert opened.ask("[decodeURIComponent(location.search), filter.value]") == ['?q="ann"', '"ann"'], "all of an owner"
+    opened.close()
+
+
+def test_a_grid_shows_all_boards_free_ones_or_ones_own(example: Lab) -> None:
+    opened = example.opened("/?grid")
+    tiles = "[...document.querySelectorAll('#tiles a')].map(it => [it.textContent, it.className.split(' ').pop()])"
+    shown = dict(opened.ask(tiles))
+    assert len(shown) == 12
+    assert [shown[it] for it in ("qemu-04", "rpi4b-02", "qemu-01", "rpi4b-03", "bbb-02")] == [
+        "free", "held", "running", "bad", "in-Maintenance"]
+    opened.ask("free.click()")
+    assert opened.ask(tiles) == [["qemu-04", "free"]]
+    for scheme in ("light", "dark"):
+        opened.set_scheme(scheme)
+        assert opened.poor_texts() == set(), scheme
+    opened.close()
+
+
+def test_256_boards_are_one_screen(lab: Lab) -> None:
+    lab.files.update(full_farm(int(time.time())))
+    opened = lab.opened("/?grid", wide=1280, high=1000)
+    assert opened.ask("document.querySelectorAll('#tiles a').length") == 256
+    assert opened.ask("document.getElementById('tiles').offsetHeight") < 900
+    opened.ask("grid.click()")
+    stops = "[...document.querySelectorAll('a, button, input')].filter(it => it.checkVisibility() && it.tabIndex >= 0)"
+    assert opened.ask(f"{stops}.length") < 300
+
+
+# ---- reserving
+
+
+def test_two_quick_clicks_make_one_reservation(lab: Lab) -> None:
+    opened = lab.opened()
+    opened.ask("tags.value = 'hdmi'; reserve.requestSubmit(); reserve.requestSubmit()")
+    until(opened, "it is reserved", lambda it: it["reservations"])
+    opened.ask("tags.value = 'hdmi'; reserve.requestSubmit()")
+    click(opened, "boards", "b2", "Reserve")
+    wait_until("the second board", lambda: len(lab.given) > 1)
+    until(opened, "it can be ended where it was asked for", lambda it: buttons(it, "boards", "b2") == "Extend Cancel")
+    assert [json.loads(it[2])["tags"] for it in lab.given] == [["hdmi"], ["name=b2"]]
+    opened.ask("reserve.requestSubmit()")
+    assert text_of(opened, "#question p") == "Reserve any board, of whatever type?"
+
+
+HIDDEN = "(Object.defineProperty(document, 'hidden', {value: true, configurable: true}), undefined)"
+
+
+def test_a_reservation_of_the_page_lives_over_a_reload_and_out_of_sight_and_is_taken(make_lab: Callable[..., Lab]) -> None:
+    lab = make_lab()
+    number = lab.reserve("bob", "hdmi")
+    lab.passes()
+    opened = lab.opened()
+    opened.ask("tags.value = 'hdmi'; reserve.requestSubmit()")
+    until(opened, "it waits", lambda it: len(it["reservations"]) == 2)
+    opened.ask("location.reload()")
+    wait_until("it is there again", lambda: bool(opened.ask(f"{STATE.format('state.reserved.size')}") == 1))
+    seen(opened)
+    lab.date = int(lab.farm.reservation(2)["deadline"]) - 20
+    wait_until("it is extended", lambda: ("/reservations/2/refresh", None, "") in lab.given)
+    lab.date = None
+    opened.ask(HIDDEN)
+    lab.farm.tell("bob", f"/reservations/{number}/cancel")
+    lab.passes()
+    wait_until("it is taken", lambda: bool(lab.farm.reservation(2)["state"] == "acquired"))
+    wait_until("its title says so", lambda: bool(opened.ask("document.title").startswith("(b1 is yours)")))
+
+
+def test_without_the_tick_a_board_is_only_reserved(lab: Lab) -> None:
+    opened = lab.opened()
+    opened.ask("takes.click(); tags.value = 'hdmi'; reserve.requestSubmit()")
+    until(opened, "it is reserved", lambda it: it["reservations"])
+    lab.passes()
+    until(opened, "it is offered", lambda it: buttons(it, "boards", "b1") == "Take Extend Cancel")
+    lab.looks_twice()
+    assert lab.farm.reservation(1)["state"] == "allocated"
+
+
+# ---- submitting, usage, further back
+
+
+def test_a_job_is_submitted_and_its_faults_are_told_by_line(lab: Lab) -> None:
+    opened = lab.opened("/#/submit")
+    send = "document.getElementById('submit-form').requestSubmit()"
+    field = "document.getElementById('job-file').value"
+    for text, told in [
+        ("job_name = 'x'\\ndevice_type = 'ddd'", "refused: line 2: no such type: there is no such type"),
+        ("job_name = 'x'\\ndevice_type = 'bbb'\\npriority = 101", "refused: line 3: bad priority"),
+        ("job_name = 'x\\ndevice_type = 'bbb'", "refused: line 1: this line is no TOML"),
+        ("device_type = 'bbb'", "refused: it has no job_name"),
+    ]:
+        opened.ask(f"{field} = \"{text}\"; {send}")
+        wait_until(told, lambda: str(text_of(opened, "#faults")).startswith(told))  # noqa: B023
+    opened.ask(f"{field} = \"job_name = 'mine'\\ndevice_type = 'bbb'\"; {send}")
+    wait_until("its job is open", lambda: text_of(opened, "#job-title") == "Job 1: mine")
+    assert opened.ask("location.hash") == "#/jobs/1"
+    opened.ask("document.getElementById('again').click()")
+    wait_until("its text again", lambda: "mine" in str(opened.ask(field)))
+    opened.ask(send)
+    wait_until("another job", lambda: opened.ask("location.hash") == "#/jobs/2")
+    assert lab.farm.job(2)["text"] == lab.farm.job(1)["text"]
+
+
+def test_usage_is_drawn_as_bars_by_owner_type_or_board(lab: Lab) -> None:
+    now = int(time.time())
+    lines = [record(1, "ann", "b1", now - 60), record(2, "bob", "b2", now - 60)]
+    lines[0]["began"] = now - 60 - 2 * HOUR
+    lab.files["/history.jsonl"] = "".join(f"{json.dumps(it)}\n" for it in lines).encode()
+    opened = lab.opened("/#/usage")
+    sums = "[...document.querySelectorAll('#usage-sums li')].map(it => it.textContent)"
+    wait_until("its sums", lambda: bool(opened.ask(sums) == ["ann: 2.0 hours", "bob: 0.0 hours"]))
+    opened.ask("document.getElementById('usage-by').value = 'board'")
+    opened.ask("document.getElementById('usage-by').dispatchEvent(new Event('change'))")
+    assert opened.ask(sums) == ["b1: 2.0 hours", "b2: 0.0 hours"]
+    drawn = "document.querySelector('#usage-days svg').getAttribute('aria-label')"
+    assert opened.ask(drawn).startswith("hours by day: ")
+
+
+def test_a_boards_history_goes_further_back_on_demand(lab: Lab) -> None:
+    now = int(time.time())
+    past(lab, record(900, "ann", "b1", now - 300))
+    old = [record(it, "bob", "b2", now - 90000 + it) for it in range(1, 30)]
+    lab.files["/history.jsonl"] = "".join(f"{json.dumps(it)}\n" for it in old).encode()
+    opened = lab.opened("/#/boards/b2")
+    wait_until("what is told at once", lambda: str(text_of(opened, "#older-said")).startswith("Of the farm's last 1 jobs"))
+    assert opened.ask(SHOWN)["board-history"] == []
+    opened.ask("document.getElementById('older').click()")
+    wait_until("its own", lambda: len(opened.ask(SHOWN)["board-history"]) == 20)
+    assert text_of(opened, "#older-said") == "all that there is"
+    assert opened.ask(SHOWN)["board-history"][0][1] == "job 29"
+
+
+# ---- states
+
+
+def accessible(opened: Page) -> Set[Tuple[str, str]]:
+    """The roles and names that a reader of the screen is told."""
+    tree = opened.do("Accessibility.getFullAXTree")["nodes"]
+    return {(it["role"]["value"], it.get("name", {}).get("value", "")) for it in tree if "role" in it}
+
+
+NAMED = ("button", "textbox", "searchbox", "link", "checkbox", "dialog", "combobox", "table", "img")
+
+
+@pytest.mark.parametrize("address, wanted", [
+    ("/", ("table", "Queue (4)")), ("/?grid", ("link", "qemu-04: free")), ("/#/boards/rpi4b-02", ("dialog", "rpi4b-02")),
+    ("/#/jobs/42", ("dialog", "Job 42: kernel next")), ("/#/submit", ("dialog", "Submit a job")),
+    ("/#/usage", ("dialog", "Usage of the last 14 days")), ("/#/keys", ("dialog", "Keys")),
+])
+def test_in_each_state_all_has_a_name_and_contrast(example: Lab, address: str, wanted: Tuple[str, str]) -> None:
+    opened = example.opened(address)
+    wait_until(f"there is {wanted}", lambda: wanted in accessible(opened))
+    assert [it for it in accessible(opened) if it[0] in NAMED and not it[1]] == [], "what has no name"
+    for scheme in ("light", "dark"):
+        opened.set_scheme(scheme)
+        assert opened.poor_texts() == set(), scheme
+    opened.close()
+
+
+def test_a_desk_that_is_down_leaves_an_old_page_without_live_buttons(lab: Lab) -> None:
+    lab.reserve("ann", "hdmi")
+    opened = lab.opened()
+    live = "[...document.querySelectorAll('main .actions button, #reserve button')].filter(it => !it.disabled).length"
+    assert opened.ask(live) > 2
+    lab.farm.kill()
+    shown = until(opened, "no answer", lambda it: it["said"].startswith("no answer"))
+    assert len(shown["boards"]) == 3
+    assert opened.ask(live) == 0
+    assert opened.ask("document.body.classList.contains('stale')")
+    lab.farm.start()
+    seen(opened)
+    until(opened, "it comes back", lambda it: it["said"].startswith("as of"))
+    assert opened.ask(live) > 2
+
+
+def test_a_fault_of_the_page_is_told_as_that(lab: Lab) -> None:
+    opened = lab.opened()
+    lab.files["/queue"] = b'{"queue":[{"kind":"reservation"}],"x":1}'
+    lab.files["/boards"] = b'{"boards":[{"name":"b1"}]}'
+    until(opened, "a fault", lambda it: it["said"].startswith("a fault of this page: TypeError"))
+
+
+def test_a_farm_without_boards_says_how_they_come(make_lab: Callable[..., Lab]) -> None:
+    lab = make_lab([])
+    assert lab.look()["text"]["boards"].startswith("no boards yet: an admin adds them")
+
+
+HOSTILE = '<img src=x onerror="document.title=1"><b>bold</b>'
+
+
+def test_long_and_hostile_texts_stay_in_their_rows(make_lab: Callable[..., Lab]) -> None:
+    lab = make_lab(at=time.time())
+    number = tell_at(lab.farm, time.time(), "ann", "/jobs", (
+        f'job_name = "\\u202eabc {HOSTILE.replace(chr(34), "")}{"n" * 20000}"\ndevice_type = "ccc"\n').encode())
+    tell_at(lab.farm, time.time(), "dispatcher", "/pass")
+    lab.farm.start()
+    past(lab, record(900, "ann", "b1", int(time.time()), reason=f"{HOSTILE} {'r' * 5000}"))
+    opened = lab.opened(wide=390)
+    shown = opened.ask(SHOWN)
+    assert shown["boards"][2][4].startswith(f"ann job {number} \u27e8U+202E\u27e9abc <img src=x")
+    assert opened.ask("[document.querySelector('main img, main b'), document.title]") == [None, "Board farm"]
+    assert opened.ask("document.documentElement.scrollHeight") < 3000
+    assert opened.ask("document.documentElement.scrollWidth") == 390
+    more = "document.querySelector('#ended button.more')"
+    assert opened.ask(f"{more}.parentElement.textContent.length") < 250
+    opened.ask(f"{more}.click()")
+    assert opened.ask(f"{more}.parentElement.textContent.length") > 5000, "the rest on demand"
+
+
+def test_a_log_is_shown_as_a_terminal_would(lab: Lab) -> None:
+    number = lab.farm.submit("true", "ccc")
+    lab.passes()
+    lab.farm.tell("dispatcher", f"/jobs/{number}/start")
+    past(lab)
+    lab.files[f"/logs/{number}"] = b"\x1b]0;title\x07\x1b[31mred\x1b[0m\n10 %\r99 %\n\xe2\x80\xae<b>x</b>\n"
+    opened = lab.opened(f"/#/jobs/{number}")
+    wait_until("its log", lambda: text_of(opened, "#log") == "red\n99 %\n\u27e8U+202E\u27e9<b>x</b>\n")
+    assert text_of(opened, "#log .red") == "red"
+
+
+# ---- a slow line
+
+
+def test_on_a_slow_line_boards_come_in_three_round_trips_and_owners_in_five(lab: Lab) -> None:
+    """The page, its files, and the views; owners with them, by one file for all."""
+    views = full_farm(int(time.time()))
+    lab.files.update(views)
+    jobs = [{"job": int(it["holder"].split()[1]), "group": 1, "owner": "bob", "board": it["name"], "type": it["type"],
+             "name": "boot", "began": 1, "limit": 60}
+            for it in json.loads(views["/boards"])["boards"] if it["holder"].startswith("job ")]
+    lab.files["/running.json"] = json.dumps({"at": 1, "jobs": jobs, "holds": []}).encode()
+    lab.files["/waiting.json"] = b'{"at":1,"groups":[]}'
+    opened = lab.opened("/?flat")
+    assert opened.ask(SHOWN)["boards"][0][4] == "bob job 1 boot"
+    asked: List[str] = [path for path, _ in lab.asked]
+    assert {"/queue", "/boards", "/status", "/types", "/whoami", "/running.json", "/history.json"} <= set(asked[:11])
+    assert [it for it in asked if it.startswith("/jobs/")] == [f"/jobs/{it}" for it in range(1000, 1005)], "those that wait"
+
+
+# ---- a day by the keyboard alone
+
+
+def test_a_day_by_the_keyboard_alone(lab: Lab) -> None:
+    opened = lab.opened()
+    focused = "document.activeElement.textContent"
+    opened.key("j", 74, "j")
+    opened.key("j", 74, "j")
+    assert opened.ask(focused) == "b1"
+    opened.key("k", 75, "k")
+    opened.key("j", 74, "j")
+    opened.key("Enter", 13, "\r")
+    wait_until("the board", lambda: text_of(opened, "dialog:modal h2") == "b1")
+    opened.key("Escape", 27)
+    wait_until("closed", lambda: text_of(opened, "dialog:modal h2") is None)
+    opened.key("?", 191, "?")
+    wait_until("the keys", lambda: text_of(opened, "dialog:modal h2") == "Keys")
+    opened.key("Escape", 27)
+    wait_until("closed", lambda: text_of(opened, "dialog:modal h2") is None)
+    opened.key("/", 191, "/")
+    opened.do("Input.insertText", text="hdmi")
+    assert len(opened.ask(SHOWN)["boards"]) == 1
+    while opened.ask("document.activeElement.getAttribute('aria-label')") != "Reserve b1":
+        opened.key("Tab", 9)
+    opened.key("Enter", 13, "\r")
+    wait_until("it is reserved", lambda: bool(lab.farm.look("/reservations")["reservations"]))
+    lab.passes()
+    wait_until("it is taken", lambda: bool(lab.farm.reservation(1)["state"] == "acquired"))
+    until(opened, "it can be given back", lambda it: buttons(it, "boards", "b1") == "Extend Give back")
+    opened.ask("document.activeElement.blur()")
+    while opened.ask("document.activeElement.getAttribute('aria-label')") != "Give back reservation 1":
+        opened.key("Tab", 9)
+    opened.key("Enter", 13, "\r")
+    wait_until("the question", lambda: "Give back b1?" in str(text_of(opened, "dialog:modal p")))
+    opened.key("Tab", 9)
+    opened.key("Enter", 13, "\r")
+    wait_until("it is given back", lambda: bool(lab.farm.reservation(1)["state"] == "canceled"))
+    opened.key("n", 78, "n")
+    wait_until("a job", lambda: text_of(opened, "dialog:modal h2") == "Submit a job")

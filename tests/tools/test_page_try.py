@@ -1,0 +1,114 @@
+"""farm-page, the status page of a desk on one's own machine: what a newcomer sees, and what it refuses."""
+from __future__ import annotations
+
+import http.client
+import json
+import os
+import re
+import subprocess
+import sys
+from typing import Any, Callable, Dict, Optional, Tuple
+
+import pytest
+
+from browser import Browser
+from pages import BOARDS, click, seen, until
+from served import TOOLS, Farm, Tool, environment, read, wait_until
+
+pytestmark = pytest.mark.xdist_group("page1")
+
+
+@pytest.fixture(name="farm")
+def farm_fixture(make_farm: Callable[..., Farm]) -> Farm:
+    return make_farm(BOARDS)
+
+
+@pytest.fixture(name="place")
+def place_fixture(folder: str) -> str:
+    """A dispatcher's folder, with a log, and with a link to a file of somebody else."""
+    os.makedirs(f"{folder}/jobs/logs")
+    files = {"history.json": '{"at":1,"jobs":[],"boards":[]}', "logs/1": "one\ntwo\n", "healths.json": "{}"}
+    for name, text in files.items():
+        with open(f"{folder}/jobs/{name}", "w", encoding="utf-8") as file:
+            file.write(text)
+    os.symlink("/etc/passwd", f"{folder}/jobs/logs/2")
+    return f"{folder}/jobs"
+
+
+@pytest.fixture(name="port")
+def port_fixture(farm: Farm, place: str, start_tool: Callable[..., Tool]) -> int:
+    """The port at which the page of a farm is served for ann."""
+    words = ["farm-page", "--server", farm.server, "--user", "ann", "--port", "0", "--folder", place]
+    tool = start_tool(*words)
+    line = wait_until("it listens", lambda: re.match(r"http://127\.0\.0\.1:(\d+)/ as ann\n", tool.output()))
+    return int(line.group(1))
+
+
+def ask(
+    port: int, method: str, path: str, body: Optional[str] = None, **fields: str
+) -> Tuple[int, Dict[str, str], bytes]:
+    """The status, the fields and the body of an answer."""
+    line = http.client.HTTPConnection("127.0.0.1", port, timeout=60)
+    try:
+        line.request(method, path, body=body, headers={name.replace("_", "-"): it for name, it in fields.items()})
+        answer = line.getresponse()
+        return answer.status, {name.lower(): it for name, it in answer.getheaders()}, answer.read()
+    finally:
+        line.close()
+
+
+def test_a_newcomer_sees_the_boards_and_reserves_one(farm: Farm, port: int, browser: Browser) -> None:
+    visit = browser.visit()
+    opened = visit.open(f"http://127.0.0.1:{port}/")
+    shown = seen(opened)
+    assert (shown["who"], len(shown["boards"]), shown["quiet"]) == ("ann", 3, "")
+    click(opened, "boards", "b2", "Reserve")
+    until(opened, "it is reserved", lambda it: it["reservations"])
+    assert farm.reservation(1)["owner"] == "ann"
+    visit.end()
+
+
+def test_it_shows_what_a_dispatcher_keeps_for_all_and_nothing_else(port: int) -> None:
+    assert ask(port, "GET", "/history.json")[::2] == (200, b'{"at":1,"jobs":[],"boards":[]}')
+    status, fields, body = ask(port, "GET", "/logs/1", range="bytes=-4")
+    assert (status, fields["content-range"], body) == (206, "bytes 4-7/8", b"two\n")
+    assert fields["content-type"] == "text/plain; charset=utf-8"
+    assert ask(port, "GET", "/logs/1", range="bytes=9-")[0] == 416
+    assert ask(port, "GET", "/logs/1", range="bytes=1-2")[::2] == (206, b"ne")
+    for path in ("/logs/2", "/logs/3", "/healths.json", "/logs/../healths.json", "/page/..%2fdesk", "/page/farm.html"):
+        assert ask(port, "GET", path)[0] == 404, path
+    fields = ask(port, "GET", "/page/farm.js")[1]
+    assert fields["content-type"] == "text/javascript; charset=utf-8"
+    assert "script-src 'self'" in fields["content-security-policy"]
+
+
+RESERVES = json.dumps({"tags": []})
+FOREIGN: Any = [
+    {"origin": "http://lab.example"}, {"sec_fetch_site": "cross-site"}, {"sec_fetch_site": "same-site"},
+    {"host": "lab.example"}, {"origin": "null"},
+]
+
+
+@pytest.mark.parametrize("fields", FOREIGN)
+def test_it_takes_no_command_of_a_foreign_page(farm: Farm, port: int, fields: Dict[str, str]) -> None:
+    assert ask(port, "POST", "/reservations", RESERVES, **fields)[0] == 403
+    assert farm.look("/reservations")["reservations"] == []
+
+
+def test_it_asks_in_its_user_s_name_alone(farm: Farm, port: int) -> None:
+    assert ask(port, "POST", "/reservations", RESERVES, x_user="admin", origin=f"http://127.0.0.1:{port}")[0] == 200
+    assert farm.reservation(1)["owner"] == "ann"
+    assert ask(port, "GET", "/queue", host="lab.example")[0] == 403, "led here by a foreign name"
+
+
+def test_it_takes_no_desk_of_another_machine() -> None:
+    words = [sys.executable, os.path.join(TOOLS, "farm-page"), "--server", "https://farm.lab.example"]
+    ran = subprocess.run(words, capture_output=True, text=True, check=False, env=environment())
+    wanted = "farm-page: https://farm.lab.example isn't a desk of this machine\n"
+    assert (ran.returncode, ran.stderr) == (4, wanted)
+
+
+def test_a_desk_that_is_down_is_told(farm: Farm, port: int) -> None:
+    farm.kill()
+    assert ask(port, "GET", "/queue")[::2] == (502, b'{"code": 502, "text": "Bad Gateway"}')
+    assert read(os.path.join(TOOLS, "page", "farm.html")).encode() == ask(port, "GET", "/")[2]

@@ -1,0 +1,1 @@
+"""farm-page: the status page of a desk on one's own machine, for a try."""
