@@ -3,7 +3,7 @@ from __future__ import annotations
 
 import json
 import pathlib
-from typing import Dict, List
+from typing import Any, Dict, List
 
 from farm_watch.rules import Rules, Webhook
 from farm_watch.shut import Shut
@@ -18,7 +18,7 @@ def test_it_is_told_once_that_a_board_is_shut_and_once_that_it_is_open(tmp_path:
     troubles: List[str] = []
 
     def look(shut: Dict[str, int]) -> List[str]:
-        boards = {it: {"ways": [], "sessions": [], **({"shut": shut[it]} if it in shut else {})} for it in ("b1", "b2")}
+        boards: Dict[str, Any] = {it: {"ways": [], "sessions": [], **({"shut": shut[it]} if it in shut else {})} for it in ("b1", "b2")}
         file.write_text(json.dumps({"boards": boards}))
         Shut(store, rules, troubles.append).look()  # one of its own each time, as after a kill
         return told()
