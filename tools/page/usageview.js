@@ -6,7 +6,7 @@ import {get} from "./requests.js";
 import {busyHours, linesOf, usageOf} from "./usage.js";
 
 const DAYS = 14, MOST_READ = 4000000, NAMED = 6, WIDE = 700, HIGH = 180;
-const SVG = "http://www.w3.org/2000/svg";
+const SVG = document.querySelector("#usage-days svg").namespaceURI;
 let lines = null;
 
 export async function openUsage() {
