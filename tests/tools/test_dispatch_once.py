@@ -16,7 +16,7 @@ import pytest
 from dispatch_lab import BOARDS, CAGES, Lab, MakeLab, Proxy, end_commands, jobs_of, runner_of
 from dispatch_lab import lab_fixture, make_lab_fixture  # noqa: F401
 from farm_dispatch import cages
-from served import MODULES, STARTED, TOOLS, Tool, environment, read, wait_until
+from served import MODULES, PATIENCE, STARTED, TOOLS, Tool, environment, read, wait_until
 from wants import lacks, wants
 
 ONE = BOARDS[:1]
@@ -67,7 +67,7 @@ DIES_WITHOUT_FOLDER = """
 import shutil
 def dying(call):
     def called(name, *words, **more):
-        there = str(name).endswith("/1")
+        there = str(name).endswith(("/groups/1", "/jobs/1"))
         said = call(name, *words, **more)
         if there:
             note()
@@ -415,21 +415,21 @@ def test_never_begun_in_an_older_farm(make_lab: MakeLab, state: str) -> None:
 def test_late_start(make_lab: MakeLab) -> None:
     """Where a Start comes late, its folder is still there: a kill then makes no lost job of one that never began."""
     lab = make_lab(ONE)
-    late, asked = threading.Event(), []
+    late, again, first = threading.Event(), threading.Event(), threading.Lock()
 
     def hook(method: str, path: str, key: Optional[str]) -> Optional[Tuple[int, bytes]]:
         if path != "/jobs/1/start":
             return None
-        asked.append(key)
-        if len(asked) > 1:
+        if not first.acquire(blocking=False):
+            again.set()
             return 503, b""
-        late.wait(60)
+        late.wait(PATIENCE)
         return None
 
     proxy = Proxy(lab.farm, hook)
     number = lab.farm.submit("true")
     dispatcher = lab.patched(DIES_WITHOUT_FOLDER, "--timeout", "1", server=proxy.server)
-    wait_until("it is asked again, or dead", lambda: len(asked) > 1 or dispatcher.poll() is not None)
+    wait_until("it is asked again, or dead", lambda: again.is_set() or dispatcher.poll() is not None)
     dispatcher.kill()
     dispatcher.wait()
     late.set()

@@ -63,6 +63,10 @@ def test_two(board):
 """
 
 
+# (Debian's plugin of labgrid takes a second to read)
+PLUGINS = ("-p", "no:cacheprovider", "-p", "no:labgrid", "-p", "fizgruk.pytest_plugin")
+
+
 class Session:
     """A run of pytest in a folder with one file of tests."""
 
@@ -73,12 +77,12 @@ class Session:
         around = {"DESK_SERVER": farm.server, "DESK_USER": "ann", **more}
         with open(self.file, "wb") as output:
             self.process = subprocess.Popen(
-                [sys.executable, "-m", "pytest", "-p", "no:cacheprovider", "-p", "fizgruk.pytest_plugin", *words],
+                [sys.executable, "-m", "pytest", *PLUGINS, *words],
                 cwd=folder,
                 stdin=subprocess.DEVNULL,
                 stdout=output,
                 stderr=subprocess.STDOUT,
-                env=environment(PYTHONPATH=PATH, PYTHONDONTWRITEBYTECODE="1", **around),
+                env=environment(PYTHONPATH=PATH, **around),
             )
         STARTED.append(self.process)
 
