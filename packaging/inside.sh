@@ -131,6 +131,26 @@ grep -q '^accepted 15, kept 0$' "$log" && grep -qx 'qemu-01 Good' "$log" || fail
 curl -sS http://127.0.0.1:880/status | grep -q '"next":1,' || fail "the next farm isn't new"
 echo "package: the next farm begins as USING.md says"
 
+# ---- the way to boards: nothing begins with it; then who holds a board gets to it, and purging leaves keys alone
+install ./fizgruk-access_*.deb
+for it in farm-access-sshd farm-access-guard; do unit $it disabled inactive 'the way to boards'; done
+printf '[[ways]]\nsay = ["/bin/echo"]\n' > /etc/farm/access.toml
+ssh-keygen -q -t ed25519 -N '' -C '' -f /root/key
+install -m 644 /root/key.pub /etc/farm/keys/ann
+systemctl enable -q --now farm-access-sshd farm-access-guard
+desk --user ann reserve virtual --acquire > /tmp/board 2> /dev/null || fail "a reservation of the next farm"
+farm-access check > "$log" || fail "farm-access check: $(cat "$log")"
+said=$(ssh -F none -i /root/key -p 2222 -o BatchMode=yes -o StrictHostKeyChecking=no -o UserKnownHostsFile=/tmp/known \
+    board@127.0.0.1 qemu-01 say here 2> "$log") || fail "who holds a board: $(cat "$log")"
+[ "$said" = here ] || fail "who holds a board gets $said"
+does dpkg -i ./fizgruk-access_*.deb
+for it in farm-access-sshd farm-access-guard; do unit $it enabled active 'an upgrade of the way to boards'; done
+does apt-get purge -y fizgruk-access
+[ "$(ls /etc/farm/keys)" = ann ] && ! [ -e /var/lib/farm-access ] || fail "what purging the way to boards leaves"
+rm -r /root/key /root/key.pub /etc/farm/keys
+desk --user ann cancel-reservation 1
+echo "package: the way to boards begins when it is enabled, and lets in who holds a board"
+
 # ---- a farm of the first edition is made this edition's, by an upgrade and where a package was removed before
 for file in lab.db lab.db-wal; do
     gunzip -c "/srv/first_edition/$file.gz" > "/tmp/$file"

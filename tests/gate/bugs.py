@@ -91,6 +91,7 @@ def python_with_pytest() -> str:
 def is_seen(bug: Bug, program: str) -> bool:
     """Whether the bug's test fails with it. Raises BadBug where it doesn't even run, or fails without it."""
     with tempfile.TemporaryDirectory() as folder:
+        os.chmod(folder, 0o755)  # accounts of tests' labs read the copy
         copy = pathlib.Path(folder, "project")
         for part in PARTS:
             shutil.copytree(TOP / part, copy / part, symlinks=True, ignore=shutil.ignore_patterns("__pycache__"))
