@@ -136,7 +136,7 @@ install ./fizgruk-access_*.deb
 for it in farm-access-sshd farm-access-guard; do unit $it disabled inactive 'the way to boards'; done
 printf '[[ways]]\nsay = ["/bin/echo"]\n' > /etc/farm/access.toml
 ssh-keygen -q -t ed25519 -N '' -C '' -f /root/key
-install -m 644 /root/key.pub /etc/farm/keys/ann
+cp /root/key.pub /etc/farm/keys/ann
 systemctl enable -q --now farm-access-sshd farm-access-guard
 desk --user ann reserve virtual --acquire > /tmp/board 2> /dev/null || fail "a reservation of the next farm"
 farm-access check > "$log" || fail "farm-access check: $(cat "$log")"

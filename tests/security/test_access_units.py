@@ -1,5 +1,5 @@
-"""The way to boards by its packaged units, under a systemd: sessions, restarts and stops of the units, sudo in a lab's
-own way, and jobs by docs/boards.md's units, of one account with the sessions and of two."""
+"""The way to boards by its packaged units, under a systemd: sessions, restarts and stops of the units, no sudo in a
+lab's own way, and jobs by docs/boards.md's units, of one account with the sessions and of two."""
 from __future__ import annotations
 
 import os
@@ -29,12 +29,11 @@ ssh-keygen -q -t ed25519 -N '' -C '' -f /root/ssh/ann
 install -m 644 /root/ssh/ann.pub /etc/farm/keys/ann
 """
 WAYS = """\
-{cage}
 [[ways]]
 say = ["/bin/echo"]
 sleep = ["/bin/sleep", "600"]
 root = ["/usr/bin/sudo", "-n", "/usr/bin/id", "-u"]
-after = ["/bin/sh", "-c", "echo {{board}} >> /var/lib/farm-access/after"]
+after = ["/bin/sh", "-c", "echo {board} >> /var/lib/farm-access/after"]
 """
 SSH = ["ssh", "-F", "none", "-p", "2222", "-i", "/root/ssh/ann", "-o", "BatchMode=yes", "-o", "StrictHostKeyChecking=no",
        "-o", "UserKnownHostsFile=/root/known", "-o", "LogLevel=ERROR", "board@127.0.0.1"]
@@ -50,7 +49,7 @@ class Lab(MachineLab):
         machine.run("sh", "-c", SET_UP)
         machine.write("/etc/sudoers.d/board", "board ALL=(root) NOPASSWD: /usr/bin/id\n", 0o440)
         machine.write("/etc/farm/run-job", COMMAND, 0o755)
-        self.cage("")
+        machine.write("/etc/farm/access.toml", WAYS)
         machine.serve()
         self.tell("admin", "/types", {"name": "bbb"})
         for name in ("b1", "b2"):
@@ -58,9 +57,6 @@ class Lab(MachineLab):
             self.tell("admin", f"/boards/{name}/health", {"health": "Good"})
         machine.run("systemctl", "start", *UNITS)
         self.number = self.reserve("b1")
-
-    def cage(self, form: str) -> None:
-        self.machine.write("/etc/farm/access.toml", WAYS.format(cage=f'cage = "{form}"' if form else ""))
 
     def reserve(self, board: str) -> int:
         number = int(self.tell("ann", "/reservations", {"tags": [f"name={board}"]})["number"])
@@ -72,6 +68,10 @@ class Lab(MachineLab):
 
     def ssh(self, *words: str) -> "subprocess.CompletedProcess[str]":
         return self.machine.run(*SSH, *words, check=False)
+
+    def says(self) -> str:
+        """What a session says, once sshd listens."""
+        return self.machine.wait("a session", *SSH, "b1", "say", "x")
 
     def begin(self) -> None:
         """A session that goes on; its command is in a cgroup of its own."""
@@ -102,13 +102,9 @@ def lab(machine: Machine) -> Iterator[Lab]:
     yield Lab(machine)
 
 
-def test_a_session_by_the_unit_and_sudo_in_a_way_of_the_lab_s_own(lab: Lab) -> None:
-    """sudo works in a cgroup, and not in a namespace, as the manual says."""
-    assert lab.ssh("b1", "say", "x").stdout == "x\n", lab.machine.journal("farm-access-sshd")
-    assert lab.ssh("b1", "root").stdout == "0\n"
-    lab.cage("namespace")
+def test_a_session_by_the_unit_and_no_sudo_in_a_way_of_the_lab_s_own(lab: Lab) -> None:
+    assert lab.says() == "x\n"
     shut_out = lab.ssh("b1", "root")
-    lab.cage("")
     assert shut_out.stdout == "" and shut_out.returncode != 0, shut_out
 
 
@@ -119,14 +115,14 @@ def test_a_session_outlives_the_guard_and_ends_with_its_own_unit(lab: Lab) -> No
     assert lab.left() == before
     lab.machine.run("systemctl", "restart", "farm-access-sshd")
     assert lab.goes(), lab.left()
-    assert lab.ssh("b1", "say", "x").stdout == "x\n"
+    assert lab.says() == "x\n"
     lab.begin()
     lab.machine.run("systemctl", "stop", *UNITS)
     script = "pgrep -fa '[s]leep 600|farm-access sessio[n]|[s]shd: board'; ls -d /sys/fs/cgroup/system.slice/farm-access-*"
     assert lab.machine.run("sh", "-c", script, check=False).stdout == ""
     lab.machine.run("systemctl", "start", *UNITS)
     assert lab.goes(), lab.left()
-    assert lab.ssh("b1", "say", "x").stdout == "x\n"
+    assert lab.says() == "x\n"
 
 
 def guide_units() -> List[str]:

@@ -177,7 +177,7 @@ def test_units_are_as_systemd_reads_them(tmp_path: Any) -> None:
     read.read_string(more)
     words = read["Service"]["ExecStart"]
     access = "/usr/bin/farm-access run --"
-    assert guard == "[Service]\nAmbientCapabilities=CAP_KILL\n"
+    assert guard == "[Service]\nCapabilityBoundingSet=CAP_KILL\nAmbientCapabilities=CAP_KILL\n"
     assert words == f'/usr/bin/farm-dispatch --cage cgroup --check "{access} /etc/farm/check-board" {access} /etc/farm/run-job'
 
 
