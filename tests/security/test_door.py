@@ -162,7 +162,7 @@ def test_where_it_gives_no_answer_no_command_is_let_through_and_looks_go_on(door
     assert door.site.got("/whoami")[0] == 503
     for path in ("/queue", "/boards", "/status", "/reservations?x=1"):
         assert door.told(path)[0] == 200, path
-    for path in ("/", "/farm.js"):
+    for path in ("/", "/page/farm.js"):
         assert door.site.got(path)[0] == 200, path
     assert door.site.got("/queue", "-u", "ann:guess", user="")[0] == 401
     assert door.owners() == []

@@ -33,7 +33,7 @@ def guesses(site: Site) -> List[str]:
 
 
 def test_a_wrong_password_has_a_line_and_nothing_else_has(site: Site) -> None:
-    for path in ("/queue", "/", "/farm.js", "/whoami", "/logs/1", "/no/such"):
+    for path in ("/queue", "/", "/page/farm.js", "/whoami", "/logs/1", "/no/such"):
         site.got(path)
         site.got(path, user="")
         assert site.got(path, "-u", "ann:guess", user="")[0] == 401

@@ -200,7 +200,7 @@ def test_a_labs_site_sees_whose_address_it_is_and_checks_the_password(front: Fro
 
 def test_the_page_of_a_lab_is_whole_behind_its_prefix(front: Front, visit: Visit) -> None:
     """And the site has the menu of labs, for who has a password."""
-    for path, words in [("farm.css", "main"), ("farm.js", "fetch"), ("whoami", "ann"), ("labs.json", MENU.strip())]:
+    for path, words in [("page/farm.css", "main"), ("page/requests.js", "fetch"), ("whoami", "ann"), ("labs.json", MENU.strip())]:
         status, said = front.curl(f"/paris/{path}")
         assert status == 200 and words in said, path
     assert front.curl("/paris/labs.json", "-X", "POST")[0] == 405
