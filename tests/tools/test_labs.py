@@ -14,6 +14,7 @@ import pytest
 
 import fizgruk
 from browser import Visit
+from completed import completed
 from nginx_site import AROUND, NEEDED, NGINX, WORDS, Site, openssl, write
 from served import STARTED, TOOLS, TOP, Board, Farm, environment, free_port, read, wait_until
 from wants import wants
@@ -150,6 +151,10 @@ def test_words_of_several_labs(front: Front, folder: str) -> None:
     status, said, errors = front.desk("--config", none, "boards", "--all-labs")
     assert (status, said, errors) == (4, "", ["desk: the settings have no labs: a section [lab NAME] for each"])
     assert front.desk("--lab", "rome", "boards")[2] == ["desk: the settings have no lab rome: there are berlin, paris"]
+
+
+def test_a_shell_offers_the_labs(front: Front, folder: str) -> None:
+    assert completed(folder, "desk --lab ", DESK_CONFIG=front.config) == {"berlin", "paris"}
 
 
 def test_from_python(front: Front) -> None:
