@@ -205,7 +205,7 @@ def test_a_labs_site_sees_whose_address_it_is_and_checks_the_password(front: Fro
 
 def test_the_page_of_a_lab_is_whole_behind_its_prefix(front: Front, visit: Visit) -> None:
     """And the site has the menu of labs, for who has a password."""
-    for path, words in [("page/farm.css", "main"), ("page/requests.js", "fetch"), ("whoami", "ann"), ("labs.json", MENU.strip())]:
+    for path, words in [("page/farm.css", "main"), ("page/farm.js", "import"), ("whoami", "ann"), ("labs.json", MENU.strip())]:
         status, said = front.curl(f"/paris/{path}")
         assert status == 200 and words in said, path
     assert front.curl("/paris/labs.json", "-X", "POST")[0] == 405
@@ -216,6 +216,7 @@ def test_the_page_of_a_lab_is_whole_behind_its_prefix(front: Front, visit: Visit
     shutil.copy(f"{front.sites['berlin'].folder}/labs.json", f"{site.folder}/labs.json")
     address = front.server.replace("https://", f"https://ann:{urllib.parse.quote(WORDS['ann'])}@")
     page: Any = visit.open(f"{address}/paris/")
-    wait_until("the board of Paris", lambda: "p1" in str(page.ask("document.querySelector('main').innerText")))
-    assert "b1" not in page.ask("document.querySelector('main').innerText")
-    assert page.ask("document.querySelector('#who').textContent") == "ann"
+    said = "document.body.innerText"
+    wait_until("the board of Paris", lambda: "p1" in str(page.ask(said)))
+    wait_until("the menu of labs", lambda: "berlin" in str(page.ask(said)))
+    assert "b1" not in page.ask(said) and "ann" in page.ask(said)
