@@ -163,7 +163,7 @@ version=$(field fizgruk-farm Version)
 [ "$said" = "farm ${version%-*}" ] || fail "farm --version printed '$said'"
 docs=/usr/share/doc/fizgruk-desk
 for page in docs/*.[18]; do
-    sed "s,docs/\([A-Z]*[.]md\),$docs/\1,g" "$page" > "$folder/page"
+    sed "s,docs/\([A-Za-z-]*[.]md\),$docs/\1,g" "$page" > "$folder/page"
     gunzip -c "$tree/usr/share/man/man${page##*.}/$(basename "$page").gz" | cmp -s - "$folder/page" || fail "$page isn't in it"
 done
 mkdir "$folder/pages"
@@ -172,7 +172,7 @@ for page in "$tree"/usr/share/man/man?/*.gz; do
 done
 for page in "$tree$docs"/*.md "$folder"/pages/* "$tree"/etc/farm/* "$tree/etc/nginx/sites-available/farm" "$tree"/lib/systemd/system/*; do
     named=$(sed 's,[a-z/]*[A-Z]*[.]md of the source,,g' "$page" |
-        grep -Eo '[a-z/-]*[A-Z]+[.]md|docs/[a-z.-]+[0-9]|docs/[a-z]+[.]png|openapi[.]json' | sort -u)
+        grep -Eo '[a-z/-]*[A-Z]+[.]md|docs/[a-z-]+[.]md|docs/[a-z.-]+[0-9]|docs/[a-z]+[.]png|openapi[.]json' | sort -u)
     for name in $named; do
         name=$(basename "$name")
         [ -e "$tree$docs/$name" ] || [ -e "$tree/usr/share/man/man${name##*.}/$name.gz" ] ||
