@@ -44,9 +44,10 @@ SHOWN = """(() => {
   };
   const text = name => (document.getElementById(name) || {textContent: ""}).textContent.trim();
   const found = {said: text("said"), warned: text("warnings"), counts: {}, text: {}, groups: []};
-  found.news = document.querySelector(".news").textContent.replace(/^.*?M: /, "");
+  const first = what => (document.querySelector(what) || {textContent: ""}).textContent;
+  found.news = first(".news").replace(/^.*?M: /, "");
   found.who = text("who");
-  found.quiet = document.querySelector("footer").textContent;
+  found.quiet = first("footer");
   for (const name of ["boards", "queue", "reservations", "ended", "board-history"]) {
     found[name] = [...document.querySelectorAll(`#${name} tbody tr:not(.group)`)].map(
       row => [...row.cells].map(words));
