@@ -182,6 +182,7 @@ class AsyncClient:
     log = awaited(Client.log)
     artifacts = awaited(Client.artifacts)
     artifact = awaited(Client.artifact)
+    notes = awaited(Client.notes)
     history = awaited(Client.history)
     usage = awaited(Client.usage)
 
