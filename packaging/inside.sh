@@ -125,9 +125,11 @@ echo "package: an upgrade copies the farm, and leaves disabled what an admin dis
 
 # ---- the next farm, by the commands of USING.md
 desk --user ann cancel-reservation 1
-sed -n '/^## When a farm is full/,/^## What/s/^    //p' /usr/share/doc/fizgruk-farm/USING.md > /tmp/next.sh
-(cd /root && sh -eu /tmp/next.sh && rm next.toml) > "$log" 2>&1 || fail "the next farm: $(cat "$log")"
-grep -q '^accepted 15, kept 0$' "$log" && grep -qx 'qemu-01 Good' "$log" || fail "the next farm: $(cat "$log")"
+sed -n '/^## The next farm/,/^## [^T]/s/^    //p' /usr/share/doc/fizgruk-farm/USING.md > /tmp/next.sh
+(cd /root && EDITOR=true sh -eu /tmp/next.sh && rm next.toml) > "$log" 2>&1 || fail "the next farm: $(cat "$log")"
+grep -q '^/var/lib/farm/lab.db is the farm of next.toml; the old one is in /var/lib/farm/old-1' "$log" ||
+    fail "the next farm: $(cat "$log")"
+desk boards | grep -q '^qemu-01 .*Good' || fail "the next farm's boards: $(desk boards)"
 curl -sS http://127.0.0.1:880/status | grep -q '"next":1,' || fail "the next farm isn't new"
 echo "package: the next farm begins as USING.md says"
 
