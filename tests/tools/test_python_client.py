@@ -243,9 +243,10 @@ def test_group(farm: Farm) -> None:
     """A job's group is all of its members, whichever of them it is asked for, and no other job."""
     ann = client_of(farm.server)
     two = "job_name = 'two'\n[roles.a]\ndevice_type = 'bbb'\ncount = 2\n"
-    for text in (JOB, two, JOB):
+    for text in (JOB, two, JOB, two):
         ann.submit(text)
-    assert [[it.number for it in ann.group(number)] for number in (1, 2, 3, 4)] == [[1], [2, 3], [2, 3], [4]]
+    groups = [[it.number for it in ann.group(number)] for number in (1, 2, 3, 4, 6)]
+    assert groups == [[1], [2, 3], [2, 3], [4], [5, 6]]
     with pytest.raises(fizgruk.Refused, match="20 no such job"):
         ann.group(9)
 
