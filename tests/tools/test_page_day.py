@@ -2,6 +2,7 @@
 state, with texts of strangers, on a slow line."""
 from __future__ import annotations
 
+import contextlib
 import json
 import os
 import re
@@ -153,7 +154,13 @@ def test_a_reservation_of_the_page_lives_over_a_reload_and_out_of_sight_and_is_t
     opened.ask("tags.value = 'hdmi'; reserve.requestSubmit()")
     until(opened, "it waits", lambda it: len(it["reservations"]) == 2)
     opened.ask("location.reload()")
-    wait_until("it is there again", lambda: bool(opened.ask(f"{STATE.format('state.reserved.size')}") == 1))
+
+    def knows_it() -> bool:
+        with contextlib.suppress(OSError):  # where the page goes away while it is asked
+            return bool(opened.ask(STATE.format("state.reserved.size")) == 1)
+        return False
+
+    wait_until("it is there again", knows_it)
     seen(opened)
     lab.date = int(lab.farm.reservation(2)["deadline"]) - 20
     wait_until("it is extended", lambda: ("/reservations/2/refresh", None, "") in lab.given)
@@ -331,9 +338,10 @@ def test_on_a_slow_line_boards_come_in_three_round_trips_and_owners_in_five(lab:
     lab.files["/waiting.json"] = b'{"at":1,"groups":[]}'
     opened = lab.opened("/?flat")
     assert opened.ask(SHOWN)["boards"][0][4] == "bob job 1 boot"
-    asked: List[str] = [path for path, _ in lab.asked]
+    asked: List[str] = [path for path, _ in lab.asked]  # (what is asked for at once comes in any order)
     assert {"/queue", "/boards", "/status", "/types", "/whoami", "/running.json", "/history.json"} <= set(asked[:11])
-    assert [it for it in asked if it.startswith("/jobs/")] == [f"/jobs/{it}" for it in range(1000, 1005)], "those that wait"
+    of_jobs = sorted(it for it in asked if it.startswith("/jobs/"))
+    assert of_jobs == [f"/jobs/{it}" for it in range(1000, 1005)], "those that wait"
 
 
 # ---- a day by the keyboard alone
