@@ -54,7 +54,7 @@ for name in 'fizgruk-desk (= ' 'python3-fizgruk (= ' 'python3:any' nftables; do
 done
 field fizgruk-desk Depends | grep -q 'python3-fizgruk (= ' || fail "the client doesn't depend on the library"
 
-# ---- the way to boards is a package of its own, which starts nothing, and whose configuration sshd takes
+# ---- the way to boards is a package of its own, which enables nothing, and whose configuration sshd takes
 for file in usr/bin/farm-access usr/share/fizgruk/farm_access/main.py etc/farm/access.toml etc/farm/farm-access-sshd.conf \
     lib/systemd/system/farm-access-sshd.service lib/systemd/system/farm-access-guard.service usr/share/man/man8/farm-access.8.gz; do
     grep -qx "./$file" "$folder/fizgruk-access/files" || fail "fizgruk-access has no $file"
@@ -66,7 +66,6 @@ done
 for unit in farm-access-sshd farm-access-guard; do
     grep -q "debian-installed '$unit.service'" "$folder/fizgruk-access/postinst" || fail "$unit is enabled before it is set up"
 done
-! grep 'deb-systemd-invoke.* start' "$folder/fizgruk-access/postinst" || fail "fizgruk-access begins before it is set up"
 if command -v sshd > /dev/null || [ -x /usr/sbin/sshd ]; then
     ssh-keygen -q -t ed25519 -N '' -f "$folder/ssh_host_ed25519_key"
     sed "s,/var/lib/farm-access,$folder," "$tree/etc/farm/farm-access-sshd.conf" > "$folder/sshd.conf"

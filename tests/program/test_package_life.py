@@ -12,7 +12,11 @@ from served import STARTED, TOP
 from wants import wants
 
 pytestmark = [pytest.mark.xdist_group("packages"), pytest.mark.slow(90), pytest.mark.timeout(1200)]
-UNITS = ("farm.service", "farm-dispatch.service", "farm-backup.timer", "farm-metrics.timer")
+BY_ITSELF = ("farm.service", "farm-dispatch.service")
+BY_THE_ADMIN = (
+    "farm-backup.timer", "farm-metrics.timer", "farm-door.service", "farm-access-sshd.service", "farm-access-guard.service",
+)
+UNITS = BY_ITSELF + BY_THE_ADMIN
 ON, OFF = "enabled active", "disabled inactive"
 
 
@@ -59,18 +63,19 @@ def debian(program: str, packages: str, tmp_path_factory: pytest.TempPathFactory
 
 def test_an_upgrade_leaves_running_what_ran(debian: Debian) -> None:
     """By the rules of deb-systemd-invoke: what is enabled begins, what is disabled only where it ran."""
+    fresh = {**dict.fromkeys(BY_ITSELF, ON), **dict.fromkeys(BY_THE_ADMIN, OFF)}
+    for _ in range(2):
+        debian.install()
+        assert debian.units() == fresh
+    debian.run("systemctl", "enable", "--now", *BY_THE_ADMIN)
     debian.install()
-    farm, dispatch, backup, metrics = UNITS
-    assert debian.units() == {farm: ON, dispatch: ON, backup: OFF, metrics: OFF}
+    assert debian.units() == dict.fromkeys(UNITS, ON)
+    stopped = ("farm-backup.timer", "farm-dispatch.service", "farm-door.service", "farm-access-guard.service")
+    debian.run("systemctl", "disable", "--now", *stopped)
+    debian.run("systemctl", "disable", "farm-metrics.timer")
     debian.install()
-    assert debian.units() == {farm: ON, dispatch: ON, backup: OFF, metrics: OFF}
-    debian.run("systemctl", "enable", "--now", backup, metrics)
-    debian.install()
-    assert debian.units() == {farm: ON, dispatch: ON, backup: ON, metrics: ON}
-    debian.run("systemctl", "disable", "--now", backup, dispatch)
-    debian.run("systemctl", "disable", metrics)
-    debian.install()
-    assert debian.units() == {farm: ON, dispatch: OFF, backup: OFF, metrics: "disabled active"}
+    wanted = {**dict.fromkeys(UNITS, ON), **dict.fromkeys(stopped, OFF), "farm-metrics.timer": "disabled active"}
+    assert debian.units() == wanted
     debian.wait("the desk", *debian.curl("root", "/status"))
 
 
