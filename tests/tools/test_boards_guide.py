@@ -127,10 +127,11 @@ def test_ser2net_takes_its_file_and_nobody_else_gets_to_the_socket(tmp_path: Any
     words = ["ser2net", "-n", "-u", "-c", str(tmp_path / "ser2net.yaml")]
     process = subprocess.Popen(words, stdout=subprocess.DEVNULL, stderr=subprocess.DEVNULL)
     STARTED.append(process)
-    wait_until("the console's socket", lambda: os.path.exists(tmp_path / "bbb-1"))
-    assert os.stat(tmp_path / "bbb-1").st_mode & 0o777 == 0o660
+    line_of = tmp_path / "bbb-1"
+    wait_until("the console's socket", line_of.exists)
+    wait_until("its mode, which it gets a moment later", lambda: line_of.stat().st_mode & 0o777 == 0o660)
     with socket.socket(socket.AF_UNIX) as line:
-        line.connect(str(tmp_path / "bbb-1"))
+        line.connect(str(line_of))
         line.sendall(b"typed")
         assert os.read(device, 5) == b"typed"
 
