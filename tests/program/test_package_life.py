@@ -63,18 +63,21 @@ def debian(program: str, packages: str, tmp_path_factory: pytest.TempPathFactory
 
 def test_an_upgrade_leaves_running_what_ran(debian: Debian) -> None:
     """By the rules of deb-systemd-invoke: what is enabled begins, what is disabled only where it ran."""
-    fresh = {**dict.fromkeys(BY_ITSELF, ON), **dict.fromkeys(BY_THE_ADMIN, OFF)}
-    for _ in range(2):
-        debian.install()
-        assert debian.units() == fresh
-    debian.run("systemctl", "enable", "--now", *BY_THE_ADMIN)
+    wanted = {**dict.fromkeys(BY_ITSELF, ON), **dict.fromkeys(BY_THE_ADMIN, OFF)}
     debian.install()
-    assert debian.units() == dict.fromkeys(UNITS, ON)
-    stopped = ("farm-backup.timer", "farm-dispatch.service", "farm-door.service", "farm-access-guard.service")
+    assert debian.units() == wanted
+    first = ("farm-backup.timer", "farm-door.service", "farm-access-sshd.service")
+    debian.run("systemctl", "enable", "--now", *first)
+    wanted.update(dict.fromkeys(first, ON))
+    debian.install()
+    assert debian.units() == wanted
+    stopped = ("farm-backup.timer", "farm-dispatch.service", "farm-door.service")
     debian.run("systemctl", "disable", "--now", *stopped)
-    debian.run("systemctl", "disable", "farm-metrics.timer")
+    debian.run("systemctl", "enable", "--now", "farm-access-guard.service")
+    debian.run("systemctl", "start", "farm-metrics.timer")
+    wanted.update(dict.fromkeys(stopped, OFF))
+    wanted.update({"farm-access-guard.service": ON, "farm-metrics.timer": "disabled active"})
     debian.install()
-    wanted = {**dict.fromkeys(UNITS, ON), **dict.fromkeys(stopped, OFF), "farm-metrics.timer": "disabled active"}
     assert debian.units() == wanted
     debian.wait("the desk", *debian.curl("root", "/status"))
 

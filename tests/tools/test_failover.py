@@ -9,14 +9,14 @@ import shutil
 import signal
 import sqlite3
 import subprocess
-import sys
 import tempfile
 import time
 from typing import Any, Callable, Dict, Iterator, List, Tuple
 
 import pytest
 from farm_backup import copying, points, standby
-from served import MODULES, STARTED, TOP, Board, Farm, Tool, free_port, read, wait_until
+from forks import ReadOnce
+from served import STARTED, TOP, Board, Farm, Tool, free_port, read, wait_until
 from streamed import Stream, backup, moment_of, rows, words_of
 from two_machines import Machine, aside
 
@@ -270,29 +270,24 @@ def test_a_flipped_bit_under_a_desk_that_goes_on_doesnt_replace_the_standby(pair
 # Calls farm-backup, and kills it before a step of the disk, by its number: prints how many there were where it ended.
 KILLED = """\
 import os, shutil, signal, sys
-sys.path[:0] = sys.argv[1].split(":")
-last, steps = int(sys.argv[2]), [0]
-def counted(call):
-    def step(*words, **more):
-        steps[0] += 1
-        if steps[0] == last:
-            os.kill(os.getpid(), signal.SIGKILL)
-        return call(*words, **more)
-    return step
-for name in ("fsync", "rename", "replace", "link", "unlink", "rmdir", "mkdir", "fchmod", "symlink"):
-    setattr(os, name, counted(getattr(os, name)))
-shutil.copyfile = counted(shutil.copyfile)
-from farm_backup.main import main
-status = main(sys.argv[3:])
-print(steps[0], file=sys.stderr)
-sys.exit(status)
+from farm_backup.main import main as backup
+
+def main(words):
+    last, steps = int(words[0]), [0]
+    def counted(call):
+        def step(*words, **more):
+            steps[0] += 1
+            if steps[0] == last:
+                os.kill(os.getpid(), signal.SIGKILL)
+            return call(*words, **more)
+        return step
+    for name in ("fsync", "rename", "replace", "link", "unlink", "rmdir", "mkdir", "fchmod", "symlink"):
+        setattr(os, name, counted(getattr(os, name)))
+    shutil.copyfile = counted(shutil.copyfile)
+    status = backup(words[1:])
+    print(steps[0], file=sys.stderr)
+    return status
 """
-
-
-def killed_at(step: int, *words: str) -> "subprocess.CompletedProcess[str]":
-    return subprocess.run(
-        [sys.executable, "-c", KILLED, ":".join(MODULES), str(step), *words], capture_output=True, text=True, check=False, timeout=60
-    )
 
 
 class Sides:
@@ -300,6 +295,7 @@ class Sides:
 
     def __init__(self, made: Pair, folder: str):
         self.made = made
+        self.killed_at = ReadOnce(KILLED).run
         made.stop()
         made.passes(1)  # which isn't shipped
         made.farm.kill()
@@ -351,14 +347,14 @@ def test_a_promotion_that_is_killed_at_any_step_is_run_again(sides: Sides) -> No
     """At each step the farm at its name is the one that stood there, or the standby, or isn't there; the old desk that
     comes back serves before the mark, and else is set aside with all that it has. Then it ends as it would have."""
     shipped, own = sides.made.count, 0
-    steps = int(killed_at(0, *sides.words("--promote")).stderr.splitlines()[-1])
+    steps = int(sides.killed_at(0, *sides.words("--promote")).stderr.splitlines()[-1])
     assert steps > 20
     wanted = {"new": shipped, "fenced-2": own, "old": shipped + 1}
     assert sides.farms() == wanted
     marked = 0
     for step in range(1, steps + 1):
         sides.renew()
-        assert killed_at(step, *sides.words("--promote")).returncode == -signal.SIGKILL
+        assert sides.killed_at(step, *sides.words("--promote")).returncode == -signal.SIGKILL
         before = sides.farms()
         assert before.get("new", own) in (own, shipped) and before["old"] == shipped + 1
         assert own in (before.get("new"), before.get("fenced-2")), "what stood there is there still"
@@ -366,13 +362,13 @@ def test_a_promotion_that_is_killed_at_any_step_is_run_again(sides: Sides) -> No
         marked += is_marked
         assert is_marked or (before["new"], len(before)) == (own, 2), "nothing is changed before the mark"
         # the old machine's unit begins
-        demoted = killed_at(0, *sides.words("--demote"))
+        demoted = sides.killed_at(0, *sides.words("--demote"))
         assert demoted.returncode == 0
         assert os.path.exists(f"{sides.old}/farm.db") != is_marked
         if is_marked:
             assert f"{shipped + 1} commands, of which {shipped} were shipped" in demoted.stdout
             assert counted(f"{sides.old}/fenced-2/farm.db") == shipped + 1
-        again = killed_at(0, *sides.words("--promote"))
+        again = sides.killed_at(0, *sides.words("--promote"))
         assert (again.returncode, step, again.stderr.count("\n")) == (0, step, 1)
         assert counted(f"{sides.new}/farm.db") == shipped
         assert counted(f"{sides.new}/fenced-2/farm.db") == own
@@ -381,24 +377,24 @@ def test_a_promotion_that_is_killed_at_any_step_is_run_again(sides: Sides) -> No
 
 
 def test_setting_aside_that_is_killed_at_any_step_is_done_again(sides: Sides) -> None:
-    assert killed_at(0, *sides.words("--promote")).returncode == 0
+    assert sides.killed_at(0, *sides.words("--promote")).returncode == 0
     for name in ("standby",):
         shutil.rmtree(f"{sides.kept}/{name}")
         shutil.copytree(sides.made.to, f"{sides.kept}/{name}", symlinks=True)
-    steps = int(killed_at(0, *sides.words("--demote")).stderr.splitlines()[-1])
+    steps = int(sides.killed_at(0, *sides.words("--demote")).stderr.splitlines()[-1])
     for step in range(1, steps + 1):
         sides.renew()
-        assert killed_at(step, *sides.words("--demote")).returncode == -signal.SIGKILL
+        assert sides.killed_at(step, *sides.words("--demote")).returncode == -signal.SIGKILL
         if os.path.exists(f"{sides.old}/farm.db"):
             assert counted(f"{sides.old}/farm.db") == sides.made.count + 1
-        assert killed_at(0, *sides.words("--demote")).returncode == 0
+        assert sides.killed_at(0, *sides.words("--demote")).returncode == 0
         assert sorted(os.listdir(sides.old)) == ["fenced-2"]
         assert counted(f"{sides.old}/fenced-2/farm.db") == sides.made.count + 1
 
 
 def test_a_standby_is_promoted_once(sides: Sides, folder: str) -> None:
     """Another place is refused, and touched by nothing; the same one says so."""
-    assert killed_at(0, *sides.words("--promote")).returncode == 0
+    assert sides.killed_at(0, *sides.words("--promote")).returncode == 0
     other = os.path.join(folder, "other")
     os.mkdir(other)
     words = sides.words("--promote")
@@ -406,14 +402,14 @@ def test_a_standby_is_promoted_once(sides: Sides, folder: str) -> None:
     status, said, errors = backup(sides.made.farm, "--db", f"{other}/farm.db", "--promote", sides.made.to)
     assert (status, said, errors.count("\n")) == (4, "", 1)
     assert "was promoted at " in errors and f"to {sides.new}/farm.db (generation 2): it is promoted once" in errors
-    again = killed_at(0, *words)
+    again = sides.killed_at(0, *words)
     assert again.returncode == 0 and again.stdout.startswith(f"{sides.new}/farm.db is it already: ")
     assert contents(folder) == before
 
 
 def test_the_promoted_farm_goes_on_to_the_same_standby(sides: Sides) -> None:
     """As on one machine, whose standby is on another disk; and it is promoted again."""
-    assert killed_at(0, *sides.words("--promote")).returncode == 0
+    assert sides.killed_at(0, *sides.words("--promote")).returncode == 0
     sides.made.farm.db = f"{sides.new}/farm.db"
     sides.made.farm.start()
     sides.made.passes(2)
