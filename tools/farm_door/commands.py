@@ -55,7 +55,7 @@ class Answer(NamedTuple):
             number = json.loads(self.body)["number"] if self.status == 200 else ""
         except (ValueError, TypeError, KeyError, RecursionError):
             return ""
-        return str(number) if isinstance(number, int) else ""
+        return str(number) if type(number) is int else ""
 
 
 class Refused(Exception):

@@ -20,12 +20,18 @@ WORDS = {JOBS: "open_jobs", RESERVATIONS: "open_reservations"}  # of the rules
 @dataclasses.dataclass(eq=False)
 class Passed:
     """What was let through: of which kind, whose, of how many boards, and when it was answered, from when on a look at
-    the desk shows it."""
+    the desk shows it; and its number, the first job's of a group, 0 until it is answered."""
 
     kind: str
     owner: str
     boards: int
     answered: float = math.inf
+    number: int = 0
+
+    def is_among(self, owners: Dict[Tuple[str, int], str]) -> bool:
+        """Whether what a look found has it, so that it counts there."""
+        numbers = range(self.number, self.number + self.boards) if self.number else ()
+        return any(owners.get((self.kind, it)) == self.owner for it in numbers)
 
 
 class Counts:
@@ -64,7 +70,7 @@ class Counts:
             found[key[0], owner] = found.get((key[0], owner), 0) + 1
         with self.lock:
             self.owners, self.open, self.seen = held, found, began
-            self.passed = [it for it in self.passed if it.answered >= began]
+            self.passed = [it for it in self.passed if it.answered >= began and not it.is_among(held)]
 
     def _owner_of(self, key: Tuple[str, int], held: Dict[Tuple[str, int], str]) -> str:
         kind, number = key
@@ -87,12 +93,13 @@ class Counts:
             self.passed.append(asked)
         return None
 
-    def answer(self, asked: Passed, is_done: bool) -> None:
-        """What was let through was answered; where it isn't done, it counts no more."""
+    def answer(self, asked: Passed, is_done: bool, number: int = 0) -> None:
+        """What was let through was answered with its number; where it isn't done, or a look has found it since it was,
+        it counts no more."""
         with self.lock:
-            if not is_done:
+            asked.number, asked.answered = number, time.monotonic()
+            if not is_done or asked.is_among(self.owners):
                 self.passed.remove(asked)
-            asked.answered = time.monotonic()
 
     def are_known(self) -> bool:
         return time.monotonic() - self.seen < TOO_OLD

@@ -83,18 +83,18 @@ class Door:
         met = self.counts.let(asked, groups)
         if met:
             raise _at_limit(met, WORDS[asked.kind])
-        is_done, note = False, 0
+        is_done, note, number = False, 0, 0
         try:
             note = self.kept.let(asked.owner, asked.kind, command.key)
             is_done = True
             answer = self._handed_on(command)
-            is_done = not answer.is_refusal
+            is_done, number = not answer.is_refusal, int(answer.number or 0)
             return answer
         except NotReached:
             is_done = False
             raise
         finally:
-            self.counts.answer(asked, is_done)
+            self.counts.answer(asked, is_done, number)
             if note and not is_done:
                 self._take_back(note)
 
