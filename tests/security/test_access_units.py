@@ -147,6 +147,7 @@ def test_jobs_of_one_account_with_the_sessions(lab: Lab) -> None:
     said = lab.ran(run, "tags = ['name=b2']\n").splitlines()
     assert sorted(said) == ["board", "one"]
     assert lab.processes("sleep 700") == []
+    lab.machine.wait("what runs after it", "grep", "b2", "/var/lib/farm-access/after")
 
 
 def test_jobs_of_another_account_than_the_sessions(lab: Lab) -> None:

@@ -11,12 +11,89 @@ import pytest
 
 from machine import Machine
 from machine_lab import PASSWORD, PLACE, MachineLab
+from wants import wants
 
 pytestmark = [pytest.mark.xdist_group("machine"), pytest.mark.slow(60)]
 # Leaves its job's session, its parents, its open files and its environment.
 AWAY = """(setsid env -i PATH=$PATH sh -c 'exec <&- >&- 2>&-; cd /; while :; do sleep 0.1; done' away & )"""
 
 GONE_AWAY = "do sleep 0[.]1; done away"
+# A board at a serial port of the group dialout, and at a port of an address of its own: it says what it hears.
+BOARD = """import os, shutil, socket, threading, tty
+board, port = os.openpty()
+tty.setraw(port)
+shutil.chown(os.ttyname(port), "root", "dialout")
+os.chmod(os.ttyname(port), 0o660)
+os.symlink(os.ttyname(port), "/dev/ttyBoard")
+def answer(line):
+    while (said := os.read(line, 100)):
+        os.write(line, said)
+threading.Thread(target=answer, args=(board,)).start()
+server = socket.create_server(("192.0.2.7", 23))
+while True:
+    answer(server.accept()[0].detach())
+"""
+BITS = """cc -m32 -nostdlib -static -x c -o /usr/local/bin/bits - << 'END'
+void _start(void) { __asm__("mov $1, %eax; mov $42, %ebx; int $0x80"); }
+END
+:"""
+# What jobs do at boards and on their machine: each of these tests fails where their unit shuts that out.
+WORK = """cat > test_work.py << 'END'
+import concurrent.futures, mmap, os, socket, subprocess, termios, tty
+def ends(*words):
+    return subprocess.run(words, check=False).returncode
+def test_serial_port():
+    line = os.open("/dev/ttyBoard", os.O_RDWR | os.O_NOCTTY)
+    tty.setraw(line)
+    told = termios.tcgetattr(line)
+    told[4:6] = [termios.B115200] * 2
+    termios.tcsetattr(line, termios.TCSANOW, told)
+    os.write(line, b"typed")
+    assert os.read(line, 100) == b"typed"
+def test_port_of_a_board():
+    with socket.create_connection(("192.0.2.7", 23)) as line:
+        line.sendall(b"sent")
+        assert line.recv(100) == b"sent"
+def test_threads_and_processes():
+    for pool in (concurrent.futures.ThreadPoolExecutor, concurrent.futures.ProcessPoolExecutor):
+        with pool(2) as workers:
+            assert list(workers.map(len, ["a", "bc"])) == [1, 2]
+def test_compiler():
+    with open("x.c", "w") as text:
+        text.write("int main(void) { return 7; }")
+    assert (ends("cc", "x.c"), ends("./a.out")) == (0, 7)
+def test_program_of_32_bits():
+    assert ends("sh", "-c", "bits") == STATUS
+def test_code_that_is_written_and_run():
+    mmap.mmap(-1, 4096, prot=mmap.PROT_READ | mmap.PROT_WRITE | mmap.PROT_EXEC)
+def test_what_ping_does_first():
+    os.setuid(os.getuid())
+def test_nice_and_taskset():
+    os.nice(1)
+    os.sched_setaffinity(0, os.sched_getaffinity(0))
+    assert ends("ionice", "-c3", "true") == 0
+def test_group_and_rights_of_a_file():
+    with open("x", "w"):
+        os.chown("x", -1, os.getgroups()[-1])
+    assert ends("sh", "-c", "[ $(umask) = 0022 ]") == 0
+def test_machine_s_processors_and_networks():
+    with open("/proc/cpuinfo") as text:
+        assert text.read()
+    socket.if_nameindex()
+END
+exec /usr/bin/python3 -m pytest -q -p no:cacheprovider test_work.py
+"""
+# What an account has no use for; without privileges the kernel alone answers EPERM to a packet socket.
+SHUT = """unshare -U true 2> /dev/null || echo no namespace
+grep -E "Seccomp:|NoNewPrivs:|CapBnd:" /proc/self/status
+python3 -c "
+import ctypes, errno, socket
+try:
+    socket.socket(socket.AF_PACKET, socket.SOCK_RAW)
+except OSError as fault:
+    print(errno.errorcode[fault.errno])
+print(ctypes.CDLL(None).ptrace(0, 0, 0, 0))"
+"""
 
 
 @pytest.fixture(scope="module")
@@ -43,6 +120,30 @@ def test_each_job_has_a_number_of_its_own_and_the_serial_ports_groups(lab: Machi
     own = {int(lab.machine.run("id", "-u", it).stdout) for it in ("root", "farm", "farm-dispatch", "www-data")}
     assert len(set(uids)) == 2 and not set(uids) & own
     assert all("dialout" in it and "plugdev" in it for it in logs)
+
+
+def test_a_job_does_what_jobs_do(lab: MachineLab) -> None:
+    """By pytest: a serial port, a board's port, threads, processes, compilers, programs of 32 bits as far as this machine
+    runs them, and code that is written and run, as QEMU's."""
+    wants("cc")
+    lab.machine.run("ip", "addr", "add", "192.0.2.7/32", "dev", "lo")
+    lab.machine.write("/tmp/board.py", BOARD)
+    lab.machine.run("systemd-run", "--unit=board", "python3", "/tmp/board.py")
+    lab.machine.wait("the board", "sh", "-c", "ss -ltn | grep 192.0.2.7:23 && ls /dev/ttyBoard")
+    lab.machine.run("sh", "-c", BITS)
+    status = lab.machine.run("sh", "-c", "bits", user="nobody", check=False).returncode
+    said = lab.ran(WORK.replace("STATUS", str(status)))
+    assert re.search("^10 passed in ", said, re.MULTILINE), said
+    lab.machine.run("systemctl", "stop", "board")
+
+
+def test_a_job_has_nothing_that_an_account_has_no_use_for(lab: MachineLab) -> None:
+    shut = ["CapBnd:\t0000000000000000", "NoNewPrivs:\t1", "Seccomp:\t2"]
+    assert lab.ran(SHUT).splitlines() == ["no namespace", *shut, "EAFNOSUPPORT", "-1"]
+    with lab.jobs_with("gdb, strace", "LAVA", "CAN and Bluetooth"):
+        assert lab.ran(SHUT).splitlines() == [*shut, "EAFNOSUPPORT", "0"]
+        families = lab.machine.run("systemctl", "show", "-P", "RestrictAddressFamilies", "farm-job@x").stdout.split()
+        assert sorted(families) == ["AF_BLUETOOTH", "AF_CAN", "AF_INET", "AF_INET6", "AF_NETLINK", "AF_UNIX"]
 
 
 def test_a_job_retires_no_board_and_reserves_as_nobody_at_the_desks_port(lab: MachineLab) -> None:

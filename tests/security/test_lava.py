@@ -1,4 +1,5 @@
-"""LAVA's dispatcher, which works as root alone, drives a board under a job's account, which isn't root."""
+"""What drives boards does so under a job's account: labgrid, and LAVA's dispatcher, which works as root alone, with what
+docs/USING.md adds to the unit. The board is emulated, by translated code."""
 from __future__ import annotations
 
 import os
@@ -9,7 +10,7 @@ import pytest
 
 from machine import Machine
 from machine_lab import PLACE, MachineLab
-from test_boards_run import DEVICE, Board, lava_job, wants_way
+from test_boards_run import DEVICE, ENVIRONMENT, LABGRID_BOOTS, Board, labgrid_job, lava_job, wants_way
 
 pytestmark = [pytest.mark.xdist_group("machine"), pytest.mark.slow(40)]
 IMAGES = "/srv/images"
@@ -20,30 +21,49 @@ ip route add default via 192.0.2.1"""
 
 @pytest.fixture
 def board(folder: str) -> Iterator[Board]:
-    wants_way("lava")
     place = os.path.join(folder, "board")
     os.mkdir(place)
     yield Board(place)
 
 
-def put(machine: Machine, file: str, to: str, mode: str) -> None:
-    with subprocess.Popen(["cat", file], stdout=subprocess.PIPE) as read:
-        script = 'mkdir -p "$(dirname "$1")" && cat > "$1" && chmod "$2" "$1"'
-        machine.run("sh", "-c", script, "sh", to, mode, stdin=read.stdout)
+@pytest.fixture(scope="module")
+def lab(machine: Machine) -> MachineLab:
+    """A lab of one board that is Good."""
+    made = MachineLab(machine)
+    for name in ("b2", "b3"):
+        made.tell("admin", f"/boards/{name}/health", {"health": "Maintenance"})
+    return made
 
 
-def test_lavas_dispatcher_boots_a_board_under_a_jobs_account(machine: Machine, board: Board) -> None:
-    lab = MachineLab(machine)
-    machine.run("sh", "-c", NETWORK)
-    put(machine, board.initramfs, f"{IMAGES}/initramfs.gz", "644")
+def put(machine: Machine, board: Board) -> None:
+    """Brings what the board boots there."""
+    with subprocess.Popen(["cat", board.initramfs], stdout=subprocess.PIPE) as read:
+        machine.run("sh", "-c", f"mkdir -p {IMAGES} && cat > {IMAGES}/initramfs.gz", stdin=read.stdout)
     board.initramfs = f"{IMAGES}/initramfs.gz"
-    machine.write("/etc/farm/lava/b1.yaml", board.fill(DEVICE))
-    lab.tell("admin", "/boards/b2/health", {"health": "Maintenance"})
-    lab.tell("admin", "/boards/b3/health", {"health": "Maintenance"})
-    machine.run("install", "/tmp/source/examples/run-job-lava", "/etc/farm/run-job")
-    text = f"job_name = 'boots'\ndevice_type = 'bbb'\n{lava_job(board)}[timeouts]\njob = '15 minutes'\n"
+
+
+def boots(lab: MachineLab, way: str, job: str) -> None:
+    """Runs a job by this way, whose board comes up."""
+    lab.machine.run("install", f"/tmp/source/examples/run-job-{way}", "/etc/farm/run-job")
+    text = f"job_name = 'boots'\ndevice_type = 'bbb'\n{job}[timeouts]\njob = '15 minutes'\n"
     number = int(lab.tell("ann", "/jobs", text)["number"])
     assert lab.finished(number, 500) == "Complete", lab.log(number)
     assert "the board is up" in lab.log(number)
-    owners = machine.run("find", f"{PLACE}/jobs/{number}", "-printf", "%u\n").stdout.split()
+    owners = lab.machine.run("find", f"{PLACE}/jobs/{number}", "-printf", "%u\n").stdout.split()
     assert set(owners) == {"farm-dispatch"}
+
+
+def test_labgrid_boots_a_board_under_a_jobs_account(lab: MachineLab, board: Board) -> None:
+    wants_way("labgrid")
+    put(lab.machine, board)
+    lab.machine.write("/etc/farm/labgrid/b1.yaml", board.fill(ENVIRONMENT))
+    boots(lab, "labgrid", labgrid_job(board, LABGRID_BOOTS))
+
+
+def test_lavas_dispatcher_boots_a_board_under_a_jobs_account(lab: MachineLab, board: Board) -> None:
+    wants_way("lava")
+    put(lab.machine, board)
+    lab.machine.run("sh", "-c", NETWORK)
+    lab.machine.write("/etc/farm/lava/b1.yaml", board.fill(DEVICE))
+    with lab.jobs_with("LAVA"):
+        boots(lab, "lava", lava_job(board))

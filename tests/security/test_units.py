@@ -16,9 +16,6 @@ from wants import wants
 
 UNITS = sorted(glob.glob(os.path.join(TOP, "examples", "*.service")))
 MOST = 2.0
-# A job does what its lab lets it: devices, networks, and programs of all kinds. A session at a board has devices and
-# networks too, and its sshd sets the account that it has already.
-OPENER = {"farm-job@.service": 5.0, "farm-access-sshd.service": 2.4, "farm-access-guard.service": 2.2}
 WATCH = """[desk]
 server = "http://127.0.0.1:880"
 user = "admin"
@@ -46,7 +43,7 @@ def test_a_unit_is_open_by_no_more_than(unit: str) -> None:
     said = subprocess.run(words, capture_output=True, text=True, check=False).stdout
     found = re.search(r"Overall exposure level for \S+: ([0-9.]+)", said)
     assert found, said
-    assert float(found.group(1)) <= OPENER.get(os.path.basename(unit), MOST), said
+    assert float(found.group(1)) <= MOST, said
 
 
 @pytest.fixture(scope="module")

@@ -1,12 +1,15 @@
 """A machine of its own whose desk has boards, and whose dispatcher runs the jobs that are submitted."""
 from __future__ import annotations
 
+import contextlib
 import json
+import os
+import re
 import time
-from typing import Any, List
+from typing import Any, Iterator, List
 
 from machine import Machine
-from served import PATIENCE
+from served import PATIENCE, TOP
 
 BOARDS = ("b1", "b2", "b3")
 PLACE = "/var/lib/farm-dispatch"
@@ -17,6 +20,7 @@ with open(os.environ["FARM_JOB_FILE"], "rb") as text:
     os.execv("/bin/sh", ["sh", "-c", tomllib.load(text).get("run", "true")])
 """
 PASSWORD = "/etc/farm/dispatch.password"
+MORE = "/etc/systemd/system/farm-job@.service.d"
 
 
 class MachineLab:
@@ -68,3 +72,22 @@ class MachineLab:
 
     def processes(self, words: str) -> List[str]:
         return self.machine.run("pgrep", "-f", words, check=False).stdout.split()
+
+    @contextlib.contextmanager
+    def jobs_with(self, *needs: str) -> Iterator[None]:
+        """Gives jobs what docs/USING.md adds to their unit for these needs."""
+        self.machine.write(f"{MORE}/test.conf", "".join(["[Service]\n", *map(lines_for, needs)]))
+        self.machine.run("systemctl", "daemon-reload")
+        try:
+            yield
+        finally:
+            self.machine.run("rm", "-r", MORE)
+            self.machine.run("systemctl", "daemon-reload")
+
+
+def lines_for(need: str) -> str:
+    """The lines below a comment in docs/USING.md that names a need of jobs."""
+    with open(os.path.join(TOP, "docs/USING.md"), encoding="utf-8") as text:
+        found = re.findall(rf"^    # [^\n]*{need}[^\n]*\n((?:    \w+=[^\n]*\n)+)", text.read(), re.MULTILINE)
+    assert len(found) == 1, found
+    return re.sub("^    ", "", str(found[0]), flags=re.MULTILINE)
