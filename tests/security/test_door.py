@@ -2,12 +2,14 @@
 where it gives no answer."""
 from __future__ import annotations
 
+import http.server
 import json
 import os
+import socketserver
 import sqlite3
 import threading
 import time
-from typing import Any, Callable, List, Sequence, Tuple
+from typing import Any, Callable, List, Sequence, Tuple, Type
 
 import pytest
 
@@ -230,3 +232,53 @@ def test_a_command_takes_five_milliseconds_more_at_most_in_processor_time(make_d
         assert line.getresponse().read().startswith(b'{"number":')
     line.close()
     assert (spent() - before) / 80 < 0.005
+
+
+# ---- connections of nginx
+
+
+def keeping(asked: List[List[str]]) -> Type[http.server.BaseHTTPRequestHandler]:
+    """What answers all, closes no connection by itself, and notes the requests of each with their word for it."""
+
+    class Keeping(http.server.BaseHTTPRequestHandler):
+        protocol_version = "HTTP/1.1"
+
+        def setup(self) -> None:
+            super().setup()
+            asked.append([])
+            self.own = asked[-1]
+
+        def do_POST(self) -> None:
+            self.rfile.read(int(self.headers.get("content-length") or 0))
+            self.own.append(f"{self.path} {self.headers.get('connection')}")
+            self.send_response(200)
+            for name, said in (("x-farm-user", "ann"), ("content-length", "2")):
+                self.send_header(name, said)
+            self.end_headers()
+            self.wfile.write(b"{}")
+
+        do_GET = do_POST
+
+        def log_message(self, *_: object) -> None:
+            pass
+
+    return Keeping
+
+
+def test_nginx_keeps_no_connection_behind_it(door: Door) -> None:
+    """What is kept, another may be closing while a command goes into it."""
+    asked: List[List[str]] = []
+    door.kill()
+    os.unlink(door.socket)
+    door.farm.kill()
+    desk = http.server.ThreadingHTTPServer(("127.0.0.1", door.farm.port), keeping(asked))
+    servers: List[socketserver.BaseServer] = [desk, socketserver.ThreadingUnixStreamServer(door.socket, keeping(asked))]
+    for server in servers:
+        threading.Thread(target=server.serve_forever, daemon=True).start()
+    for _ in range(2):
+        assert [door.told(*it)[0] for it in (["/boards"], [*RESERVE, "/reservations"], ["/tokens"])] == [200] * 3
+        assert door.site.got("/whoami")[0] == 200
+    for server in servers:
+        server.shutdown()
+        server.server_close()
+    assert sorted(asked) == sorted(2 * [["/boards close"], ["/reservations close"], ["/tokens close"], ["/ close"]])
