@@ -35,6 +35,11 @@ sys.argv[0] = {file!r}
 from farm_access.main import main
 sys.exit(main())
 """
+# Runs the line `run` of a job's text.
+RUNS = """\
+#!/bin/sh
+eval "$(sed -n "s/^run = '\\(.*\\)'$/\\1/p" "$FARM_JOB_FILE")"
+"""
 HEAD = """\
 desk = "{desk}"
 user = "access"
@@ -219,6 +224,14 @@ class Lab:
 
     def guard(self) -> None:
         self.start("guard", *self.access.split(), "guard")
+
+    def dispatch(self) -> None:
+        """A dispatcher, which runs the line `run` of each job's text where farm-access lets the job to its boards."""
+        self.write("run-job", RUNS)
+        os.chmod(self.path("run-job"), 0o755)
+        words = [PYTHON, os.path.join(TOOLS, "farm-dispatch"), "--folder", self.path("dispatch"), "--every", "0.3"]
+        self.start("dispatch", "env", f"DISPATCH_SERVER={self.farm.server}", "DISPATCH_CLOCK=any", *words,
+                   *self.access.split(), "run", "--", self.path("run-job"))
 
     def up(self, guard: bool = True) -> None:
         for it in BOARDS:

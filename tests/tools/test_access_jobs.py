@@ -13,15 +13,10 @@ from typing import Any, Iterator
 import access_lab
 import pytest
 from access_lab import PYTHON, Lab, until
-from served import STARTED, TOOLS, TOP, Farm
+from served import STARTED, TOP, Farm
 from test_boards_run import wants_way
 
 pytestmark = [pytest.mark.xdist_group("access"), pytest.mark.slow(60)]
-# Runs the line `run` of a job's text.
-RUNS = """\
-#!/bin/sh
-eval "$(sed -n "s/^run = '\\(.*\\)'$/\\1/p" "$FARM_JOB_FILE")"
-"""
 # b1 says that it is up once it is switched on, and has what runs between two holds among what it received.
 OF_B1 = """
 [[ways]]
@@ -74,11 +69,7 @@ def lab(program: str, tmp_path_factory: pytest.TempPathFactory) -> Iterator[Lab]
     ways = access_lab.WAYS + OF_B1
     made = access_lab.make(farm, after="echo {board} >> PLACE/after", ways=ways)
     made.write("device.yaml", DEVICE)
-    made.write("run-job", RUNS)
-    os.chmod(made.path("run-job"), 0o755)
-    words = [PYTHON, os.path.join(TOOLS, "farm-dispatch"), "--folder", made.path("dispatch"), "--every", "0.3"]
-    made.start("dispatch", "env", f"DISPATCH_SERVER={made.farm.server}", "DISPATCH_CLOCK=any", *words,
-               *made.access.split(), "run", "--", made.path("run-job"))
+    made.dispatch()
     yield made
     made.end()
 

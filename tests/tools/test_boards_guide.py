@@ -19,6 +19,8 @@ from access_lab import PYTHON, Lab, until
 from farm_access import site
 from fizgruk import toml_text
 from served import STARTED, TOOLS, TOP, Farm, free_port, wait_until
+from test_access_jobs import DEVICE, LAVA, ended, log_of
+from test_boards_run import wants_way
 from wants import wants
 
 pytestmark = [pytest.mark.xdist_group("access"), pytest.mark.slow(90)]
@@ -53,6 +55,20 @@ exec < /dev/console > /dev/console 2>&1
 export PS1='the-board# '
 exec setsid cttyhack sh
 """
+# What boots the board by its ways, and has its shell reckon.
+LABGRID = """[labgrid]
+test = '''
+from labgrid.protocol import ConsoleProtocol, PowerProtocol
+
+def test_boots(target):
+    console = target.get_driver(ConsoleProtocol)
+    target.get_driver(PowerProtocol).cycle()
+    console.expect("the-board# ", timeout=200)
+    console.sendline("echo $((6 * 7))")
+    console.expect("\\n42", timeout=200)
+'''
+"""
+DRIVERS = {"labgrid": LABGRID, "lava": LAVA.replace("board:/#", "the-board#")}
 
 
 def guide() -> str:
@@ -316,3 +332,18 @@ def test_an_emulated_board_from_reserve_to_its_prompt(lab: Lab, capsys: pytest.C
     line.wait(100)
     until(lambda: lab.farm.board("virt-1")["holder"] == "none")
     assert lab.farm.board("virt-1")["holder"] == "none"
+
+
+@pytest.mark.parametrize("way", DRIVERS)
+def test_what_drives_boards_boots_an_emulated_one_by_its_ways(lab: Lab, way: str) -> None:
+    wants_way(way)
+    if "dispatch" not in lab.parts:
+        lab.write("device.yaml", DEVICE)
+        lab.dispatch()
+    run = f"exec {TOP}/examples/run-job-{way} --ways {lab.place}"
+    number = lab.farm.submit(run, "virtual", more=f"tags = ['name=virt-1']\n{DRIVERS[way]}")
+    assert ended(lab, number) == "Complete", log_of(lab, number)
+    assert "the-board# " in log_of(lab, number)
+    if way == "lava":  # (which switches it off at its end)
+        words = [PYTHON, os.path.join(TOP, "examples/qemu-power"), lab.path("virt-1.qmp"), "status"]
+        assert lab.try_words(words).output == b"off\n"
