@@ -15,21 +15,30 @@ from door_site import Door
 from nginx_site import Site
 from served import TOP, Farm, read
 
-UNKNOWN = (429, 502, 503, 504)
+TOO_MANY = 429
+UNKNOWN = (502, 503, 504)
 
 
 class PeopleSite:
-    """The site as it is packaged, with farm-door's usual limits; each thread keeps its connections."""
+    """The site as it is packaged, with farm-door's usual limits or others; each thread keeps its connections."""
 
-    def __init__(self, farm: Farm, folder: str, people: Sequence[str]):
+    def __init__(self, farm: Farm, folder: str, people: Sequence[str], rules: str = "", changes: Sequence[Tuple[str, str]] = ()):
+        """`rules` are farm-door's, `changes` the site's."""
         nginx_site.WORDS = {it: f"word of {it}" for it in people}
-        rules = read(os.path.join(TOP, "examples/door.toml"))
-        self.door = Door(farm, lambda made, *changes: Site(made, folder, changes), folder, rules)
+        rules = rules or read(os.path.join(TOP, "examples/door.toml"))
+        self.door = Door(farm, lambda made, *more: Site(made, folder, more), folder, rules, changes=changes)
         self.kept = threading.local()
         self.times: Dict[str, List[float]] = {"GET": [], "POST": []}
 
     def ask(self, user: str, method: str, path: str, body: Any = None, key: Optional[str] = None) -> Tuple[int, Any]:
-        """The status and the body of an answer; OSError where nobody knows whether it was done."""
+        """The status and the body of an answer; OSError where nobody knows whether it was done, or it may be later."""
+        status, said = self.answer(user, method, path, body, key)
+        if status == TOO_MANY:
+            raise OSError(f"{status}")
+        return status, said
+
+    def answer(self, user: str, method: str, path: str, body: Any = None, key: Optional[str] = None) -> Tuple[int, Any]:
+        """The same, with what is refused for a limit."""
         lines = self.kept.__dict__.setdefault("lines", {})
         line, fields = lines.get(user) or lines.setdefault(user, self.door.site.connection(user))
         sent = body if body is None or isinstance(body, bytes) else json.dumps(body).encode()

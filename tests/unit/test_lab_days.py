@@ -4,8 +4,8 @@ from __future__ import annotations
 import collections
 from typing import List, Optional
 
-import lab_days
 import pytest
+from lab_week import of_metrics
 
 BEFORE = collections.Counter(Complete=3, Infra=1)
 AFTER = collections.Counter(Complete=5, Infra=1)
@@ -20,7 +20,7 @@ def text_of(up: int = 1, complete: int = 4, infra: int = 1) -> str:
 
 
 def faults(status: int = 0, text: Optional[str] = None, quiet: bool = False, **figures: int) -> List[str]:
-    return lab_days.faults_of_metrics(status, text or text_of(**figures), BEFORE, AFTER, quiet)
+    return of_metrics.faults_of_metrics(status, text or text_of(**figures), BEFORE, AFTER, quiet)
 
 
 @pytest.mark.parametrize("complete", [3, 4, 5])
