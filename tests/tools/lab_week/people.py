@@ -10,6 +10,7 @@ from lab_week.lab import Held, Hold, Lab, Submitted
 from lab_week.texts import END, GONE, LATE, MEANS, WAYS, text_of, wants
 from served import PATIENCE, read
 
+REFUSED = 3
 OF_ITSELF = 125  # `desk with` didn't run its command, or lost its board
 NO_ANSWER = ("no answer", "503", "502", "504", "has expired")
 
@@ -90,9 +91,24 @@ def gives_back(lab: Lab, user: str, hold: Hold, *ways: str) -> None:
     """Gives a board back, which nobody took away meanwhile."""
     let, gone = time.time(), 0.0
     for way in ways:
-        lab.command(user, f"/reservations/{hold.number}/{way}")
+        said = lab.command(user, f"/reservations/{hold.number}/{way}", refused=GONE)
         gone = gone or time.time()
+        if not said:
+            notes_end(lab, user, hold)
+            return
     lab.held.append(Held(user, hold, let, gone))
+
+
+def notes_end(lab: Lab, user: str, hold: Hold) -> None:
+    """Notes that farm-watch ended a hold, as its owner forgot it, or came too late on a slow machine."""
+    number = hold.number
+    lab.forgotten.append(number)
+    message = lab.waits(END + PATIENCE, lambda: lab.told("hold-ended", "reservation", number))
+    if not message:
+        lab.wrong(f"reservation {number} is held for {time.time() - hold.since:.0f} s, or gone, and its end isn't told")
+        return
+    # (it was told in the second in which it was ended, or later)
+    lab.held.append(Held(user, hold, message["at"] - 1, time.time(), True))
 
 
 def holds(lab: Lab, user: str, dice: random.Random) -> None:
@@ -109,18 +125,10 @@ def forgets(lab: Lab, user: str, dice: random.Random) -> None:
     """Holds boards until farm-watch ends that."""
     while lab.left() > END + 10:
         hold = gets(lab, user, ["serial"], dice)
-        if not hold:
-            continue
-        number = hold.number
-        lab.forgotten.append(number)
-        message = lab.waits(END + PATIENCE, lambda: lab.told("hold-ended", "reservation", number))
-        if not message:
-            lab.wrong(f"reservation {number} is held for {time.time() - hold.since:.0f} s, not ended")
-            continue
-        if not lab.told("hold-reminder", "reservation", number):
-            lab.wrong(f"reservation {number} was ended, and its owner not reminded")
-        # (it was told in the second in which it was ended, or later)
-        lab.held.append(Held(user, hold, message["at"] - 1, time.time(), True))
+        if hold:
+            notes_end(lab, user, hold)
+            if not lab.told("hold-reminder", "reservation", hold.number):
+                lab.wrong(f"reservation {hold.number} was ended, and its owner not reminded")
 
 
 def extends(lab: Lab, user: str, dice: random.Random) -> None:
@@ -132,7 +140,12 @@ def extends(lab: Lab, user: str, dice: random.Random) -> None:
         number = hold.number
         if not lab.waits(END, lambda: lab.told("hold-reminder", "reservation", number)):
             lab.wrong(f"the owner of reservation {number} isn't reminded")
-        lab.desk(user, "extend", str(number))
+        ran = lab.ran(user, "extend", str(number))
+        if ran.returncode == REFUSED and f"reservation {number} is canceled" in ran.stderr:
+            notes_end(lab, user, hold)
+            continue
+        if ran.returncode:
+            lab.desk(user, "extend", str(number))
         time.sleep(max(5.0, hold.since + END + 15 - time.time()))
         gives_back(lab, user, hold, "cancel")
 
