@@ -12,12 +12,11 @@ import importlib
 import os
 import re
 import sys
-from typing import Collection, Dict, Iterator, Optional, Set
+from typing import Dict, Iterator, Optional, Set
 
 HERE = os.path.dirname(os.path.abspath(__file__))
 sys.path[:0] = [os.path.join(os.path.dirname(HERE), it) for it in ("tools", "python/src")]
 from fizgruk._tools import parsers  # noqa: E402
-from fizgruk.desk import texts  # noqa: E402
 
 # The man pages, and the modules that have their parsers.
 PAGES = {
@@ -138,11 +137,10 @@ def description(tool: parsers.Parser) -> Iterator[str]:
     yield "\n.PP\n".join(marked(it, values_of(tool)) for it in paragraphs)
 
 
-def commands(tool: parsers.Parser, names: Collection[str]) -> Iterator[str]:
+def commands(tool: parsers.Parser, of_an_admin: bool) -> Iterator[str]:
     for command in parsers.commands_of(tool):
-        name = command.prog.split()[-1]
-        if name in names:
-            yield from command_items(command, name, values_of(tool, command))
+        if (command.get_default("asks_as") == "admin") == of_an_admin:
+            yield from command_items(command, command.prog.split()[-1], values_of(tool, command))
 
 
 def command_items(command: parsers.Parser, name: str, values: Set[str]) -> Iterator[str]:
@@ -191,10 +189,9 @@ def parts_of(tool: parsers.Parser) -> Dict[str, Iterator[str]]:
         "statuses": statuses(tool),
     }
     if parsers.commands_of(tool):
-        names = [it.prog.split()[-1] for it in parsers.commands_of(tool)]
-        parts["commands"] = commands(tool, [it for it in names if it not in texts.OF_AN_ADMIN])
+        parts["commands"] = commands(tool, of_an_admin=False)
     if tool.prog == "desk":
-        parts["commands of an admin"] = commands(tool, texts.OF_AN_ADMIN)
+        parts["commands of an admin"] = commands(tool, of_an_admin=True)
     return parts
 
 

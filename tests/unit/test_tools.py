@@ -16,7 +16,7 @@ from farm_dispatch import cages, main as dispatch
 from farm_metrics import main as metrics
 from fizgruk import calls, waiting, wants
 from fizgruk._tools import interrupts
-from fizgruk.desk import holding, main as client, past_jobs, views, waiting as desk_waiting
+from fizgruk.desk import holding, main as client, orders, past_jobs, views, waiting as desk_waiting
 from fizgruk.errors import BadSettings, Code, Refused, Unreachable
 from fizgruk.reservations import Reservation
 
@@ -218,20 +218,20 @@ def called(command: Callable[..., int], desk: Desk, **options: Any) -> int:
 
 
 def test_a_programs_answers_are_objects(capsys: pytest.CaptureFixture[str], monkeypatch: pytest.MonkeyPatch) -> None:
-    assert called(client.cancel_job, Desk()) == 0
-    assert called(client.change_reservation, Desk(), action="release") == 0
+    assert called(orders.cancel_job, Desk()) == 0
+    assert called(orders.change_reservation, Desk(), action="release") == 0
     monkeypatch.setattr(holding, "wait_for_board", lambda *_: {"name": "b1"})
     desk: Any = Desk()
     desk.of_patience = lambda _: desk
     reservation: Any = types.SimpleNamespace(desk=desk, tags=[], acquire=lambda _: None)
     options = argparse.Namespace(json=True, acquire=True, clock=None, every=2)
-    assert client.await_board(reservation, 7, options) == 0
+    assert orders.await_board(reservation, 7, options) == 0
     assert [json.loads(it) for it in capsys.readouterr().out.splitlines()] == [
         {"number": 7}, {"number": 7}, {"board": "b1", "number": 7}]
 
 
 @pytest.mark.parametrize("command, options", [
-    (client.cancel_job, {}), (client.change_reservation, {"action": "acquire"}), (client.wait_for, {}),
+    (orders.cancel_job, {}), (orders.change_reservation, {"action": "acquire"}), (orders.wait_for, {}),
 ])
 def test_a_refusal_that_isnt_the_states_is_told_as_it_is(command: Callable[..., int], options: Dict[str, Any]) -> None:
     with pytest.raises(Refused, match="^401 no$"):
@@ -244,14 +244,14 @@ def test_a_refusal_that_isnt_the_states_is_told_as_it_is(command: Callable[..., 
 def test_a_cancel_that_comes_too_late_says_what_became_of_the_job(state: str, result: str, told: str) -> None:
     desk = Desk(Refused(409, Code.WRONG_JOB_STATE, "wrong state"), jobs={"state": state, "result": result})
     with pytest.raises(Refused, match=f"wrong state: {told.replace('(', '.').replace(')', '.')}$"):
-        called(client.cancel_job, desk)
+        called(orders.cancel_job, desk)
 
 
 def test_a_change_that_comes_too_late_says_what_became_of_the_reservation() -> None:
     rows = {"reservations": [{"number": 7, "state": "expired"}]}
     desk = Desk(Refused(409, Code.WRONG_RESERVATION_STATE, "wrong state"), reservations=rows)
     with pytest.raises(Refused, match="wrong state: reservation 7 is expired$"):
-        called(client.change_reservation, desk, action="release")
+        called(orders.change_reservation, desk, action="release")
 
 
 def test_a_desk_that_doesnt_let_it_in_shows_no_jobs(monkeypatch: pytest.MonkeyPatch) -> None:

@@ -33,6 +33,10 @@ class Parser(argparse.ArgumentParser):
         self.settings_about = ""
         self.add_argument("-h", "--help", action="help", help="Show this help.")
 
+    def option(self, name: str, value: str, about: str, **more: Any) -> None:
+        """Adds an option that has a value, or an argument."""
+        self.add_argument(name, metavar=value, help=about, **more)
+
     def flag(self, name: str, about: str, **more: Any) -> None:
         """Adds an option that has no value."""
         self.add_argument(name, action="store_true", help=about, **more)
@@ -76,16 +80,9 @@ def parser_of(program: str, about: str, statuses: Statuses) -> Parser:
     return parser
 
 
-def one_of(
-    parser: argparse.ArgumentParser,
-    name: str,
-    choices: Sequence[str],
-    about: str,
-    default: Optional[str] = None,
-) -> None:
-    """Adds an option whose value is one of these words."""
-    words = f"{{{'|'.join(choices)}}}"
-    parser.add_argument(name, metavar=words, choices=choices, default=default, help=about)
+def one_of(choices: Sequence[str]) -> str:
+    """How the value of an option is called that is one of these words."""
+    return f"{{{'|'.join(choices)}}}"
 
 
 class NoNumber(argparse.ArgumentTypeError, ValueError):

@@ -2,50 +2,16 @@
 import argparse
 import os
 import sys
-from typing import Callable, List, Sequence, Tuple
+from typing import List, Sequence
 
 from fizgruk import calls, ways
 from fizgruk._tools import asking
-from fizgruk._tools.parsers import Parser
 from fizgruk.desk import holding
 
-Command = Callable[[str, Callable[..., int]], Parser]
 AS_ADMIN, WATCH, LOG = "--as-admin", "--watch", "--log"
 VERBS = ("on", "off", "cycle", "status")
 # ssh(1) itself ends a session at a line's begin.
 HOW_TO_LEAVE = "the console of {} (Enter ~. leaves it)"
-
-
-def add_commands(command: Command) -> None:
-    console = command("console", show_console)
-    about = "The board; with --reserve, the tags that it has to have."
-    console.add_argument("words", metavar="BOARD", nargs="*", help=about)
-    about = "Reserve a board with these tags, wait for it, acquire it, and give it back at the end."
-    console.flag("--reserve", about)
-    console.flag(WATCH, "Only look at what another session of yours has there.")
-    console.flag(LOG, "Print what the console said in your last hold, for a day.")
-    add_as_admin(console)
-    console.set_defaults(parser=console, priority=None, every=2.0)
-    power = command("power", switch_power)
-    add_board(power)
-    about = "'on', 'off', 'cycle', or 'status' where the lab has a command for it."
-    power.add_argument("verb", metavar="VERB", choices=VERBS, help=about)
-    add_as_admin(power)
-    shell = command("ssh", enter_board)
-    about = "The board, behind a user's name and @ where that isn't root."
-    shell.add_argument("board", metavar="BOARD", help=about)
-    about = "What runs there; without it, a shell."
-    shell.add_argument("words", metavar="WORD", nargs=argparse.REMAINDER, help=about)
-    add_board(command("ways", show_ways))
-
-
-def add_board(parser: Parser) -> None:
-    parser.add_argument("board", metavar="BOARD", help="The board's name.")
-
-
-def add_as_admin(parser: Parser) -> None:
-    about = "Go there as an admin of the lab, whoever holds it; it is written down."
-    parser.add_argument(AS_ADMIN, action="store_true", dest="as_admin", help=about)
 
 
 def show_console(desk: calls.Desk, options: argparse.Namespace) -> int:
@@ -92,6 +58,3 @@ def become(words: List[str]) -> int:
     """Becomes ssh(1), whose status is that of farm-access(8)."""
     print(end="", flush=True)
     os.execvp(words[0], words)
-
-
-COMMANDS: Tuple[Callable[..., int], ...] = (show_console, switch_power, enter_board, show_ways)

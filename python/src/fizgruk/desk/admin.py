@@ -1,44 +1,14 @@
 """What an admin tells the desk: types, boards, their tags and health, and a lab file."""
 import argparse
 import sys
-from typing import Any, Callable, Dict, List
+from typing import Any, Dict, List
 
 from fizgruk import calls
-from fizgruk._tools import lab_text
-from fizgruk._tools.parsers import Parser, one_of, whole
-from fizgruk.bounds import LONGEST_EVERY
-from fizgruk.desk import ENDED, REFUSED, lab_import, tell, views
+from fizgruk.desk import ENDED, REFUSED, tell, views
 from fizgruk.errors import Code, Refused
 
 RETIRED = "Retired"
 HEALTHS = ("Good", "Bad", "Unknown", "Maintenance", RETIRED)
-
-
-def add_commands(command: Callable[..., Parser]) -> None:
-    """Adds these commands, each of which asks as the admin where nothing names another."""
-    health = command("health", set_health)
-    health.add_argument("boards", metavar="BOARD", nargs="+", help="A board's name.")
-    about = f"{', '.join(HEALTHS[:-1])}, or {HEALTHS[-1]}, which is for good."
-    health.add_argument("health", metavar="HEALTH", type=health_called, help=about)
-    health.flag("--yes", f"Ask nothing before boards are {RETIRED}, at a terminal too.")
-    tags = command("tags", set_tags)
-    tags.add_argument("board", metavar="BOARD", help="The board's name.")
-    tags.add_argument("tags", metavar="TAG", nargs="*", help="A tag of the board.")
-    tags.flag("--none", "It has no tags from now on.")
-    kind = command("add-type", add_type)
-    kind.add_argument("name", metavar="NAME", help="The type's name.")
-    about = "What its checks are counted by, with --every (default none)."
-    one_of(kind, "--check", lab_text.CHECKS, about)
-    about = f"How many hours or jobs lie between two checks, 1 to {LONGEST_EVERY}."
-    kind.add_argument("--every", metavar="N", type=whole(1, LONGEST_EVERY), help=about)
-    board = command("add-board", add_board)
-    board.add_argument("name", metavar="NAME", help="The board's name.")
-    board.add_argument("type", metavar="TYPE", help="Its type.")
-    board.add_argument("tags", metavar="TAG", nargs="*", help="A tag of the board.")
-    lab = command("import", lab_import.import_lab)
-    lab.add_argument("file", metavar="FILE", help="The lab file, or - for the input.")
-    for each in (health, tags, kind, board, lab):
-        each.set_defaults(asks_as="admin", parser=each)
 
 
 def health_called(text: str) -> str:

@@ -21,6 +21,17 @@ TAIL = 4_000_000
 # ---- what there is and was
 
 
+def show_some_or_all(desk: calls.Desk, options: argparse.Namespace) -> int:
+    """Shows jobs by their numbers, or without any, those that are open and the last that ended."""
+    if options.numbers:
+        if options.mine or options.last:
+            options.parser.error("--mine and --last go without numbers")
+        return show_jobs(desk, options)
+    if options.text:
+        options.parser.error("--text: give numbers")
+    return list_jobs(desk, options)
+
+
 def list_jobs(desk: calls.Desk, options: argparse.Namespace) -> int:
     """Shows the jobs that haven't ended, and the last ones that have."""
     now = open_jobs(desk, desk.user if options.mine else None)

@@ -1,10 +1,9 @@
 """A user's tokens, which stand for the user's password in pipelines: the site's farm-door knows them."""
 import argparse
-from typing import Any, Callable, Dict, List
+from typing import Any, Dict, List
 
 from fizgruk import calls
 from fizgruk._tools import tables
-from fizgruk._tools.parsers import Parser
 from fizgruk.desk import REFUSED, tell, views
 from fizgruk.errors import Code, Refused, Unreachable
 
@@ -13,13 +12,6 @@ COLUMNS: List[tables.Column] = [
     ("NAME", lambda it: tables.printable(it["name"])),
     ("MADE", lambda it: tables.moment(it["made"])),
 ]
-
-
-def add_commands(command: Callable[..., Parser]) -> None:
-    command("tokens", show_tokens)
-    name = "The token's name, which no other of yours has."
-    command("add-token", add_token).add_argument("name", metavar="NAME", help=name)
-    command("end-token", end_token).add_argument("name", metavar="TOKEN", help="The token's name.")
 
 
 def show_tokens(desk: calls.Desk, options: argparse.Namespace) -> int:
