@@ -20,7 +20,7 @@ from fizgruk._tools import parsers  # noqa: E402
 
 # The man pages, and the modules that have their parsers.
 PAGES = {
-    "desk.1": "fizgruk.desk.main",
+    "desk.1": "fizgruk.desk.commands",
     "farm-access.8": "farm_access.main",
     "farm-backup.8": "farm_backup.main",
     "farm-dispatch.8": "farm_dispatch.main",

@@ -94,7 +94,33 @@ def calls_in_one(
     return [(it[0], it[1], it[2]) for it in json.loads(ran.stdout)]
 
 
-class Farm:
+class Asks:
+    """Who asks the desk at a port of this machine."""
+
+    port: int
+
+    def ask(
+        self, user: str, method: str, path: str, body: Any = None, key: Optional[str] = None
+    ) -> Tuple[int, Any]:
+        """The status and the body of an answer."""
+        fields = {"x-user": user, **({"x-key": key} if key else {})}
+        sent = body if body is None or isinstance(body, bytes) else json.dumps(body).encode()
+        line = http.client.HTTPConnection("127.0.0.1", self.port, timeout=60)
+        try:
+            line.request(method, path, body=sent, headers=fields)
+            answer = line.getresponse()
+            return answer.status, json.loads(answer.read())
+        finally:
+            line.close()
+
+    def tell(self, user: str, path: str, body: Any = None) -> Any:
+        """Gives a command that has to be accepted."""
+        status, said = self.ask(user, "POST", path, body)
+        assert status == 200, f"{user} POST {path} {body}: {said}"
+        return said
+
+
+class Farm(Asks):
     """A farm in a new file, with Good boards of two types, served on a free port of 127.0.0.1."""
 
     def __init__(self, program: str, folder: str, boards: Sequence[Board]):
@@ -136,26 +162,6 @@ class Farm:
         """Kills the serving at once."""
         self.process.kill()
         self.process.communicate()
-
-    def ask(
-        self, user: str, method: str, path: str, body: Any = None, key: Optional[str] = None
-    ) -> Tuple[int, Any]:
-        """The status and the body of an answer."""
-        fields = {"x-user": user, **({"x-key": key} if key else {})}
-        sent = body if body is None or isinstance(body, bytes) else json.dumps(body).encode()
-        line = http.client.HTTPConnection("127.0.0.1", self.port, timeout=60)
-        try:
-            line.request(method, path, body=sent, headers=fields)
-            answer = line.getresponse()
-            return answer.status, json.loads(answer.read())
-        finally:
-            line.close()
-
-    def tell(self, user: str, path: str, body: Any = None) -> Any:
-        """Gives a command that has to be accepted."""
-        status, said = self.ask(user, "POST", path, body)
-        assert status == 200, f"{user} POST {path} {body}: {said}"
-        return said
 
     def look(self, path: str) -> Any:
         status, said = self.ask("ann", "GET", path)

@@ -237,7 +237,7 @@ def test_pages_that_arent_as_the_tools_say_are_found_and_written(copy: str) -> N
     ("docs/farm-backup.8", "holds up nobody", "holds nobody up", []),  # prose is left alone
     ("docs/farm-backup.8", '.\\" end options\n', "", ["farm-backup.8: it has the parts"]),
     ("tools/farm_import/from_lava.py", "dispatcher-config.", "folder.", ["farm-from-lava.1: line "]),
-    ("tools/farm_import/from_lava.py", ', help="The server\'s dispatcher-config."', "", ["FOLDER\\fP has no text"]),
+    ("tools/farm_import/from_lava.py", '"The server\'s dispatcher-config."', '""', ["FOLDER\\fP has no text"]),
 ])
 def test_what_is_told_of_a_change(copy: str, file: str, old: str, new: str, told: Sequence[str]) -> None:
     text = read(copy, file)

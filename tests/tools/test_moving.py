@@ -15,7 +15,7 @@ from typing import Any, Callable, Iterator, List, Tuple
 import pytest
 from fizgruk import toml_text
 from fizgruk._tools import parsers
-from fizgruk.desk.main import parser_of
+from fizgruk.desk.commands import parser_of
 from served import TOOLS, TOP, Farm, environment, read
 from wants import wants_modules
 

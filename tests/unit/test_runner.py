@@ -39,7 +39,8 @@ class Clock:
 @pytest.fixture
 def clock(monkeypatch: pytest.MonkeyPatch) -> Clock:
     made = Clock()
-    monkeypatch.setattr(runner, "time", made)
+    for module in (runner, disk):
+        monkeypatch.setattr(module, "time", made)
     return made
 
 

@@ -59,7 +59,7 @@ class Desk:
             "reservations": {"reservations": list(self.reservations.values())},
         }[kind]
 
-    def tell(self, path: str, key: Optional[str] = None) -> Any:
+    def tell(self, path: str, body: None = None, key: Optional[str] = None) -> Any:
         self.told.append((path, key))
         if self.is_full and key:
             raise Refused(409, Code.FULL, "full")
@@ -567,6 +567,15 @@ def acquires(lab: Lab, number: int, name: str) -> None:
     lab.looks(5)
 
 
+def held(lab: Lab, owner: str = "ann") -> Tuple[int, float]:
+    """A hold of b1 that was seen from its waiting on: its number, and when it began."""
+    lab.watches()
+    number = lab.desk.waits(owner)
+    lab.looks()
+    acquires(lab, number, "b1")
+    return number, lab.clock.at
+
+
 def frees(lab: Lab, name: str) -> None:
     lab.desk.boards[name].update(state="Idle", holder="none")
 
@@ -610,11 +619,7 @@ def test_a_hold_nobody_saw_waiting_has_its_owner_by_a_question_at_its_end(lab: L
 
 
 def test_a_board_that_is_released_and_acquired_again_is_two_holds(lab: Lab) -> None:
-    lab.watches()
-    number = lab.desk.waits()
-    lab.looks()
-    acquires(lab, number, "b1")
-    began = lab.clock.at
+    number, began = held(lab)
     lab.desk.boards["b1"].update(state="Reserved")
     lab.looks(30)
     lab.desk.boards["b1"].update(state="Running")
@@ -636,11 +641,7 @@ def test_what_was_only_given_to_a_reservation_is_no_hold(lab: Lab) -> None:
 
 
 def test_a_hold_that_ended_while_nobody_looked_counts_until_it_was_seen_last(lab: Lab) -> None:
-    lab.watches()
-    number = lab.desk.waits()
-    lab.looks()
-    acquires(lab, number, "b1")
-    began = lab.clock.at
+    number, began = held(lab)
     for _ in range(10):
         lab.looks(30)
     frees(lab, "b1")
@@ -662,11 +663,7 @@ def test_a_hold_that_farm_watch_ends_says_so(lab: Lab) -> None:
 
 def test_holds_of_the_farm_before_end_with_it(lab: Lab) -> None:
     """And what had the same numbers there isn't taken for this farm's."""
-    lab.watches()
-    number = lab.desk.waits("bob")
-    lab.looks()
-    acquires(lab, number, "b1")
-    began = lab.clock.at
+    number, began = held(lab, "bob")
     lab.desk = Desk(lab.clock)
     lab.desk.count = 1
     again = lab.desk.holds("b1", lab.clock.at, "zoe")
@@ -682,10 +679,7 @@ def test_holds_of_the_farm_before_end_with_it(lab: Lab) -> None:
 
 @pytest.mark.parametrize("step", ["before the line", "in the line", "behind the line"])
 def test_a_line_is_there_once_over_a_kill(lab: Lab, monkeypatch: pytest.MonkeyPatch, step: str) -> None:
-    lab.watches()
-    number = lab.desk.waits()
-    lab.looks()
-    acquires(lab, number, "b1")
+    number, _ = held(lab)
     frees(lab, "b1")
 
     def dies(*_: object) -> None:
@@ -714,10 +708,7 @@ def test_a_line_is_there_once_over_a_kill(lab: Lab, monkeypatch: pytest.MonkeyPa
 
 
 def test_what_cant_be_written_down_is_told_and_waits(lab: Lab, monkeypatch: pytest.MonkeyPatch) -> None:
-    lab.watches()
-    number = lab.desk.waits()
-    lab.looks()
-    acquires(lab, number, "b1")
+    number, _ = held(lab)
     frees(lab, "b1")
     shown = os.path.join(os.path.dirname(lab.file), "shown")
     with open(shown, "w", encoding="utf-8"):

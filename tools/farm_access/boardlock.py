@@ -48,12 +48,12 @@ class BoardLock:
         hold has ended meanwhile."""
         since = time.monotonic()
         while taker.is_mine():
-            if self._has(fcntl.LOCK_SH) and self.hold() == hold:
+            if self.has(fcntl.LOCK_SH) and self.hold() == hold:
                 return True
-            if self._has(fcntl.LOCK_EX) and self.clean(hold, taker):
+            if self.has(fcntl.LOCK_EX) and self.clean(hold, taker):
                 self.note(hold)
                 # flock lets go of the one before it has the other, so what it says is read again
-                if self._has(fcntl.LOCK_SH) and self.hold() == hold:
+                if self.has(fcntl.LOCK_SH) and self.hold() == hold:
                     return True
             fcntl.flock(self.opened, fcntl.LOCK_UN)
             if time.monotonic() > since + GRACE:
@@ -66,7 +66,7 @@ class BoardLock:
 
     def is_free(self) -> bool:
         """Whether nobody has it now."""
-        if not self._has(fcntl.LOCK_EX):
+        if not self.has(fcntl.LOCK_EX):
             return False
         fcntl.flock(self.opened, fcntl.LOCK_UN)
         return True
@@ -76,7 +76,7 @@ class BoardLock:
         the board is ready."""
         if not self.hold():
             return True
-        if not self._has(fcntl.LOCK_EX) or not self.clean("", taker):
+        if not self.has(fcntl.LOCK_EX) or not self.clean("", taker):
             return False
         self.note("")
         return True
@@ -104,7 +104,7 @@ class BoardLock:
     def close(self) -> None:
         os.close(self.opened)
 
-    def _has(self, kind: int) -> bool:
+    def has(self, kind: int) -> bool:
         try:
             fcntl.flock(self.opened, kind | fcntl.LOCK_NB)
             return True

@@ -1,15 +1,12 @@
 """A session's command in a cage of its own (farm_dispatch.cages says which there are), with the
 session's terminal, or its pipes."""
 import contextlib
-import ctypes
 import os
 import signal
-from typing import Callable, Dict, List, Optional, Sequence
+from typing import Callable, Dict, Optional, Sequence
 
 from farm_dispatch import cages
 
-_LIBC = ctypes.CDLL(None, use_errno=True)
-_PR_SET_PDEATHSIG = 1
 NOT_RUN, NO_COMMAND = 126, 127
 NO_CAGE = "here can be made neither a cgroup for a session nor a namespace of processes"
 # What a command may have of what its session ignores or catches.
@@ -44,7 +41,7 @@ def start(
         with contextlib.suppress(BaseException):
             for each in (told, go, *closed):
                 os.close(each)
-            _die_with(caller)
+            _demand_life(caller)
             mark = _enter(form, cgroup)
             os.write(tells, mark.encode())
             os.close(tells)
@@ -62,9 +59,9 @@ def start(
     return child
 
 
-def hang_up(mark: str) -> None:
+def hang_up(mark: str, cage: cages.Cage) -> None:
     """Sends SIGHUP to all in a cage; the first of a namespace hands it on."""
-    for pid in _pids(mark):
+    for pid in cages.pids_in(mark, cage):
         with contextlib.suppress(ProcessLookupError, PermissionError):
             os.kill(pid, signal.SIGHUP)
 
@@ -96,26 +93,11 @@ def become(words: Sequence[str], environment: Dict[str, str]) -> None:
         os._exit(NO_COMMAND)
 
 
-def _pids(mark: str) -> List[int]:
-    kind, _, value = mark.partition(":")
-    if kind == "pidns":
-        first = cages.first_of(value)
-        return [first] if first else []
-    found = []
-    if kind == cages.CGROUP:
-        for folder, _, _ in os.walk(os.path.join(value, cages.COMMAND)):
-            with contextlib.suppress(OSError):
-                with open(os.path.join(folder, "cgroup.procs"), encoding="ascii") as file:
-                    found += [int(it) for it in file.read().split()]
-    return found
-
-
 # ---- within the child
 
 
-def _die_with(parent: int) -> None:
-    _LIBC.prctl(_PR_SET_PDEATHSIG, int(signal.SIGKILL))
-    if os.getppid() not in (parent, 0):  # 0: it is beyond this namespace
+def _demand_life(parent: int) -> None:
+    if not cages.dies_with(parent):
         os._exit(NOT_RUN)
 
 
@@ -130,7 +112,7 @@ def _enter(form: str, cgroup: str) -> str:
     first = os.fork()
     if first:
         os._exit(code_of(os.waitpid(first, 0)[1]))
-    _die_with(outer)
+    _demand_life(outer)
     pid = int(os.readlink("/proc/self"))  # as its number is outside
     mark = f"pidns:{cages.name_of(pid)}"
     cages.mount_proc()

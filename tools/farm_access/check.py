@@ -62,10 +62,8 @@ def _of_board(site: Site, board: Board) -> int:
         return _told(board.name, "access.toml has no way for it")
     lock = BoardLock(site.folder, board.name, os.devnull)
     try:
-        fcntl.flock(lock.opened, fcntl.LOCK_EX | fcntl.LOCK_NB)
-    except BlockingIOError:
-        return _told(board.name, "", f"in use by {lock.hold() or 'somebody'}, so it isn't tried")
-    else:
+        if not lock.has(fcntl.LOCK_EX):
+            return _told(board.name, "", f"in use by {lock.hold() or 'somebody'}, so it isn't tried")
         return sum(_of_way(board.name, name, ways[name]) for name in sorted(ways))
     finally:
         lock.close()

@@ -11,13 +11,15 @@ from typing import Any, Dict, List, NoReturn, Optional
 
 from farm_access import record, sessions
 from farm_access.boardlock import BoardLock, is_left
-from farm_access.lookout import Board, Lookout, NoDesk, is_current
+from farm_access.lookout import MOST, Board, Lookout, NoDesk, is_current
 from farm_access.session import told_of
 from farm_access.sessions import GRACE, Session
 from farm_access.site import AFTER, Site
 from farm_access.work import Work, session_of
 from fizgruk._tools import disk
+from fizgruk._tools.telling import Teller
 
+tell = Teller("farm-access: guard")
 LOOKS = 0.25
 HOUR = 3600.0
 PAUSE = 5.0  # after a board that couldn't be cleaned up
@@ -45,10 +47,6 @@ def serve(site: Site, file: str) -> NoReturn:
         if trouble != before:
             tell(trouble or "it goes on")
         time.sleep(LOOKS)
-
-
-def tell(text: str) -> None:
-    print(f"farm-access: guard: {text}", file=sys.stderr, flush=True)
 
 
 class Guard:
@@ -150,9 +148,8 @@ class Guard:
 
 def shut_in(file: str) -> Dict[str, int]:
     """The boards that were shut when the guard ended."""
-    with contextlib.suppress(OSError, ValueError, TypeError, AttributeError, KeyError):
-        with open(file, encoding="utf-8") as text:
-            boards = json.load(text)["boards"]
+    with contextlib.suppress(ValueError, TypeError, AttributeError, KeyError):
+        boards = disk.object_in(file, MOST)["boards"]
         return {name: int(it["shut"]) for name, it in boards.items() if "shut" in it}
     return {}
 

@@ -5,14 +5,12 @@ that nobody sets. A session that is to begin asks by itself, since an answer of 
 """
 import contextlib
 import dataclasses
-import fcntl
 import json
 import os
 import time
-from typing import Any, Dict, Iterator, NamedTuple, Optional
+from typing import Any, Dict, NamedTuple, Optional
 
 from farm_access.site import Site
-from farm_dispatch import strangers
 from fizgruk import calls, settings
 from fizgruk._tools import disk
 from fizgruk.errors import Refused, Unreachable
@@ -71,7 +69,8 @@ class Lookout:
         kept = self._kept(FRESH, since)
         if kept is not None:
             return kept
-        with self._turn() as is_mine:
+        # (nobody else looks meanwhile)
+        with disk.locked(self.turn, 0o660) as is_mine:
             if is_mine:
                 return self.look()
         kept = self._kept(STALE, since)
@@ -99,24 +98,10 @@ class Lookout:
     def _kept(self, seconds: float, since: float) -> Optional[Dict[str, Board]]:
         """What was seen at most so many seconds ago, and not before `since`."""
         with contextlib.suppress(ValueError, TypeError, KeyError):
-            kept = json.loads(strangers.text_in(self.seen, MOST) or "{}")
+            kept = disk.object_in(self.seen, MOST)
             if 0 <= time.monotonic() - kept["at"] <= seconds and kept["at"] >= since:
                 return {name: Board(**it) for name, it in kept["boards"].items()}
         return None
-
-    @contextlib.contextmanager
-    def _turn(self) -> Iterator[bool]:
-        """Has the turn to look meanwhile, where nobody else has: says whether."""
-        opened = os.open(self.turn, os.O_RDWR | os.O_CREAT | os.O_CLOEXEC | os.O_NOFOLLOW, 0o660)
-        try:
-            try:
-                fcntl.flock(opened, fcntl.LOCK_EX | fcntl.LOCK_NB)
-            except BlockingIOError:
-                yield False
-            else:
-                yield True
-        finally:
-            os.close(opened)
 
 
 def is_current(hold: str, board: Optional[Board]) -> bool:

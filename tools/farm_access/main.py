@@ -1,15 +1,16 @@
 """farm-access: a board's console, power and network for who holds it, behind OpenSSH."""
 import argparse
 import os
-import sys
 from typing import Any, Dict, Optional, Sequence
 
 from farm_access import site
 from farm_access.site import Site
 from fizgruk._tools import parsers
+from fizgruk._tools.telling import Teller
 from fizgruk.words import BadFile
 
 BAD_WORDS, FAULT = 2, 4
+end = Teller("farm-access").told
 SESSION, KEYS, GUARD, TIDY, RUN, WAY = "session", "keys", "guard", "tidy", "run", "way"
 CHECK = "check"
 ABOUT = """\
@@ -51,21 +52,20 @@ as '$FARM_WAY b1 console', '$FARM_WAY b1 power cycle'.""",
 def parser_of() -> parsers.Parser:
     parser = parsers.parser_of("farm-access", ABOUT.replace("{{", "{").replace("}}", "}"), STATUSES)
     about = "The ways and the rest (default %(default)s)."
-    parser.add_argument("--file", metavar="FILE", default=site.FILE, help=about)
+    parser.option("--file", "FILE", about, default=site.FILE)
     commands = parser.add_subparsers(dest="command", metavar="COMMAND", required=True)
     made: Dict[str, parsers.Parser] = {}
     for name, text in COMMANDS.items():
         more: Dict[str, Any] = {"about": text}  # which the class of these parsers takes
         made[name] = commands.add_parser(name, help=parsers.first_sentence(text), **more)
-    made[KEYS].add_argument("key", metavar="WORD", nargs=2, help="The key's type, and the key.")
-    made[TIDY].add_argument("board", metavar="BOARD", help="The board.")
-    about = "The boards (default: all of them)."
-    made[CHECK].add_argument("boards", metavar="BOARD", nargs="*", help=about)
+    made[KEYS].option("key", "WORD", "The key's type, and the key.", nargs=2)
+    made[TIDY].option("board", "BOARD", "The board.")
+    made[CHECK].option("boards", "BOARD", "The boards (default: all of them).", nargs="*")
     about = "HOLD and the boards, as '\"job 12\" b1', or none within farm-dispatch; '--'; the command."
-    made[RUN].add_argument("words", metavar="WORD", nargs=argparse.REMAINDER, help=about)
+    made[RUN].option("words", "WORD", about, nargs=argparse.REMAINDER)
     made[RUN].forms = ("farm-access run [HOLD BOARD ..] -- COMMAND ..",)
     about = "A session's words, the board first."
-    made[WAY].add_argument("words", metavar="WORD", nargs=argparse.REMAINDER, help=about)
+    made[WAY].option("words", "WORD", about, nargs=argparse.REMAINDER)
     made[WAY].forms = ("farm-access way BOARD WORD ..",)
     return parser
 
@@ -118,8 +118,3 @@ def serve(found: Site, options: argparse.Namespace) -> int:
     except (OSError, ValueError, lookout.NoDesk) as fault:
         work.say(str(fault))
         return FAULT
-
-
-def end(status: int, text: str) -> int:
-    print(f"farm-access: {text}", file=sys.stderr, flush=True)
-    return status

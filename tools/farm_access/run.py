@@ -7,7 +7,6 @@ job's boards are given on. What drives a board there goes by its ways as people 
 that $FARM_WAY has before those of a session: each is a session of the job's hold, which shares the
 lock with the command.
 """
-import ctypes
 import os
 import shlex
 import signal
@@ -26,8 +25,6 @@ from fizgruk.words import NAMES
 PATIENCE = 300.0
 WAY = "FARM_WAY"
 USAGE = "farm-access run [HOLD BOARD ..] -- COMMAND .."
-_LIBC = ctypes.CDLL(None, use_errno=True)
-_PR_SET_PDEATHSIG = 1
 T = TypeVar("T")
 
 
@@ -164,8 +161,7 @@ def spawn(
         return child
     try:
         os.close(closed)
-        _LIBC.prctl(_PR_SET_PDEATHSIG, int(signal.SIGKILL))
-        if os.getppid() == caller:
+        if cages.dies_with(caller):
             if umask is not None:
                 os.umask(umask)
             cage.become(words, around)

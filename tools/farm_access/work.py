@@ -187,7 +187,7 @@ class Work:
     def ended(self) -> bool:
         """Ends what the session started. Returns whether nothing of it can be left."""
         for mark in self.session.marks:
-            cage.hang_up(mark)
+            cage.hang_up(mark, self.session.cage())
         until = time.monotonic() + HANGUP
         while self.child and time.monotonic() < until and cage.status_of(self.child) is None:
             time.sleep(STEP / 2)

@@ -154,17 +154,10 @@ def _copy_within(farm: copying.Farm, source: copying.Farm) -> str:
     for end in ends:
         with open(f"{new}{end}", "r+b") as opened:
             os.fchmod(opened.fileno(), 0o600)
-            _give(opened.fileno(), home)
+            farm_files.give(opened.fileno(), home)
             os.fsync(opened.fileno())
     disk.sync_folder(place)
     return place
-
-
-def _give(opened: int, home: str) -> None:
-    """Gives a file to who has the folder."""
-    if os.geteuid() == 0:
-        about = os.stat(home)
-        os.fchown(opened, about.st_uid, about.st_gid)
 
 
 def _put_in_place(farm: copying.Farm, place: str, generation: int) -> None:
@@ -180,8 +173,7 @@ def _put_in_place(farm: copying.Farm, place: str, generation: int) -> None:
 def _write(file: str, text: str) -> None:
     """Writes a file whole and synced, which who has its folder may read."""
     disk.write_synced(file, f"{text}\n")
-    with open(file, "rb") as opened:
-        _give(opened.fileno(), os.path.dirname(file))
+    farm_files.give(file, os.path.dirname(file))
 
 
 # ---- setting aside
@@ -219,9 +211,7 @@ def set_aside(farm: copying.Farm, generation: int) -> str:
     if not names and not os.path.exists(there):
         return ""
     os.makedirs(place, mode=0o700, exist_ok=True)
-    if os.geteuid() == 0:
-        about = os.stat(os.path.dirname(farm.db))
-        os.chown(place, about.st_uid, about.st_gid)
+    farm_files.give(place, os.path.dirname(farm.db))
     if names:
         farm_files.set_aside(farm.db, names, place)
     return place

@@ -86,63 +86,53 @@ def parser_of() -> parsers.Parser:
         f"{PROGRAM} --promote [--db FILE] [--units] [--program FILE] DIR",
         f"{PROGRAM} --demote [--db FILE] [--units] DIR",
     )
-    option = parser.add_argument
-    option("--db", metavar="FILE", default=DB, help="The farm's file (default %(default)s).")
+    parser.option("--db", "FILE", "The farm's file (default %(default)s).", default=DB)
     _add_copies(parser)
     _add_looks(parser)
     _add_standby(parser)
     about = "The program that checks a copy (default %(default)s, as the shell finds it)."
-    option("--program", metavar="FILE", default="farm", help=about)
+    parser.option("--program", "FILE", about, default="farm")
     about = "Tell on standard error why a copy is made again, and with which desk it is compared."
     parser.flag("--verbose", about)
-    about = "Where the copies or the standby are."
-    option("folder", metavar="DIR", nargs="?", help=about)
+    parser.option("folder", "DIR", "Where the copies or the standby are.", nargs="?")
     return parser
 
 
 def _add_copies(parser: parsers.Parser) -> None:
-    about = """\
+    parser.option("--keep", "N", """\
 Once the new copy has its name, remove all but the newest N, by what they hold; without it none \
-is."""
-    parser.add_argument("--keep", metavar="N", type=parsers.whole(1, 1_000_000), help=about)
-    about = """\
+is.""", type=parsers.whole(1, 1_000_000))
+    parser.option("--server", "URL", """\
 Ask the desk there before the copying how many commands it has done, and throw the copy away where
-it has fewer. Where no answer comes this is told, and the copy is kept."""
-    parser.add_argument("--server", metavar="URL", type=_server, help=about)
+it has fewer. Where no answer comes this is told, and the copy is kept.""", type=_server)
 
 
 def _add_looks(parser: parsers.Parser) -> None:
-    option = parser.add_argument
     parser.flag("--now", "Copy once, for one who looks at the farm while its desk serves.")
-    about = """\
-Where the copy is, as one file that 'farm report' and SQLite's shell open; none may be there."""
-    option("--to", metavar="FILE", help=about)
+    parser.option("--to", "FILE", """\
+Where the copy is, as one file that 'farm report' and SQLite's shell open; none may be there.""")
     about = """\
 Print a report over the copy, which is removed then: 'queue', 'boards' or 'reservations'."""
-    option("--report", metavar="TOPIC", choices=looking.TOPICS, help=about)
+    parser.option("--report", "TOPIC", about, choices=looking.TOPICS)
     about = "The report's moments, so many minutes east of UTC."
-    option("--east", metavar="N", type=parsers.whole(0, 1439), help=about)
-    option("--west", metavar="N", type=parsers.whole(0, 1439), help="The same, west of UTC.")
+    parser.option("--east", "N", about, type=parsers.whole(0, 1439))
+    parser.option("--west", "N", "The same, west of UTC.", type=parsers.whole(0, 1439))
 
 
 def _add_standby(parser: parsers.Parser) -> None:
-    option = parser.add_argument
     parser.flag("--follow", "Keep a standby in DIR.")
     about = "Between two shippings to the standby (default 1)."
-    option("--every", metavar="SECONDS", type=parsers.decimal(0.001, 3600), default=1.0, help=about)
-    about = """\
+    parser.option("--every", "SECONDS", about, type=parsers.decimal(0.001, 3600), default=1.0)
+    parser.flag("--promote", """\
 Make the standby in DIR this machine's farm: FILE and its log are a copy of it then, and what stood
 there is set aside beside them, in fenced-N. The farm that the standby followed is fenced from then
-on: a follower of it, or '--demote', sets it aside where it comes back. It can be run again."""
-    parser.flag("--promote", about)
-    about = """\
+on: a follower of it, or '--demote', sets it aside where it comes back. It can be run again.""")
+    parser.flag("--demote", """\
 Set FILE and its log aside, in fenced-N beside them, where the standby in DIR was promoted over
-them; a desk that has them open ends. Else nothing is done."""
-    parser.flag("--demote", about)
-    about = """\
+them; a desk that has them open ends. Else nothing is done.""")
+    parser.flag("--units", """\
 Stop the units farm-dispatch and farm before '--promote', and enable and start them after it;
-disable and stop them after '--demote' has set something aside."""
-    parser.flag("--units", about)
+disable and stop them after '--demote' has set something aside.""")
 
 
 def options_of(words: Optional[Sequence[str]]) -> argparse.Namespace:

@@ -21,7 +21,7 @@ import shutil
 import stat
 import sys
 import time
-from typing import Any, Dict, List, Optional, Sequence
+from typing import Any, Dict, List, Sequence
 
 from farm_dispatch import folders, junit, room, runner
 from farm_dispatch.folders import KEPT
@@ -37,7 +37,7 @@ MOST_NAMED, LONGEST_SHOWN = 50, 200  # of what is left out
 TIME = 300.0  # seconds after which the rest is left out
 MARGIN = 67_108_864  # bytes of the disk that are left to others
 MEMORY, PROCESSOR = 1_000_000_000, 600  # bytes and seconds that the process may take
-LOCKED_WITHIN = 5.0
+LOCKED_WITHIN = 5.0  # seconds in which the group's runner, which has its lock, ends
 BLOCK = 262_144
 OPEN = os.O_RDONLY | os.O_NOFOLLOW | os.O_NONBLOCK | os.O_NOCTTY | os.O_CLOEXEC
 ENTER = os.O_RDONLY | os.O_DIRECTORY | os.O_NOFOLLOW | os.O_CLOEXEC
@@ -68,23 +68,13 @@ def main(words: Sequence[str]) -> int:
         least = most if hard == resource.RLIM_INFINITY else min(most, hard)
         resource.setrlimit(kind, (least, least))
     files = folders.Files(order.place, int(os.path.basename(state)))
-    lock = lock_of(state)
+    lock = disk.take_lock_in_time(os.path.join(state, folders.LOCK), LOCKED_WITHIN)
     if lock is None or (files.text(folders.MADE) or "") != order.made or files.has(KEPT):
         return 0
     kept = kept_of(files, order)
     room.with_room(order.place, lambda: files.write(KEPT, json.dumps(kept)))
     runner.wake(order.place)
     return 0
-
-
-def lock_of(folder: str) -> Optional[int]:
-    """The group's lock, which its runner may have until it has ended."""
-    until = time.monotonic() + LOCKED_WITHIN
-    while True:
-        lock = disk.take_lock(os.path.join(folder, folders.LOCK))
-        if lock is not None or time.monotonic() > until:
-            return lock
-        time.sleep(0.05)
 
 
 def kept_of(files: folders.Files, order: Order) -> Dict[str, Any]:

@@ -24,10 +24,10 @@ import os
 import signal
 import subprocess
 import time
-from typing import Dict, Iterator, List, NamedTuple, Optional, Sequence, Set, Tuple
+from typing import Dict, List, NamedTuple, Optional, Sequence, Set
 
 from farm_dispatch import accounts
-from fizgruk._tools import disk
+from fizgruk._tools import disk, processes
 
 ACCOUNT, CGROUP, NAMESPACE, NONE = "account", "cgroup", "namespace", "none"
 FORMS = (ACCOUNT, CGROUP, NAMESPACE, NONE)
@@ -142,23 +142,16 @@ def kill(mark: str, cage: Cage) -> None:
     """Kills all that is in a cage."""
     kind, _, value = mark.partition(":")
     if kind == ACCOUNT:
-        _kill(first_of(_keeper_in(value)))
-        return
-    if kind == CGROUP:
-        own = os.path.join(value, COMMAND)
-        if not _write(os.path.join(own, "cgroup.kill"), "1"):
-            for folder, _, _ in os.walk(own):  # another account's, with the right to kill its processes
-                for line in lines_of(os.path.join(folder, "cgroup.procs")):
-                    _kill(int(line))
-        return
-    if kind == "pidns":
-        _kill(first_of(value))
-        return
-    found = _found(value, cage)
-    if len(found) > 1:
-        found.discard(first_of(value) or 0)  # the keeper takes up what the others leave behind
+        return _kill(first_of(_keeper_in(value)))
+    if kind == CGROUP and _write(os.path.join(value, COMMAND, "cgroup.kill"), "1"):
+        return None
+    # (a cgroup may be another account's, with the right to kill its processes)
+    found = pids_in(mark, cage)
+    if kind == NONE and len(found) > 1:
+        found -= {first_of(value) or 0}  # the keeper takes up what the others leave behind
     for pid in found:
         _kill(pid)
+    return None
 
 
 def empty(mark: str, cage: Cage, seconds: float) -> bool:
@@ -187,15 +180,18 @@ def remove(mark: str) -> bool:
 
 def left_in(mark: str, cage: Cage) -> str:
     """What is left in a cage, for people: each process with its state."""
+    states = [(it, processes.stat_of(it)) for it in sorted(pids_in(mark, cage))[:10]]
+    return ", ".join(f"{it} ({said[0] if said else 'gone'})" for it, said in states) or "its lock is held"
+
+
+def pids_in(mark: str, cage: Cage) -> Set[int]:
+    """The processes in a cage; of a namespace the first."""
     kind, _, value = mark.partition(":")
     if kind in (ACCOUNT, CGROUP):
         own = cgroup_of(mark) if kind == ACCOUNT else os.path.join(value, COMMAND)
-        pids = [int(it) for it in lines_of(os.path.join(own, "cgroup.procs"))]
-    elif kind == "pidns":
-        pids = [it for it in (first_of(value),) if it]
-    else:
-        pids = sorted(_found(value, cage))
-    return ", ".join(f"{it} ({_stat(it)[0] or 'gone'})" for it in pids[:10]) or "its lock is held"
+        files = (os.path.join(folder, "cgroup.procs") for folder, _, _ in os.walk(own))
+        return {int(it) for file in files for it in lines_of(file)}
+    return {first_of(value) or 0} - {0} if kind == "pidns" else _found(value, cage)
 
 
 def _keeper_in(value: str) -> str:
@@ -214,8 +210,8 @@ def first_of(value: str) -> Optional[int]:
 
 def started_at(pid: int) -> str:
     """When a process began, in ticks since the boot; nothing where it has ended."""
-    state, fields = _stat(pid)
-    return fields[19] if state not in ("", "Z", "X") and len(fields) > 19 else ""
+    process = processes.process_of(pid)
+    return process.began if process else ""
 
 
 def name_of(pid: int) -> str:
@@ -230,7 +226,7 @@ def boot_id() -> str:
 def runners_of(folder: str) -> List[int]:
     """The processes that are there to run what a group's folder says."""
     words = [f"{it}\0{folder}\0".encode() for it in RUNNERS]
-    told = ((pid, _bytes(f"/proc/{pid}/cmdline")) for pid in _pids())
+    told = ((pid, processes.bytes_in(f"/proc/{pid}/cmdline")) for pid in processes.pids())
     return [pid for pid, said in told if any(it in said for it in words)]
 
 
@@ -265,8 +261,7 @@ def keep(cage: Cage, command: Sequence[str], environment: Dict[str, str], output
         try:
             os.close(go)
             os.close(told)
-            _LIBC.prctl(_PR_SET_PDEATHSIG, int(signal.SIGKILL))
-            if os.getppid() in (caller, 0):  # 0: it is beyond this namespace
+            if dies_with(caller):
                 kind = _AccountKeeper if cage.form == ACCOUNT else _Keeper
                 kind(cage, tells, goes).run(command, environment, output)
         except BaseException as fault:  # pylint: disable=broad-except
@@ -411,6 +406,12 @@ def mount_proc() -> None:
             _LIBC.mount(b"proc", b"/proc", b"proc", flags, None)
 
 
+def dies_with(parent: int) -> bool:
+    """Lets the system kill this process when its parent ends. Returns whether that lives still."""
+    _LIBC.prctl(_PR_SET_PDEATHSIG, int(signal.SIGKILL))
+    return os.getppid() in (parent, 0)  # 0: it is beyond this namespace
+
+
 def _say(line: int, text: str) -> None:
     with contextlib.suppress(OSError):
         os.write(line, f"{' '.join(text.split())}\n".encode(errors="replace"))
@@ -424,7 +425,9 @@ def _found(value: str, cage: Cage) -> Set[int]:
     top = first_of(value)
     found = {top, *_below(top)} if top else set()
     cookie = f"{COOKIE}={cage.folder}".encode()
-    found |= {it for it in _pids() if cookie in _bytes(f"/proc/{it}/environ").split(b"\0")}
+    for it in processes.pids():
+        if cookie in processes.bytes_in(f"/proc/{it}/environ").split(b"\0"):
+            found.add(it)
     return found - {os.getpid(), os.getppid()}
 
 
@@ -441,34 +444,13 @@ def _kill_below(top: int) -> None:
 
 
 def _below(top: int) -> Set[int]:
-    parents: List[Tuple[int, int]] = []
-    for pid in _pids():
-        state, fields = _stat(pid)
-        if state not in ("", "Z", "X"):
-            parents.append((pid, int(fields[1])))
-    found: Set[int] = set()
-    more = {top}
-    while more:
-        more = {pid for pid, parent in parents if parent in more} - found
-        found |= more
-    return found
+    return processes.with_below({top}, processes.living()) - {top}
 
 
 def _kill(pid: Optional[int]) -> None:
     if pid:
         with contextlib.suppress(ProcessLookupError, PermissionError):
             os.kill(pid, signal.SIGKILL)
-
-
-def _pids() -> Iterator[int]:
-    return (int(it) for it in os.listdir("/proc") if it.isdigit() and int(it) != os.getpid())
-
-
-def _stat(pid: int) -> Tuple[str, List[str]]:
-    """A process's state, and the fields of its stat from there on."""
-    text = _bytes(f"/proc/{pid}/stat").decode(errors="replace")
-    fields = text.rpartition(")")[2].split()
-    return (fields[0], fields) if fields else ("", [])
 
 
 def _locked(file: str) -> int:
@@ -479,15 +461,7 @@ def _locked(file: str) -> int:
 
 def lines_of(file: str) -> List[str]:
     """The lines of a file of the kernel's; none where there is none."""
-    return _bytes(file).decode(errors="replace").splitlines()
-
-
-def _bytes(file: str) -> bytes:
-    try:
-        with open(file, "rb") as opened:
-            return opened.read()
-    except OSError:
-        return b""
+    return processes.bytes_in(file).decode(errors="replace").splitlines()
 
 
 def _write(file: str, text: str) -> bool:

@@ -406,7 +406,7 @@ class Dispatcher:
         for view in views:
             path, key = f"/jobs/{view['number']}/finish", group.key_of("finish", view["number"])
             try:
-                self._give(path, {"outcome": outcome}, key)
+                calls.tell_with_room(self.desk, path, {"outcome": outcome}, key)
             except Refused as refusal:
                 if refusal.code not in (Code.NO_SUCH_JOB, Code.WRONG_JOB_STATE):
                     raise
@@ -450,16 +450,6 @@ class Dispatcher:
         if ended.startswith("status ") and ended != f"status {self.options.infra}":
             return "Incomplete"
         return "Infra"
-
-    def _give(self, path: str, body: Dict[str, Any], key: str) -> None:
-        """Gives a command under its key, or without where the desk has no room for one more
-        reply."""
-        try:
-            self.desk.tell(path, body, key)
-        except Refused as refusal:
-            if refusal.code != Code.FULL:
-                raise
-            self.desk.tell(path, body)
 
     def _close(self, number: int) -> None:
         """Ends what runs for a group that holds no board any more: somebody else finished it, or

@@ -31,7 +31,7 @@ import contextlib
 import json
 import os
 import time
-from typing import Any, Dict, Iterator, List, Optional, Tuple
+from typing import Any, ContextManager, Dict, List, Optional, Tuple
 
 from farm_dispatch import strangers
 from fizgruk._tools import disk
@@ -82,15 +82,9 @@ def note(folder: str, text: str) -> None:
             log.write(line_of(text))
 
 
-@contextlib.contextmanager
-def locked(folder: str) -> Iterator[bool]:
+def locked(folder: str) -> ContextManager[bool]:
     """Has a group's lock meanwhile, where its runner hasn't: says whether."""
-    lock = disk.take_lock(os.path.join(folder, LOCK))
-    try:
-        yield lock is not None
-    finally:
-        if lock is not None:
-            os.close(lock)
+    return disk.locked(os.path.join(folder, LOCK))
 
 
 def claim(folder: str, limit: float = 0, ended: str = "") -> bool:

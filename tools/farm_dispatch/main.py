@@ -5,7 +5,7 @@ import selectors
 import shlex
 import signal
 import time
-from typing import Any, Callable, Dict, List, Optional, Sequence
+from typing import Dict, List, Optional, Sequence
 
 from farm_dispatch import cage_limits, cages, folders, parts
 from farm_dispatch.clocks import UNSYNCHRONIZED, Clocks
@@ -26,7 +26,7 @@ STANDS = (
     "a command can't be started ({}): until it can, nothing is started, no pass made, and no job "
     "finished by it"
 )
-TRIES, PAUSE = 40, 0.05
+LOCKED_WITHIN = 2.0
 NO_CAGE = (
     "neither a cgroup nor a namespace of processes is made for a job: what a command leaves behind "
     "is found by its environment and an open file alone, and a process that drops both lives on"
@@ -180,7 +180,8 @@ def main(words: Optional[Sequence[str]] = None) -> int:
         os.makedirs(place, mode=0o711, exist_ok=True)
         if options.adopt:
             return adopt(place, options.adopt)
-        lock = lock_of(place)
+        # (the process that a killed dispatcher just made may have it for a moment)
+        lock = disk.take_lock_in_time(os.path.join(place, folders.LOCK), LOCKED_WITHIN)
         if lock is None:
             return end(FAULT, f"{place} is in use by another farm-dispatch")
         part = parts.take(desk.server, options.serves)
@@ -200,17 +201,6 @@ def main(words: Optional[Sequence[str]] = None) -> int:
         return NOT_STARTED if dispatcher and dispatcher.starts.fault else 0
     except (BadSettings, parts.Taken, OSError, ValueError) as fault:
         return end(FAULT, str(fault))
-
-
-def lock_of(place: str) -> Optional[int]:
-    """A folder's lock, which the process that a killed dispatcher just made may have for a
-    moment."""
-    for left in reversed(range(TRIES)):
-        lock = disk.take_lock(os.path.join(place, folders.LOCK))
-        if lock is not None or not left:
-            return lock
-        time.sleep(PAUSE)
-    return None
 
 
 def tell_of_itself(desk: calls.Desk, place: str, options: argparse.Namespace) -> None:
@@ -233,33 +223,24 @@ def adopt(place: str, numbers: Sequence[int]) -> int:
 
 def parser_of() -> parsers.Parser:
     parser = parsers.parser_of("farm-dispatch", ABOUT, STATUSES)
-
-    def option(
-        name: str, metavar: str, default: Any, kind: Callable[[str], Any], about: str
-    ) -> None:
-        parser.add_argument(name, metavar=metavar, default=default, type=kind, help=about)
-
-    about = """\
+    parser.option("--folder", "DIR", """\
 Where jobs have their folders, and the history (default %(default)s). It must keep what it has over
-a restart of the machine."""
-    option("--folder", "DIR", "/var/lib/farm-dispatch", str, about)
-    about = """\
+a restart of the machine.""", default="/var/lib/farm-dispatch")
+    parser.option("--every", "SECONDS", """\
 Between two passes (default %(default)s). The status page and desk(1) warn where the desk's clock is
-more than 30 seconds old."""
-    option("--every", "SECONDS", 5, seconds, about)
+more than 30 seconds old.""", default=5, type=seconds)
     about = "Between SIGTERM and SIGKILL, once a command is told to end (default %(default)s)."
-    option("--grace", "SECONDS", 30, seconds, about)
+    parser.option("--grace", "SECONDS", about, default=30, type=seconds)
     about = "The exit status that means a fault of the lab (default %(default)s)."
-    option("--infra", "STATUS", 75, int, about)
+    parser.option("--infra", "STATUS", about, default=75, type=int)
     about = "For how long the folder of a job that has ended is kept (default %(default)s)."
-    option("--keep", "DAYS", 30, seconds, about)
+    parser.option("--keep", "DAYS", about, default=30, type=seconds)
     about = "The command for health checks with its arguments, in one word (default COMMAND)."
-    parser.add_argument("--check", metavar="WORDS", type=shlex.split, help=about)
-    about = """\
+    parser.option("--check", "WORDS", about, type=shlex.split)
+    parser.option("--adopt", "NUMBERS", """\
 Only lets the dispatcher of DIR take these jobs, '12,13', which run for the desk and were begun with
 a folder that is lost: they end as Infra. What began them has to be gone, as its machine is off, and
-stay so until they are Finished."""
-    parser.add_argument("--adopt", metavar="NUMBERS", type=numbers_of, help=about)
+stay so until they are Finished.""", type=numbers_of)
     group = asking.add_options(parser, "dispatch", "default dispatcher")
     for name, (metavar, default, about) in MORE.items():
         word = f"--{name.replace('_', '-')}"
@@ -271,9 +252,9 @@ stay so until they are Finished."""
 def add_command(parser: parsers.Parser) -> None:
     """Adds the command, which is wanted where it doesn't adopt alone."""
     about = "What is run for a job: the script itself, without a shell or env(1) in front."
-    parser.add_argument("command", metavar="COMMAND", nargs="?", help=about)
+    parser.option("command", "COMMAND", about, nargs="?")
     about = "What the command gets as its arguments."
-    parser.add_argument("arguments", metavar="ARGUMENT", nargs=argparse.REMAINDER, help=about)
+    parser.option("arguments", "ARGUMENT", about, nargs=argparse.REMAINDER)
     runs = parsers.forms_of(parser)[0].replace(" [--adopt NUMBERS]", "")
     adopts = "farm-dispatch [--folder DIR] --adopt NUMBERS"
     parser.forms = (runs.replace("[COMMAND]", "COMMAND"), adopts)

@@ -10,8 +10,7 @@ Boards = Dict[str, Dict[str, Any]]  # boards that are held, by their names
 
 def held_of(boards: Iterable[Dict[str, Any]]) -> List[int]:
     """The numbers of the jobs that hold boards."""
-    holders = (it["holder"].split() for it in boards)
-    return sorted(int(it[1]) for it in holders if it[0] == "job")
+    return sorted(calls.held_in(boards, "job"))
 
 
 def views_of(desk: calls.Desk, numbers: Iterable[int]) -> Rows:

@@ -36,7 +36,7 @@ class Notes:
             said = self._read() if now is not None else {}
         except (BadFile, OSError, UnicodeDecodeError) as why:
             fault = f"{self.file}: {' '.join(str(why).split())}"
-            said = self._before().boards
+            said = notes.told(disk.object_in(self.shown, 2 * notes.LONGEST_FILE)).boards
             self.tell(f"notes of boards: {fault}; what it said before is shown")
         shown = {"at": int(time.time()), "fault": fault, "boards": said}
         try:
@@ -60,12 +60,6 @@ class Notes:
         if len(data) > notes.LONGEST_FILE:
             raise BadFile(f"it has more than {notes.LONGEST_FILE:,} bytes")
         return notes.notes_in(data.decode())
-
-    def _before(self) -> notes.Notes:
-        try:
-            return notes.told(json.loads(disk.text_in(self.shown, 2 * notes.LONGEST_FILE) or "{}"))
-        except ValueError:
-            return notes.Notes({})
 
 
 def _at_once(file: str, flags: int) -> int:

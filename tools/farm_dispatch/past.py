@@ -76,12 +76,13 @@ class Past:
         """Writes the lines of a group's members: how its command ended, and what outcome this is
         where the desk doesn't say it."""
         about = self._about_in(folder)
-        began = _moment_of(os.path.join(folder, folders.BEGAN))
+        now = int(time.time())
+        began = moment_of(os.path.join(folder, folders.BEGAN)) or now
         common = {
             "name": about["name"],
             "submitted": None if records.is_check(about) else self._submitted(number, began),
             "began": began,
-            "ended": max(began, _moment_of(os.path.join(folder, folders.ENDED))),
+            "ended": max(began, moment_of(os.path.join(folder, folders.ENDED)) or now),
         }
         left = _left_in(folder)
         rows = []
@@ -179,9 +180,9 @@ def _members_of(groups: Iterable[int]) -> Set[int]:
     return {it + place for it in groups for place in range(MOST_WANTS)}
 
 
-def _moment_of(file: str) -> int:
-    """When a file was written; now, where it wasn't."""
+def moment_of(file: str) -> Optional[int]:
+    """When a file was written, or None where it wasn't."""
     try:
         return int(os.stat(file).st_mtime)
     except FileNotFoundError:
-        return int(time.time())
+        return None

@@ -10,7 +10,7 @@ from typing import Any, Dict, List, Optional, Set, Tuple
 
 from farm_dispatch import folders
 from farm_dispatch.groups import Groups
-from farm_dispatch.past import Past
+from farm_dispatch.past import Past, moment_of
 from fizgruk import calls
 from fizgruk._tools import disk
 from fizgruk.errors import Code, Refused, Unreachable
@@ -43,10 +43,9 @@ class Present:
     def _kept(self) -> Holds:
         """The holds that an earlier dispatcher told."""
         try:
-            with open(os.path.join(self.place, RUNNING), encoding="utf-8") as file:
-                rows = json.loads(file.read(disk.MOST))["holds"]
+            rows = disk.object_in(os.path.join(self.place, RUNNING))["holds"]
             return {(it["board"], f"reservation {it['reservation']}"): int(it["since"]) for it in rows}
-        except (OSError, ValueError, KeyError, TypeError):
+        except (ValueError, KeyError, TypeError):
             return {}
 
     def show_running(self) -> None:
@@ -73,7 +72,7 @@ class Present:
         limit = (folders.begin_of(files.state) or (0, 0))[1]
         common = {
             "group": number, "owner": about["owner"], "name": about["name"],
-            "began": _moment_of(os.path.join(files.state, folders.BEGAN)), "limit": int(limit),
+            "began": moment_of(os.path.join(files.state, folders.BEGAN)), "limit": int(limit),
         }
         return [{**it, **common} for it in about["members"]]
 
@@ -120,11 +119,3 @@ class Present:
             whole = json.dumps({"at": int(time.time()), **said}, separators=(",", ":"))
             disk.write_whole(os.path.join(self.place, name), f"{whole}\n")
             self.written[name] = text
-
-
-def _moment_of(file: str) -> Optional[int]:
-    """When a file was written, or None where it wasn't."""
-    try:
-        return int(os.stat(file).st_mtime)
-    except FileNotFoundError:
-        return None

@@ -24,6 +24,7 @@ LOOKS = 0.5
 RETRY = 1.0
 MEASURES = 10.0  # seconds between two looks at a folder's size
 DIES_WITHIN = 10.0  # seconds that what was killed has to be gone
+LOCKED_WITHIN = 2.0
 BLOCK = 65536
 
 
@@ -93,12 +94,8 @@ def keep_end(place: str, state: str, how: str) -> None:
 def lock_of(folder: str) -> Optional[int]:
     """The folder's lock, or None where another runs the job. The dispatcher, which tries whether it
     is held, lets go of it at once."""
-    for _ in range(40):
-        lock = disk.take_lock(os.path.join(folder, folders.LOCK))
-        if lock is not None or os.path.exists(os.path.join(folder, folders.BEGAN)):
-            return lock
-        time.sleep(0.05)
-    return None
+    lock, began = (os.path.join(folder, it) for it in (folders.LOCK, folders.BEGAN))
+    return disk.take_lock_in_time(lock, LOCKED_WITHIN, lambda: os.path.exists(began))
 
 
 class Run:

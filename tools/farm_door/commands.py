@@ -1,10 +1,10 @@
 """A command on its way through the door: to the desk, and its answer as it came."""
 import http.client
-import json
 import re
 from typing import NamedTuple, Sequence, Tuple
 
 from fizgruk import settings
+from fizgruk._tools import disk
 from fizgruk.words import NAMES, BadFile
 
 LOGIN = re.compile(rf"({NAMES.pattern})(?: \(token [0-9]{{1,9}} {NAMES.pattern}\))?")
@@ -51,10 +51,7 @@ class Answer(NamedTuple):
     @property
     def number(self) -> str:
         """The number of the job or the reservation, for the audit."""
-        try:
-            number = json.loads(self.body)["number"] if self.status == 200 else ""
-        except (ValueError, TypeError, KeyError, RecursionError):
-            return ""
+        number = disk.object_of(self.body).get("number") if self.status == 200 else ""
         return str(number) if type(number) is int else ""
 
 

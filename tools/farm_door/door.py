@@ -1,5 +1,4 @@
 """What the door decides: who asks, which command is handed on to the desk, and whose tokens there are."""
-import json
 import re
 import sqlite3
 import threading
@@ -10,6 +9,7 @@ from farm_door.commands import Answer, Command, Desk, NotReached, Refused
 from farm_door.counts import JOBS, RESERVATIONS, WORDS, Counts, Passed
 from farm_door.kept import MOST_TOKENS, Full, Kept, Taken
 from farm_door.rules import Group, Rules
+from fizgruk._tools import disk
 from fizgruk.words import NAMES
 
 BEARER = re.compile(r"[Bb]earer (\S{1,200})")
@@ -144,10 +144,7 @@ def _at_limit(group: Group, word: str) -> Refused:
 
 
 def _name_in(body: bytes) -> str:
-    try:
-        name = json.loads(body)["name"]
-    except (ValueError, TypeError, KeyError, RecursionError) as fault:
-        raise Refused(400, "no name of a token") from fault
+    name = disk.object_of(body).get("name")
     if not isinstance(name, str) or not NAMES.fullmatch(name):
         raise Refused(400, "no name of a token")
     return name

@@ -83,40 +83,36 @@ def parser_of() -> parsers.Parser:
         f"{PROGRAM} --next FILE [--check] [--let-go] [--db FILE] [--program FILE] [--stop WORDS] "
         "[--start WORDS] [settings]",
     )
-    about = """\
+    parser.option("--lab", "FILE", """\
 The lab's own file, to be compared with the desk: the written file and standard error name its lines
-that say something else of a type or a board."""
-    parser.add_argument("--lab", metavar="FILE", dest="own_file", help=about)
-    about = """\
+that say something else of a type or a board.""", dest="own_file")
+    parser.option("--set-health", "FILE", """\
 The lab file whose boards are given their health, which is printed. Those in Maintenance stay as the
-import made them. Done again it does no harm."""
-    parser.add_argument("--set-health", metavar="FILE", help=about)
+import made them. Done again it does no harm.""")
     _add_next(parser)
     asking.add_options(parser, "desk", "default admin")
     return parser
 
 
 def _add_next(parser: parsers.Parser) -> None:
-    option = parser.add_argument
     about = """\
 Make the next farm of this lab file, and let the desk serve it. A board without a health in the file
 has the one that it has at the desk; a new one is in Maintenance. Where the file names another health
 than the desk, nothing is begun."""
-    option("--next", metavar="FILE", help=about)
+    parser.option("--next", "FILE", about)
     about = "Check whether it can be done, say what would be otherwise, and change nothing."
-    option("--check", action="store_true", help=about)
+    parser.flag("--check", about)
     about = """\
 Begin also where people have boards, or something waits, all of which isn't carried over. (A job that
 has a board is never let go: wait for its end, or 'desk cancel' it.)"""
-    option("--let-go", action="store_true", help=about)
-    option("--db", metavar="FILE", help=f"The farm's file (default {DB}).")
+    parser.flag("--let-go", about)
+    parser.option("--db", "FILE", f"The farm's file (default {DB}).")
     about = "The program that makes it (default farm, as the shell finds it)."
-    option("--program", metavar="FILE", help=about)
-    about = """\
+    parser.option("--program", "FILE", about)
+    parser.option("--stop", "WORDS", """\
 The command that stops the desk, farm-dispatch(8) and farm-watch(8), where they aren't systemd's
-units; it is run without a shell, and may come twice."""
-    option("--stop", metavar="WORDS", help=about)
-    option("--start", metavar="WORDS", help="The command that starts them again, and ends.")
+units; it is run without a shell, and may come twice.""")
+    parser.option("--start", "WORDS", "The command that starts them again, and ends.")
 
 
 def options_of(words: Optional[Sequence[str]]) -> argparse.Namespace:

@@ -32,16 +32,16 @@ def main(words: Optional[Sequence[str]] = None) -> int:
 
 def parser_of() -> parsers.Parser:
     parser = lab_file.parser_of(PROGRAM, ABOUT, lab_file.statuses_of(FAULT))
-    parser.add_argument("places", metavar="PLACES", help="The coordinator's places.yaml.")
+    parser.option("places", "PLACES", "The coordinator's places.yaml.")
     about = """\
 The tag whose value is the board's type (default %(default)s). The tag stays a tag."""
-    parser.add_argument("--type-tag", metavar="KEY", default="board", help=about)
+    parser.option("--type-tag", "KEY", about, default="board")
     about = """\
 Write the places' comments there, as notes of boards (/etc/farm/notes.toml has the lab's); none may be
 there."""
-    parser.add_argument("--notes", metavar="FILE", help=about)
+    parser.option("--notes", "FILE", about)
     about = "The type of places without that tag, which are not told then (default place)."
-    parser.add_argument("--type", metavar="NAME", help=about)
+    parser.option("--type", "NAME", about)
     return parser
 
 
@@ -75,15 +75,8 @@ def write_notes(lab: lab_file.LabFile, file: str, comments: Dict[str, str]) -> N
 
 def places_of(file: str) -> Dict[str, Dict[str, Any]]:
     """The places of a file by their names. All words in it are texts, as they are written."""
-    try:
-        import yaml
-    except ImportError as fault:
-        raise lab_file.Unreadable("PyYAML isn't there (python3-yaml)") from fault
-    try:
-        with open(file, encoding="utf-8") as text:
-            places = yaml.load(text, Loader=yaml.BaseLoader)
-    except (yaml.YAMLError, UnicodeDecodeError) as fault:
-        raise lab_file.Unreadable(f"{file} isn't YAML: {' '.join(str(fault).split())}") from fault
+    with open(file, encoding="utf-8") as text:
+        places = lab_file.yaml_of(file, text, "BaseLoader")
     places = {} if places in NOTHING else places
     if not isinstance(places, dict):
         raise lab_file.Unreadable(f"{file} has no places by their names")

@@ -42,18 +42,15 @@ def parser_of() -> parsers.Parser:
         f"{PROGRAM} [--output FILE] [--hours N] [--tags FILE] [--verbose] FOLDER",
         f"{PROGRAM} [--output FILE] --job FILE",
     )
-    add = parser.add_argument
-    add("folder", metavar="FOLDER", nargs="?", help="The server's dispatcher-config.")
-    about = """\
-A LAVA job definition, YAML, of which a job file is made. What is lost is told once."""
-    add("--job", metavar="FILE", help=about)
+    parser.option("folder", "FOLDER", "The server's dispatcher-config.", nargs="?")
+    parser.option("--job", "FILE", """\
+A LAVA job definition, YAML, of which a job file is made. What is lost is told once.""")
     about = "Between two checks of a board, 1 to 10000 (default %(default)s)."
     hours = parsers.whole(1, 10_000)
-    parser.add_argument("--hours", metavar="N", type=hours, default=24, help=about)
-    about = """\
+    parser.option("--hours", "N", about, type=hours, default=24)
+    parser.option("--tags", "FILE", """\
 The devices' tags, which stand in LAVA's database: a line 'DEVICE TAG ..' for each device that has
-some."""
-    parser.add_argument("--tags", metavar="FILE", help=about)
+some.""")
     return parser
 
 

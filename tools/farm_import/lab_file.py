@@ -5,12 +5,10 @@ import json
 import os
 import re
 import sys
-from typing import Callable, Dict, Iterable, List, NamedTuple, Optional, Tuple
+from typing import Any, Callable, Dict, Iterable, List, NamedTuple, Optional, TextIO, Tuple, Union
 
-from fizgruk._tools import parsers
-from fizgruk.bounds import (
-    MOST_BOARDS, MOST_OF_A_TYPE, MOST_TAGS, MOST_TYPES, NAME, TAG_KEY, TAG_VALUE,
-)
+from fizgruk._tools import lab_text, parsers
+from fizgruk.bounds import MOST_TAGS, NAME, TAG_KEY, TAG_VALUE
 
 CARRIED, NOT_CARRIED, FAULT = 0, 1, 4
 LEFT_OUT = "The lab file is written, and standard error says what was left out, a line each."
@@ -36,8 +34,7 @@ def statuses_of(fault: str) -> parsers.Statuses:
 def parser_of(program: str, about: str, statuses: parsers.Statuses) -> parsers.Parser:
     """The parser of a program that writes a lab file, with the options that each has."""
     parser = parsers.parser_of(program, about, statuses)
-    about = "The lab file; without it, the output."
-    parser.add_argument("--output", metavar="FILE", help=about)
+    parser.option("--output", "FILE", "The lab file; without it, the output.")
     parser.flag("--verbose", "Tell also what is left out of every file.")
     return parser
 
@@ -125,17 +122,8 @@ class LabFile:
     def note_limits(self) -> None:
         """Notes what a farm has no room for, where `farm import` will stop."""
         kinds = [board[0] for board in self.boards.values()]
-        for what, most, found in [
-            ("types", MOST_TYPES, len(self.types)),
-            ("boards", MOST_BOARDS, len(self.boards)),
-            *(
-                (
-                    f"boards of type {it}", MOST_OF_A_TYPE, kinds.count(it)
-                ) for it in sorted(set(kinds))
-            ),
-        ]:
-            if found > most:
-                self.note("lab file", f"it has {found} {what}, and a farm has room for {most}")
+        for what in lab_text.beyond_limits(len(self.types), kinds):
+            self.note("lab file", what)
 
     def word(self, where: str, what: str, text: str, longest: int) -> str:
         """A text as a word of the desk's."""
@@ -158,6 +146,18 @@ class LabFile:
         if not value:
             return word
         return f"{word}={self.word(where, f'value of tag {key}', value, TAG_VALUE)}"
+
+
+def yaml_of(file: str, source: Union[str, TextIO], loader: str) -> Any:
+    """What the text of a file says in YAML, by one of PyYAML's loaders. Raises Unreadable."""
+    try:
+        import yaml
+    except ImportError as fault:
+        raise Unreadable("PyYAML isn't there (python3-yaml)") from fault
+    try:
+        return yaml.load(source, Loader=getattr(yaml, loader))
+    except (yaml.YAMLError, ValueError, RecursionError) as fault:
+        raise Unreadable(f"{file} isn't YAML: {' '.join(str(fault).split())}") from fault
 
 
 def basic(text: str) -> str:

@@ -3,7 +3,7 @@ top, and the definition, as it was written, where run-job-lava looks for it."""
 import re
 from typing import Any, Callable, Dict, List, Optional, Tuple
 
-from farm_import.lab_file import LabFile, Unreadable, basic
+from farm_import.lab_file import LabFile, Unreadable, basic, yaml_of
 from fizgruk import job_file, limits
 from fizgruk.bounds import HIGHEST_PRIORITY, LONGEST_JOB_FILE, MOST_WANTS, NAME
 
@@ -77,17 +77,13 @@ def job_of(file: str) -> Tuple[str, LabFile]:
 
 
 def _tree_of(file: str, data: bytes) -> Tuple[str, Dict[str, Any]]:
-    try:
-        import yaml
-    except ImportError as fault:
-        raise Unreadable("PyYAML isn't there (python3-yaml)") from fault
     if len(data) > LARGEST:
         raise Unreadable(f"{file} has more than {LARGEST:,} bytes")
     try:
         definition = data.decode()
-        tree = yaml.safe_load(definition)
-    except (yaml.YAMLError, UnicodeDecodeError, ValueError, RecursionError) as fault:
-        raise Unreadable(f"{file} isn't YAML: {' '.join(str(fault).split())}") from fault
+    except UnicodeDecodeError as fault:
+        raise Unreadable(f"{file} isn't YAML: {fault}") from fault
+    tree = yaml_of(file, definition, "SafeLoader")
     if not isinstance(tree, dict) or not isinstance(tree.get("actions"), list):
         raise Unreadable(f"{file} is no LAVA job: it has no list of actions")
     return definition.replace("\r\n", "\n"), tree

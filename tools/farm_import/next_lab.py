@@ -6,11 +6,9 @@ from typing import Any, Dict, List, NamedTuple, Tuple
 from farm_import import lab_file
 from fizgruk import calls, toml_text
 from fizgruk._tools import lab_text, tables
-from fizgruk.bounds import LONGEST_LAB_FILE, MOST_BOARDS, MOST_OF_A_TYPE, MOST_TYPES
-from fizgruk.errors import Code, Refused
+from fizgruk.bounds import HEALTHS, LONGEST_LAB_FILE
 from fizgruk.words import BadFile
 
-HEALTHS = ("Good", "Bad", "Unknown", "Maintenance", "Retired")
 FIRST_HEALTH = "Maintenance"  # that a farm gives a new board
 Rows = Dict[str, Dict[str, Any]]
 
@@ -71,11 +69,8 @@ def _demand_room(lab: NextLab) -> None:
     if not lab.boards:
         raise BadFile("it has no boards")
     kinds = [it["type"] for it in lab.boards.values()]
-    counts = [("types", len(lab.types), MOST_TYPES), ("boards", len(lab.boards), MOST_BOARDS)]
-    counts += [(f"boards of type {it}", kinds.count(it), MOST_OF_A_TYPE) for it in sorted(set(kinds))]
-    for what, count, most in counts:
-        if count > most:
-            raise BadFile(f"it has {count} {what}, and a farm has room for {most}")
+    for what in lab_text.beyond_limits(len(lab.types), kinds):
+        raise BadFile(what)
 
 
 # ---- beside the farm that is there
@@ -145,12 +140,8 @@ def _owner_of(desk: calls.Looker, holder: str) -> str:
     """Whose a holder is, with a word before it."""
     kind, _, number = holder.partition(" ")
     if kind == "job":
-        try:
-            return f" of {desk.look(f'/jobs/{number}')['owner']}"
-        except Refused as refusal:
-            if refusal.code != Code.NO_SUCH_JOB:
-                raise
-            return ""  # it has ended meanwhile
+        job = calls.job_of(desk, int(number))
+        return f" of {job['owner']}" if job else ""  # (it has ended meanwhile)
     rows = calls.rows_of(desk, "reservations")
     owners = [it["owner"] for it in rows if str(it["number"]) == number]
     return f" of {owners[0]}" if owners else ""

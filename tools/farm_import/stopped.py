@@ -6,6 +6,7 @@ import time
 from typing import Any, Dict
 
 from fizgruk import calls
+from fizgruk._tools import farm_files
 from fizgruk.errors import Refused
 
 DONE, REFUSED = 0, 3
@@ -29,10 +30,7 @@ class Farm:
         return Farm(os.path.join(folder, self.name), self.program)
 
     def give(self, path: str) -> None:
-        """Gives what root made to who has the farm's folder."""
-        if os.geteuid() == 0:
-            about = os.stat(self.home)
-            os.chown(path, about.st_uid, about.st_gid)
+        farm_files.give(path, self.home)
 
     def order(self, *words: str) -> None:
         """Lets the program carry out an order over the file."""

@@ -9,10 +9,9 @@ from prometheus_client.core import CounterMetricFamily, GaugeMetricFamily, Metri
 
 from fizgruk import calls
 from fizgruk._tools import disk, passes
-from fizgruk.bounds import MOST_BOARDS, MOST_JOBS, MOST_RESERVATIONS, MOST_TYPES
+from fizgruk.bounds import HEALTHS, MOST_BOARDS, MOST_JOBS, MOST_RESERVATIONS, MOST_TYPES
 from fizgruk.errors import Refused, Unreachable
 
-HEALTHS = ("Good", "Bad", "Unknown", "Maintenance", "Retired")
 STATES = ("Idle", "Reserved", "Running")
 KINDS = ("group", "reservation")
 OUTCOMES = ("Complete", "Incomplete", "Infra", "Canceled")
@@ -37,7 +36,7 @@ class Collector:
         self.desk = desk
         self.passes = Passes(counted)
         self.state = state
-        found = _state_in(state)
+        found = disk.object_in(state, LONGEST_STATE) if state else {}
         self.count = int(found.get("count", 0))
         self.seen: Dict[str, float] = dict(found.get("seen", {}))
         self.history = History(history, found.get("history", {}))
@@ -180,24 +179,8 @@ class History:
 
 def _outcome_of(line: bytes) -> str:
     """How a job ended of which a line is; nothing of other lines."""
-    try:
-        row = json.loads(line)
-    except (ValueError, RecursionError):
-        return ""
-    if not isinstance(row, dict) or row.get("kind") != "job":
-        return ""
-    return str(row.get("outcome", ""))[:LONGEST_OUTCOME]
-
-
-def _state_in(file: Optional[str]) -> Dict[str, Any]:
-    """What an earlier process kept; nothing where there is none, or it can't be read."""
-    if file is None:
-        return {}
-    try:
-        found = json.loads(disk.text_in(file, LONGEST_STATE) or "{}")
-    except (OSError, ValueError, RecursionError):
-        return {}
-    return found if isinstance(found, dict) else {}
+    row = disk.object_of(line)
+    return str(row.get("outcome", ""))[:LONGEST_OUTCOME] if row.get("kind") == "job" else ""
 
 
 # ---- by the desk's views

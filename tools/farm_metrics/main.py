@@ -77,18 +77,15 @@ def parser_of() -> parsers.Parser:
 Serve http://127.0.0.1:PORT/metrics, and print 'listening PORT' first; 0 takes a port that is
 free."""
     where.add_argument("--listen", metavar="PORT", type=parsers.whole(0, 65535), help=about)
-    about = """\
+    parser.option("--history", "FILE", """\
 The dispatcher's history (default %(default)s). It is read once, and then each time only what is
-new."""
-    parser.add_argument("--history", metavar="FILE", default=HISTORY, help=about)
-    about = f"""\
+new.""", default=HISTORY)
+    parser.option("--passes", "FILE", f"""\
 How many passes the dispatcher asked for, and when the last (default {passes.FILE} in the folder of
-the history)."""
-    parser.add_argument("--passes", metavar="FILE", help=about)
-    about = """\
+the history).""")
+    parser.option("--state", "FILE", """\
 What is kept for the next time: since when claims are seen, and the counts of the history (default
-PATH.state with --textfile; else nothing is kept)."""
-    parser.add_argument("--state", metavar="FILE", help=about)
+PATH.state with --textfile; else nothing is kept).""")
     timeout = "How long a network call may wait, 5 at most (default 5)."
     asking.add_options(
         parser, "desk", "default metrics, which the desk lets look", timeout=timeout

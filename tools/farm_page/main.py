@@ -50,9 +50,9 @@ def main(words: Optional[Sequence[str]] = None) -> int:
 def parser_of() -> parsers.Parser:
     parser = parsers.parser_of(PROGRAM, ABOUT, STATUSES)
     about = "Listen at this port of 127.0.0.1 (default %(default)s); 0 takes a port that is free."
-    parser.add_argument("--port", metavar="PORT", type=_port, default=PORT, help=about)
+    parser.option("--port", "PORT", about, type=_port, default=PORT)
     about = "The folder of farm-dispatch, whose history and logs are shown too."
-    parser.add_argument("--folder", metavar="DIR", help=about)
+    parser.option("--folder", "DIR", about)
     asking.add_options(parser, "desk", "default the login's name")
     return parser
 

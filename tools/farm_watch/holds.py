@@ -118,7 +118,7 @@ class Holds:
         before."""
         path = f"/reservations/{key}/cancel"
         try:
-            self._cancel(path, f"watch-end-{key}")
+            calls.tell_with_room(self.desk, path, None, f"watch-end-{key}")
         except Refused as refusal:
             if refusal.code not in ENDED:
                 self.later[key] = time.monotonic() + RETRY
@@ -126,12 +126,3 @@ class Holds:
             return False
         self.note_own()
         return True
-
-    def _cancel(self, path: str, key: str) -> None:
-        """Cancels, without the key where the desk has no room for one more reply."""
-        try:
-            self.desk.tell(path, key=key)
-        except Refused as refusal:
-            if refusal.code != Code.FULL:
-                raise
-            self.desk.tell(path)

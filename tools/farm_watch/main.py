@@ -67,13 +67,12 @@ def parser_of() -> parsers.Parser:
         "farm-watch --check [FILE]",
         "farm-watch --try [FILE]",
     )
-    about = """\
+    parser.option("--folder", "DIR", """\
 Where it keeps what it has seen and told, in watch.db (default %(default)s). Events are kept for 90
-days. Without this file it begins as at its first look."""
-    parser.add_argument("--folder", metavar="DIR", default=FOLDER, help=about)
+days. Without this file it begins as at its first look.""", default=FOLDER)
     about = "Between two looks, 5 at most (default 5)."
     every = parsers.decimal(0.05, LONGEST_EVERY)
-    parser.add_argument("--every", metavar="SECONDS", type=every, default=LONGEST_EVERY, help=about)
+    parser.option("--every", "SECONDS", about, type=every, default=LONGEST_EVERY)
     parser.flag("--check", "Read FILE, and print its rules.")
     about = "Send the admins a word by each way, and say who took it."
     parser.flag("--try", about, dest="try_ways")
@@ -84,8 +83,7 @@ days. Without this file it begins as at its first look."""
         " '[desk]' of FILE,",
         "How long a network call to the desk may wait, 5 at most (default 5).",
     )
-    about = "The rules (default %(default)s)."
-    parser.add_argument("file", metavar="FILE", nargs="?", default=FILE, help=about)
+    parser.option("file", "FILE", "The rules (default %(default)s).", nargs="?", default=FILE)
     return parser
 
 

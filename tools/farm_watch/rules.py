@@ -67,10 +67,15 @@ class Rules:
 # ---- values: each reader says what is allowed
 
 
-def text_of(value: Any) -> str:
-    if not isinstance(value, str) or not value:
-        raise BadFile(f"{value!r} is no text, as \"..\" is one")
+def demanded(value: Any, is_good: object, what: str) -> Any:
+    """A value that is good; what it isn't, else."""
+    if not is_good:
+        raise BadFile(f"{value!r} {what}")
     return value
+
+
+def text_of(value: Any) -> str:
+    return str(demanded(value, isinstance(value, str) and value, "is no text, as \"..\" is one"))
 
 
 def time_of(shortest: float, longest: float) -> Callable[[Any], float]:
@@ -81,9 +86,8 @@ def time_of(shortest: float, longest: float) -> Callable[[Any], float]:
             seconds = seconds_of(value)
         except limits.BadTime as fault:
             raise BadFile(f"{value!r} is no time, as \"4h\" or \"90 minutes\" is one") from fault
-        if not shortest <= seconds <= longest:
-            span = f"{limits.words_of(shortest)} to {limits.words_of(longest)}"
-            raise BadFile(f"{value!r} isn't within {span}")
+        span = f"{limits.words_of(shortest)} to {limits.words_of(longest)}"
+        demanded(value, shortest <= seconds <= longest, f"isn't within {span}")
         return seconds
 
     return read
@@ -98,9 +102,7 @@ def seconds_of(value: Any) -> float:
 
 
 def flag_of(value: Any) -> bool:
-    if not isinstance(value, bool):
-        raise BadFile(f"{value!r} is neither true nor false")
-    return value
+    return bool(demanded(value, isinstance(value, bool), "is neither true nor false"))
 
 
 def outcomes_of(value: Any) -> Tuple[str, ...]:
@@ -114,9 +116,9 @@ def channels_of(value: Any) -> Tuple[str, ...]:
 
 
 def some_of(value: Any, known: Tuple[str, ...], head: str) -> Tuple[str, ...]:
-    if not isinstance(value, list) or not value or not all(it in known for it in value):
-        named = ", ".join(f'"{it}"' for it in known)
-        raise BadFile(f"{value!r} is none of these: {head} {named}")
+    named = ", ".join(f'"{it}"' for it in known)
+    is_some = isinstance(value, list) and value and all(it in known for it in value)
+    demanded(value, is_some, f"is none of these: {head} {named}")
     return tuple(it for it in known if it in value)
 
 
@@ -124,8 +126,7 @@ def claims_of(value: Any) -> Tuple[str, ...]:
     """Whose claims count: true, those of reservations; "all", those of jobs too."""
     if value == "all":
         return ("reservation", "group")
-    if not isinstance(value, bool):
-        raise BadFile(f"{value!r} is none of true, false, \"all\"")
+    demanded(value, isinstance(value, bool), "is none of true, false, \"all\"")
     return ("reservation",) if value else ()
 
 
@@ -133,8 +134,8 @@ def levels_of(value: Any) -> Tuple[int, ...]:
     def is_level(it: Any) -> bool:
         return isinstance(it, int) and not isinstance(it, bool) and 1 <= it <= 100
 
-    if not isinstance(value, list) or not value or not all(is_level(it) for it in value):
-        raise BadFile(f"{value!r} is no list of whole numbers from 1 to 100, as [80, 95] is one")
+    are_levels = isinstance(value, list) and value and all(is_level(it) for it in value)
+    demanded(value, are_levels, "is no list of whole numbers from 1 to 100, as [80, 95] is one")
     return tuple(sorted(set(value)))
 
 
@@ -148,8 +149,8 @@ def size_of(value: Any) -> int:
 def paths_of(value: Any) -> Tuple[str, ...]:
     """Paths from / on, each once."""
     found = value if isinstance(value, list) else [value]
-    if not found or not all(isinstance(it, str) and it.startswith("/") for it in found):
-        raise BadFile(f"{value!r} is no list of paths from / on, as [\"/var/lib/farm\"] is one")
+    are_paths = found and all(isinstance(it, str) and it.startswith("/") for it in found)
+    demanded(value, are_paths, "is no list of paths from / on, as [\"/var/lib/farm\"] is one")
     return tuple(dict.fromkeys(found))
 
 
@@ -157,9 +158,8 @@ def shut_of(value: Any) -> str:
     """Where it is said which boards are shut: true, in farm-access's own file."""
     if isinstance(value, bool):
         return SHUT if value else ""
-    if not isinstance(value, str) or not value.startswith("/"):
-        raise BadFile(f"{value!r} is neither true nor false nor a path from / on")
-    return value
+    is_path = isinstance(value, str) and value.startswith("/")
+    return str(demanded(value, is_path, "is neither true nor false nor a path from / on"))
 
 
 def url_of(value: Any) -> str:
@@ -168,9 +168,7 @@ def url_of(value: Any) -> str:
         good = address.scheme in ("http", "https") and address.hostname and address.port != 0
     except ValueError:
         good = False
-    if not good:
-        raise BadFile(f"{value!r} is no address, as \"https://chat.lab.example/hook\" is one")
-    return str(value)
+    return str(demanded(value, good, "is no address, as \"https://chat.lab.example/hook\" is one"))
 
 
 def address_of(value: Any) -> str:
@@ -180,9 +178,7 @@ def address_of(value: Any) -> str:
         good = found.username and found.domain and value.isascii()
     except (ValueError, IndexError, email.errors.MessageError):
         good = False
-    if not good:
-        raise BadFile(f"{value!r} is no address of mail, as \"ann@lab.example\" is one")
-    return str(value)
+    return str(demanded(value, good, "is no address of mail, as \"ann@lab.example\" is one"))
 
 
 def addresses_of(value: Any) -> Tuple[str, ...]:
@@ -192,16 +188,14 @@ def addresses_of(value: Any) -> Tuple[str, ...]:
 
 def pattern_of(value: Any) -> str:
     """An owner's address, in which {owner} stands for the name."""
-    if OWNER not in text_of(value):
-        raise BadFile(f"{value!r} has no {OWNER}, as \"{OWNER}@lab.example\" has")
+    demanded(value, OWNER in text_of(value), f"has no {OWNER}, as \"{OWNER}@lab.example\" has")
     address_of(value.replace(OWNER, "ann"))
     return str(value)
 
 
 def command_of(value: Any) -> str:
-    if not text_of(value).startswith("/"):
-        raise BadFile(f"{value!r} is no path from / on, as \"/usr/sbin/sendmail\" is one")
-    return str(value)
+    is_path = text_of(value).startswith("/")
+    return str(demanded(value, is_path, "is no path from / on, as \"/usr/sbin/sendmail\" is one"))
 
 
 HOLD = time_of(SHORTEST_HOLD, LONGEST_HOLD)

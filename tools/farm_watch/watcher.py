@@ -31,12 +31,7 @@ class Look(NamedTuple):
 
     def held(self, kind: str) -> Dict[int, Dict[str, Any]]:
         """The boards that jobs or reservations hold, by the number of these."""
-        found = {}
-        for board in self.lab.boards:
-            holder, _, number = board["holder"].partition(" ")
-            if holder == kind:
-                found[int(number)] = board
-        return found
+        return calls.held_in(self.lab.boards, kind)
 
     def claims(self, kind: str) -> Dict[int, Dict[str, Any]]:
         return {it["number"]: it for it in self.queue if it["kind"] == kind}

@@ -1,4 +1,5 @@
-"""The limits of a farm (docs/MACHINE.md)."""
+"""The limits of a farm, and the healths of boards (docs/MACHINE.md)."""
+HEALTHS = ("Good", "Bad", "Unknown", "Maintenance", "Retired")
 NAME, TAG_KEY, TAG_VALUE = 48, 32, 64
 MOST_TAGS, MOST_TYPES, MOST_BOARDS, MOST_OF_A_TYPE = 16, 64, 256, 64
 MOST_JOBS, MOST_RESERVATIONS = 100_000, 100_000

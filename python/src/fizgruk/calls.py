@@ -10,7 +10,7 @@ import socket
 import ssl
 import time
 import urllib.parse
-from typing import Any, Callable, Dict, Iterator, List, NamedTuple, Optional, Protocol, Tuple, Union
+from typing import Any, Callable, Dict, Iterable, Iterator, List, NamedTuple, Optional, Protocol, Tuple, Union
 
 from fizgruk.bounds import MOST_WANTS
 from fizgruk.errors import Code, Refused, Unreachable
@@ -298,6 +298,16 @@ def _read(answer: http.client.HTTPResponse, begin: int) -> Iterator[bytes]:
         raise http.client.HTTPException("the answer was cut")
 
 
+def tell_with_room(desk: Desk, path: str, body: Body, key: str) -> Row:
+    """Gives a command under its key, or without where the desk has no room for one more reply."""
+    try:
+        return desk.tell(path, body, key)
+    except Refused as refusal:
+        if refusal.code != Code.FULL:
+            raise
+        return desk.tell(path, body)
+
+
 # ---- what is answered
 
 
@@ -315,6 +325,12 @@ def rows_of(desk: Looker, name: str) -> List[Row]:
     if not isinstance(rows, list):
         raise Unreachable(NO_DESKS, getattr(desk, "server", ""))
     return rows
+
+
+def held_in(boards: Iterable[Row], kind: str) -> Dict[int, Row]:
+    """The boards that jobs or reservations hold, by the number of these."""
+    holders = ((it["holder"].partition(" "), it) for it in boards)
+    return {int(number): board for (who, _, number), board in holders if who == kind}
 
 
 def job_of(desk: Looker, number: int) -> Optional[Row]:

@@ -1,12 +1,15 @@
 """The history that farm-dispatch keeps, as the proxy serves it beside the desk, or as it stands in
 the dispatcher's folder."""
 import collections
+import contextlib
 import os
-from typing import Any, Dict, Iterator, List, Optional, Union
+from typing import Any, Dict, Iterator, List, Optional, Type, Union
 
 from fizgruk import artifacts, calls, records, submissions
 from fizgruk._tools import disk
-from fizgruk.errors import BadSettings, Code, NoArtifact, NoLog, NoText, Refused, Unreachable
+from fizgruk.errors import (
+    BadSettings, Code, FizgrukError, NoArtifact, NoLog, NoText, Refused, Unreachable,
+)
 from fizgruk.waiting import Wait
 
 NONE_SERVED = (
@@ -27,31 +30,23 @@ class Served:
 
     def newest(self) -> List[Dict[str, Any]]:
         """The lines of the newest jobs, the newest first."""
-        try:
+        with self._told():
             jobs: List[Dict[str, Any]] = self.desk.look(f"/{records.NEWEST}")["jobs"]
             return jobs
-        except Refused as refusal:
-            raise self._about(refusal)
 
     def rows(self, last: int = 0) -> Iterator[Dict[str, Any]]:
         """All lines, or those of the last so many bytes, the oldest first."""
         self.desk.look("/status")  # (a desk that gives no answer at first is waited for)
         rest = b""
-        try:
+        with self._told():
             for said in self.desk.stream(f"/{records.LINES}", -last):
                 *lines, rest = (rest + said).split(b"\n")
                 yield from (row for row in map(records.row_of, lines) if row is not None)
-        except Refused as refusal:
-            raise self._about(refusal)
 
     def log(self, number: int, begin: int) -> Iterator[bytes]:
         """What a job's log has, from a byte on."""
-        try:
+        with self._told(NoLog):
             yield from self.desk.stream(f"/logs/{number}", begin)
-        except Refused as refusal:
-            if refusal.status == calls.NOT_FOUND and refusal.code != Code.NO_SUCH_ROUTE:
-                raise NoLog from refusal
-            raise self._about(refusal)
 
     def holds(self) -> Optional[List[Dict[str, Any]]]:
         """The lines of people's holds that ended, the oldest first; None where none are served."""
@@ -66,12 +61,8 @@ class Served:
 
     def artifact(self, group: int, name: str) -> Iterator[bytes]:
         """The bytes of a file that is kept of a group, by its name there. Raises NoArtifact."""
-        try:
+        with self._told(NoArtifact):
             yield from self.desk.stream(f"/{artifacts.FOLDER}/{group}/{name}")
-        except Refused as refusal:
-            if refusal.status == calls.NOT_FOUND and refusal.code != Code.NO_SUCH_ROUTE:
-                raise NoArtifact from refusal
-            raise self._about(refusal)
 
     def moments(self) -> submissions.Looks:
         """When the last numbers were given, as far as it is known and served."""
@@ -84,10 +75,18 @@ class Served:
         lines = said.decode(errors="replace").splitlines(keepends=True)
         return submissions.looks_of(lines if len(said) < NUMBERS else lines[1:])
 
-    def _about(self, refusal: Refused) -> Refused:
-        if refusal.status == calls.NOT_FOUND:
-            return refusal.about(NONE_SERVED.format(self.desk.server))
-        return refusal
+    @contextlib.contextmanager
+    def _told(self, lacks: Optional[Type[FizgrukError]] = None) -> Iterator[None]:
+        """Says what is known of a refusal; `lacks` is raised where a history is served that hasn't what
+        was asked for."""
+        try:
+            yield
+        except Refused as refusal:
+            if refusal.status != calls.NOT_FOUND:
+                raise
+            if lacks and refusal.code != Code.NO_SUCH_ROUTE:
+                raise lacks from refusal
+            raise refusal.about(NONE_SERVED.format(self.desk.server))
 
 
 class Kept:
@@ -127,21 +126,22 @@ class Kept:
 
     def log(self, number: int, begin: int) -> Iterator[bytes]:
         """What a job's log has, from a byte on."""
-        try:
-            with open(os.path.join(self.folder, "logs", f"{number}"), "rb") as file:
-                file.seek(begin)
-                yield from iter(lambda: file.read(calls.BLOCK), b"")
-        except FileNotFoundError as fault:
-            raise NoLog from fault
+        return _bytes_of(os.path.join(self.folder, "logs", f"{number}"), NoLog, begin)
 
     def artifact(self, group: int, name: str) -> Iterator[bytes]:
         """The bytes of a file that is kept of a group, by its name there. Raises NoArtifact."""
-        try:
-            opened = disk.opened_file(os.path.join(self.folder, artifacts.FOLDER, f"{group}", name))
-        except FileNotFoundError as fault:
-            raise NoArtifact from fault
-        with open(opened, "rb") as file:
-            yield from iter(lambda: file.read(calls.BLOCK), b"")
+        return _bytes_of(os.path.join(self.folder, artifacts.FOLDER, f"{group}", name), NoArtifact)
+
+
+def _bytes_of(name: str, lacks: Type[FizgrukError], begin: int = 0) -> Iterator[bytes]:
+    """The bytes of a file from one on; `lacks` is raised where it isn't there."""
+    try:
+        opened = disk.opened_file(name)
+    except FileNotFoundError as fault:
+        raise lacks from fault
+    with open(opened, "rb") as file:
+        file.seek(begin)
+        yield from iter(lambda: file.read(calls.BLOCK), b"")
 
 
 Past = Union[Served, Kept]

@@ -1,7 +1,6 @@
 """Notes of boards: where one stands, whose it is, where one reads on. A lab keeps them in a file of TOML,
 of which farm-dispatch makes notes.json in its folder, for the site."""
 import dataclasses
-import json
 import os
 from typing import Any, Dict, Optional
 
@@ -78,7 +77,6 @@ def notes_of(desk: calls.Looker, place: Optional[str]) -> Notes:
     try:
         if not place:
             return told(desk.look(f"/{FILE}"))
-        text = disk.text_in(os.path.join(os.path.expanduser(place), FILE), 2 * LONGEST_FILE)
-        return told(json.loads(text or "{}"))
-    except (Refused, Unreachable, ValueError):
+        return told(disk.object_in(os.path.join(os.path.expanduser(place), FILE), 2 * LONGEST_FILE))
+    except (Refused, Unreachable):
         return Notes({})

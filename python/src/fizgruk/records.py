@@ -52,7 +52,7 @@ class History:
         # of groups that aren't settled: when each member began that has its line
         self.written: Dict[int, Dict[int, int]] = {}
         self.effects: Dict[str, Effect] = {}  # of jobs that ended, until the health is seen
-        self.healths: Dict[str, str] = _healths_in(self.known)
+        self.healths: Dict[str, str] = disk.object_in(self.known)  # as they were seen last
         self.is_shown = False
         append(self.lines, [])
         for row in rows_of(self.lines):
@@ -175,12 +175,7 @@ def rows_of(file: str, last: int = 0) -> Iterable[Dict[str, Any]]:
 
 def row_of(line: bytes) -> Optional[Dict[str, Any]]:
     """What a line of a history says, or None where it isn't one."""
-    try:
-        row = json.loads(line)
-    except ValueError:
-        return None
-    if not isinstance(row, dict):
-        return None
+    row = disk.object_of(line)
     wanted = FIELDS.get(str(row.get("kind")), ())
     return row if wanted and all(it in row for it in wanted) else None
 
@@ -233,13 +228,3 @@ def _write(file: str, said: object) -> bool:
         return True
     except OSError:
         return False
-
-
-def _healths_in(file: str) -> Dict[str, str]:
-    """The boards' healths as they were seen last."""
-    try:
-        with open(file, encoding="utf-8") as known:
-            healths = json.load(known)
-    except (OSError, ValueError):
-        return {}
-    return healths if isinstance(healths, dict) else {}

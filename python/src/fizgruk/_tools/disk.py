@@ -1,12 +1,16 @@
 """Files that a machine's stop leaves whole, locks that end with the process that has them, and files
 that others may have made."""
+import contextlib
 import errno
 import fcntl
+import json
 import os
 import stat
-from typing import Optional
+import time
+from typing import Any, Callable, Dict, Iterator, Optional, Union
 
 MOST = 1_048_576  # bytes of a file of a tool's own, of which none is near that
+PAUSE = 0.05
 READABLE = 0o644  # by the proxy's user and other tools too
 
 
@@ -50,15 +54,39 @@ def opened_file(file: str) -> int:
     raise OSError(f"{file} is no file")
 
 
-def take_lock(file: str) -> Optional[int]:
+def take_lock(file: str, mode: int = 0o640) -> Optional[int]:
     """The open file, locked until its last copy is closed, or None where another has the lock."""
-    opened = os.open(file, os.O_RDWR | os.O_CREAT | os.O_CLOEXEC | os.O_NOFOLLOW, 0o640)
+    opened = os.open(file, os.O_RDWR | os.O_CREAT | os.O_CLOEXEC | os.O_NOFOLLOW, mode)
     try:
         fcntl.flock(opened, fcntl.LOCK_EX | fcntl.LOCK_NB)
     except BlockingIOError:
         os.close(opened)
         return None
     return opened
+
+
+def take_lock_in_time(
+    file: str, seconds: float, is_vain: Callable[[], bool] = lambda: False
+) -> Optional[int]:
+    """The same, where another may have it for a moment: it is tried for so many seconds, or until
+    that is in vain."""
+    for _ in range(round(seconds / PAUSE)):
+        lock = take_lock(file)
+        if lock is not None or is_vain():
+            return lock
+        time.sleep(PAUSE)
+    return None
+
+
+@contextlib.contextmanager
+def locked(file: str, mode: int = 0o640) -> Iterator[bool]:
+    """Has the lock of a file meanwhile, where nobody else has: says whether."""
+    lock = take_lock(file, mode)
+    try:
+        yield lock is not None
+    finally:
+        if lock is not None:
+            os.close(lock)
 
 
 def is_locked(file: str, against: int = fcntl.LOCK_EX) -> bool:
@@ -75,6 +103,23 @@ def is_locked(file: str, against: int = fcntl.LOCK_EX) -> bool:
         return True
     finally:
         os.close(opened)
+
+
+def object_of(said: Union[str, bytes]) -> Dict[str, Any]:
+    """The object that a text of others is in JSON; one without keys where it is none."""
+    try:
+        found = json.loads(said)
+    except (ValueError, RecursionError):
+        return {}
+    return found if isinstance(found, dict) else {}
+
+
+def object_in(file: str, most: int = MOST) -> Dict[str, Any]:
+    """The object that a file has; one without keys where it has none, or isn't there."""
+    try:
+        return object_of(text_in(file, most) or "")
+    except Strange:
+        return {}
 
 
 class Strange(ValueError):

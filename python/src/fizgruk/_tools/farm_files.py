@@ -4,7 +4,7 @@ farm, the other, or none under the name."""
 import contextlib
 import os
 import stat
-from typing import List
+from typing import List, Union
 
 from fizgruk._tools import disk
 
@@ -41,6 +41,13 @@ def put_in_place(new: str, db: str) -> None:
     disk.sync_folder(home)
     os.rename(new, db)
     disk.sync_folder(home)
+
+
+def give(what: Union[str, int], home: str) -> None:
+    """Gives what root made, a path or an open file, to who has the farm's folder."""
+    if os.geteuid() == 0:
+        about = os.stat(home)
+        os.chown(what, about.st_uid, about.st_gid)
 
 
 def are_one(one: str, other: str) -> bool:

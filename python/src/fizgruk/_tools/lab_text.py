@@ -3,7 +3,7 @@ import difflib
 from typing import Any, Dict, List, NamedTuple, Sequence, Tuple
 
 from fizgruk import toml_text, words
-from fizgruk.bounds import LONGEST_EVERY
+from fizgruk.bounds import LONGEST_EVERY, MOST_BOARDS, MOST_OF_A_TYPE, MOST_TYPES
 from fizgruk.words import BadFile
 
 CHECKS = ("none", "hours", "jobs")
@@ -65,6 +65,16 @@ def warnings_of(text: str, more: Sequence[str] = ()) -> List[str]:
     )
     empty = [] if any(tree.get(it) for it in KEYS) else ["it has neither types nor boards"]
     return [f"line {line}: {warning}" for line, warning in lines] + empty
+
+
+def beyond_limits(types: int, kinds: Sequence[str]) -> List[str]:
+    """What a farm has no room for, of a lab of so many types, and of boards of these types."""
+    counts = [("types", types, MOST_TYPES), ("boards", len(kinds), MOST_BOARDS)]
+    counts += [(f"boards of type {it}", kinds.count(it), MOST_OF_A_TYPE) for it in sorted(set(kinds))]
+    return [
+        f"it has {count} {what}, and a farm has room for {most}"
+        for what, count, most in counts if count > most
+    ]
 
 
 def is_ignored(section: str, key: str, row: Dict[str, Any]) -> bool:

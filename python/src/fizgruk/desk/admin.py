@@ -4,11 +4,11 @@ import sys
 from typing import Any, Dict, List
 
 from fizgruk import calls
+from fizgruk.bounds import HEALTHS
 from fizgruk.desk import ENDED, REFUSED, tell, views
 from fizgruk.errors import Code, Refused
 
 RETIRED = "Retired"
-HEALTHS = ("Good", "Bad", "Unknown", "Maintenance", RETIRED)
 
 
 def health_called(text: str) -> str:

@@ -6,7 +6,7 @@ import sys
 from typing import List
 
 from fizgruk import calls, history
-from fizgruk._tools import tables, terminal
+from fizgruk._tools import tables
 from fizgruk.artifacts import Artifact, counts_in_words
 from fizgruk.desk import REFUSED, tell, views
 from fizgruk.errors import NoArtifact
@@ -21,7 +21,10 @@ def show_artifacts(desk: calls.Desk, options: argparse.Namespace) -> int:
         wanted = [left.of(options.name)] if options.name else left.files
         if options.to:
             return fetch(left, wanted, options.to)
-        return print_one(left, wanted[0]) if options.name else show_list(options, left)
+        if not options.name:
+            return show_list(options, left)
+        views.print_bytes(left.bytes_of(wanted[0]), sys.stdout.isatty())
+        return 0
     except NoArtifact as fault:
         tell(str(fault))
         return REFUSED
@@ -40,20 +43,6 @@ def show_list(options: argparse.Namespace, left: history.Artifacts) -> int:
         elif left.index.get("no_tests"):
             tell(f"junit.xml isn't counted: {left.index['no_tests']}")
     return status
-
-
-def print_one(left: history.Artifacts, it: Artifact) -> int:
-    """Prints a file; on a terminal without what that takes for a command."""
-    plain = terminal.Plain() if sys.stdout.isatty() else None
-    for said in left.bytes_of(it):
-        if plain is None:
-            sys.stdout.buffer.write(said)
-        else:
-            print(plain.of(said), end="", flush=True)
-    if plain is not None:
-        print(plain.end(), end="", flush=True)
-    sys.stdout.buffer.flush()
-    return 0
 
 
 def fetch(left: history.Artifacts, wanted: List[Artifact], folder: str) -> int:

@@ -1,14 +1,12 @@
 """Who did what with a board: the lines that the site writes of each accepted command."""
 import argparse
 import collections
-import json
 import re
 from typing import Any, Callable, Deque, Dict, Iterator, List, Optional, Tuple
 
 from fizgruk import calls
 from fizgruk._tools import disk, tables
 from fizgruk.desk import views
-from fizgruk.errors import Code, Refused
 
 FILE = "/var/log/farm/audit.log"
 LAST = 50
@@ -49,13 +47,9 @@ def rows_in(file: str) -> Iterator[Row]:
 
 
 def row_of(line: bytes) -> Optional[Row]:
-    try:
-        said = json.loads(line)
-    except (ValueError, RecursionError):
-        return None
+    said = disk.object_of(line)
     names = ("at", "login", "from", "command", "body")
-    is_row = isinstance(said, dict) and all(isinstance(said.get(it), str) for it in names)
-    return said if is_row else None
+    return said if all(isinstance(said.get(it), str) for it in names) else None
 
 
 def is_about(row: Row, board: str, board_of: Callable[[str, int], str]) -> bool:
@@ -79,12 +73,7 @@ def number_in(row: Row) -> str:
 
 def _names(body: str, board: str) -> bool:
     """Whether a body asks for a board, or adds it."""
-    try:
-        said = json.loads(body)
-    except (ValueError, RecursionError):
-        return False
-    if not isinstance(said, dict):
-        return False
+    said = disk.object_of(body)
     tags = said.get("tags")
     return said.get("name") == board or isinstance(tags, list) and f"name={board}" in tags
 
@@ -104,10 +93,6 @@ class Boards:
             self.known.update({(kind, it["number"]): it["board"] for it in rows})
         key = (kind, number)
         if kind == "jobs" and key not in self.known and len(self.known) < MOST_LOOKS:
-            try:
-                self.known[key] = self.desk.look(f"/jobs/{number}")["board"]
-            except Refused as refusal:
-                if refusal.code != Code.NO_SUCH_JOB:
-                    raise
-                self.known[key] = ""  # another farm's
+            job = calls.job_of(self.desk, number)
+            self.known[key] = job["board"] if job else ""  # (another farm's)
         return self.known.get(key, "")

@@ -6,7 +6,7 @@ from typing import Any, Callable, Dict
 from fizgruk._tools import asking, parsers
 from fizgruk._tools.lab_text import CHECKS
 from fizgruk._tools.parsers import Parser, one_of
-from fizgruk.bounds import LONGEST_EVERY
+from fizgruk.bounds import HEALTHS, LONGEST_EVERY
 from fizgruk.desk import (
     access, admin, artifacts, audit, claims, holding, lab_import, orders, past_jobs, tokens, usage, views,
 )
@@ -297,7 +297,7 @@ Set the health of boards, as an admin. A board that is refused is told, and the 
 a terminal it asks once before boards are Retired, which is for good.""",
             option("boards", "BOARD", "A board's name.", nargs="+"),
             option("health", "HEALTH",
-                   f"{', '.join(admin.HEALTHS[:-1])}, or {admin.RETIRED}, which is for good.",
+                   f"{', '.join(HEALTHS[:-1])}, or {admin.RETIRED}, which is for good.",
                    type=admin.health_called),
             flag("--yes",
                  f"Ask nothing before boards are {admin.RETIRED}, at a terminal too."),

@@ -13,7 +13,8 @@ from typing import Callable, Dict, Iterable, List, Set, Tuple
 
 from fizgruk import calls, history, settings, words
 from fizgruk._tools import parsers, tables
-from fizgruk.desk import admin, past_jobs, tokens, views
+from fizgruk.bounds import HEALTHS
+from fizgruk.desk import past_jobs, tokens, views
 from fizgruk.errors import FizgrukError
 
 LONGEST = "3"  # seconds for which a call may hold up the shell, where no setting says it
@@ -144,7 +145,7 @@ def files_left_by(desk: calls.Desk, options: argparse.Namespace) -> List[object]
 OFFERS: Dict[str, Offer] = {
     "TAG": tags_of,
     "BOARD": names_of("boards"),
-    "HEALTH": lambda desk, options: [*admin.HEALTHS, *names_of("boards")(desk, options)],
+    "HEALTH": lambda desk, options: [*HEALTHS, *names_of("boards")(desk, options)],
     "TYPE": names_of("types"),
     "N": reservations_of,
     "NAME": lambda desk, options: (),

@@ -4,9 +4,10 @@ import signal
 import subprocess
 import threading
 import time
-from typing import Any, Dict, Set, Tuple
+from typing import Any, Set, Tuple
 
 from fizgruk import watching
+from fizgruk._tools import processes
 
 GRACE = 10.0  # seconds between SIGTERM and SIGKILL
 LEAVES = 5.0  # seconds after which what doesn't end by that is left, as another user's process
@@ -48,7 +49,7 @@ class Ending:
 
     def _send(self, number: int) -> None:
         """Sends a signal to all that live. (One may end meanwhile, or be another user's.)"""
-        for pid, _ in sorted(self._living()):
+        for pid in sorted(self._living()):
             if pid != self.child.pid:
                 try:
                     os.kill(pid, number)
@@ -56,29 +57,10 @@ class Ending:
                     pass
         self.child.send_signal(number)
 
-    def _living(self) -> Set[Process]:
+    def _living(self) -> Set[int]:
         """Those that live. One that was found before is known also once its parent has ended."""
-        parents, begins = processes()
-        found = {it for it in self.known if begins.get(it[0]) == it[1]}
-        newest = {it for it, _ in found} | {self.child.pid} & begins.keys()
-        while newest:
-            found |= {(it, begins[it]) for it in newest}
-            newest = {it for it, parent in parents.items() if parent in newest}
-        self.known = found
+        living = processes.living()
+        tops = {pid for pid, began in self.known if pid in living and living[pid].began == began}
+        found = processes.with_below(tops | {self.child.pid} & living.keys(), living)
+        self.known = {(it, living[it].began) for it in found}
         return found
-
-
-def processes() -> Tuple[Dict[int, int], Dict[int, str]]:
-    """The processes that live, with the parent of each, and with its begin; none where the system
-    has no /proc."""
-    parents: Dict[int, int] = {}
-    begins: Dict[int, str] = {}
-    for name in os.listdir("/proc") if os.path.isdir("/proc") else ():
-        try:
-            with open(f"/proc/{int(name)}/stat", "rb") as stat:
-                words = stat.read().rpartition(b")")[2].split()
-        except (ValueError, OSError):
-            continue  # no process, or one that has ended meanwhile
-        if len(words) > 19 and words[0] not in (b"Z", b"X"):
-            parents[int(name)], begins[int(name)] = int(words[1]), words[19].decode()
-    return parents, begins

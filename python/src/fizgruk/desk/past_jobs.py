@@ -6,7 +6,7 @@ import time
 from typing import Any, Dict, Iterable, List, Optional, Set
 
 from fizgruk import calls, history, job_file, records, wants
-from fizgruk._tools import tables, terminal
+from fizgruk._tools import tables
 from fizgruk.artifacts import counts_in_words
 from fizgruk.desk import REFUSED, tell, views, waiting
 from fizgruk.errors import NoLog, Refused
@@ -60,10 +60,8 @@ def open_jobs(desk: calls.Desk, owner: Optional[str]) -> List[Dict[str, Any]]:
     for place, claim in enumerate(it for it in claims if owner in (None, it["owner"])):
         is_asked = place < wants.MOST_ASKED and time.monotonic() < until
         found[claim["number"]] = calls.job_of(desk, claim["number"]) if is_asked else claim
-    for board in desk.look("/boards")["boards"]:
-        kind, _, number = board["holder"].partition(" ")
-        if kind == "job":
-            found[int(number)] = calls.job_of(desk, int(number))
+    for number in calls.held_in(desk.look("/boards")["boards"], "job"):
+        found[number] = calls.job_of(desk, number)
     rows = [it for it in found.values() if it and owner in (None, it["owner"])]
     rows = [it for it in rows if it.get("state") != "Finished"]
     return sorted(rows, key=lambda it: -int(it["number"]))
@@ -215,15 +213,8 @@ def show_log(desk: calls.Desk, options: argparse.Namespace) -> int:
     if options.follow:
         history.is_to_come(desk, number)  # what is asked first has to be answered
         log = history.followed(past, number, waiting.Checked(desk, "", None, options.every, tell))
-    plain = None if options.raw or not sys.stdout.isatty() else terminal.Plain()
     try:
-        for said in log:
-            if plain is None:
-                sys.stdout.buffer.write(said)
-                sys.stdout.buffer.flush()
-            else:
-                print(plain.of(said), end="", flush=True)
+        views.print_bytes(log, sys.stdout.isatty() and not options.raw)
     except NoLog as fault:
         return tell.told(REFUSED, str(fault))
-    print(plain.end() if plain else "", end="", flush=True)
     return 0

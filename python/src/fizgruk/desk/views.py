@@ -2,10 +2,10 @@
 import argparse
 import json
 import sys
-from typing import Any, Dict, List, Sequence, Tuple
+from typing import Any, Dict, Iterable, List, Sequence, Tuple
 
 from fizgruk import calls, history, notes, submissions, wants
-from fizgruk._tools import asking, tables
+from fizgruk._tools import asking, tables, terminal
 from fizgruk.desk import REFUSED, tell
 from fizgruk.errors import BadSettings, Code, Refused
 
@@ -26,6 +26,18 @@ def show(
 
 def print_json(said: Dict[str, Any]) -> None:
     print(json.dumps(said, ensure_ascii=False, separators=(",", ":")), flush=True)
+
+
+def print_bytes(pieces: Iterable[bytes], is_plain: bool) -> None:
+    """Prints bytes as they come; plain ones without what a terminal takes for a command."""
+    plain = terminal.Plain()
+    for said in pieces:
+        if is_plain:
+            print(plain.of(said), end="", flush=True)
+        else:
+            sys.stdout.buffer.write(said)
+            sys.stdout.buffer.flush()
+    print(plain.end(), end="", flush=True)
 
 
 def bytes_of(file: str) -> bytes:
