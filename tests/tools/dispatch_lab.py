@@ -32,22 +32,21 @@ AT_IT = "while true; do sleep 0.1; done"
 BOARDS: List[Board] = [(f"b{place}", "bbb", ["serial"]) for place in range(1, 7)]
 TWO = "job_name = 'two'\nrun = '{}'\n[roles.a]\ndevice_type = 'bbb'\ncount = 2\n"
 CAGES = ("cgroup", "namespace", "none")
-# Runs CODE in the place of farm-dispatch's runner.
-RUNNER = """
+# Runs CODE in the place of a MODULE that farm-dispatch starts.
+STARTS = """
 import subprocess
 was = subprocess.Popen
 def popen(words, **more):
-    if "farm_dispatch.runner" in words:
-        place = words.index("farm_dispatch.runner")
-        words = [words[0], "-c", CODE, "-m", *words[place:]]
+    if MODULE in words:
+        words = [words[0], "-c", CODE, "-m", *words[words.index(MODULE):]]
     return was(words, **more)
-groups.subprocess.Popen = popen
+subprocess.Popen = popen
 """
 
 
-def runner_of(code: str) -> str:
-    """A patch of a dispatcher whose runners are this code."""
-    return f"CODE = {code!r}\n{RUNNER}"
+def starts(code: str, module: str = "farm_dispatch.runner") -> str:
+    """A patch of a dispatcher that starts this code in the place of a module, its runners' or another."""
+    return f"MODULE, CODE = {module!r}, {code!r}\n{STARTS}"
 
 
 class Lab:

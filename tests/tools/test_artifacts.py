@@ -14,7 +14,7 @@ import pytest
 
 import fizgruk
 from desks import desk
-from dispatch_lab import Lab, jobs_of
+from dispatch_lab import Lab, jobs_of, starts
 from dispatch_lab import lab_fixture, make_lab_fixture  # noqa: F401
 from fizgruk.aio import AsyncClient
 from python_front import client_of
@@ -32,23 +32,7 @@ XML
 exit ${STATUS:-0}
 """
 TESTS = {"passed": 1, "failed": 1, "errors": 0, "skipped": 1, "names": ["usb.speed"]}
-# Collectors that are this code.
-COLLECTOR = """
-import subprocess
-from farm_dispatch import collectors
-was = subprocess.Popen
-def popen(words, **more):
-    if "farm_dispatch.artifacts" in words:
-        place = words.index("farm_dispatch.artifacts")
-        words = [words[0], "-c", CODE, "-m", *words[place:]]
-    return was(words, **more)
-collectors.subprocess.Popen = popen
-"""
-
-
-def collector_of(code: str) -> str:
-    """A patch of a dispatcher whose collectors are this code."""
-    return f"CODE = {code!r}\n{COLLECTOR}"
+COLLECTOR = "farm_dispatch.artifacts"  # the module
 
 
 @pytest.fixture(autouse=True)
@@ -144,7 +128,7 @@ def test_python_lists_and_fetches_it(lab: Lab) -> None:
 def test_the_boards_are_given_back_before_and_a_kill_is_made_up_for(lab: Lab) -> None:
     """The collector lasts, and so the next job runs meanwhile; the dispatcher is killed with it, and the next one keeps
     what was left, and writes the line once."""
-    dispatcher = lab.patched(collector_of("import time; time.sleep(1000)"))
+    dispatcher = lab.patched(starts("import time; time.sleep(1000)", COLLECTOR))
     number = lab.farm.submit(lab.script(LEAVES))
     assert lab.finished(number) == "Complete"
     for _ in range(7):
@@ -160,7 +144,7 @@ def test_the_boards_are_given_back_before_and_a_kill_is_made_up_for(lab: Lab) ->
 
 
 def test_a_collector_that_dies_keeps_no_line_waiting(lab: Lab) -> None:
-    dispatcher = lab.patched(collector_of("import os, signal; os.kill(os.getpid(), signal.SIGKILL)"))
+    dispatcher = lab.patched(starts("import os, signal; os.kill(os.getpid(), signal.SIGKILL)", COLLECTOR))
     number = lab.farm.submit(lab.script(LEAVES))
     row = line_of(lab, number)
     assert (row["outcome"], "tests" in row, kept(lab)) == ("Complete", False, [])

@@ -8,7 +8,7 @@ import subprocess
 from typing import Dict, Iterator, List
 
 import pytest
-from dispatch_lab import Lab, MakeLab, end_commands, jobs_of, replace, runner_of
+from dispatch_lab import Lab, MakeLab, end_commands, jobs_of, replace, starts
 from dispatch_lab import make_lab_fixture  # noqa: F401
 from farm_dispatch import cage_limits, cages
 from served import MODULES, read, wait_until
@@ -100,7 +100,7 @@ def test_the_log_and_the_reason_say_it(
     os.environ["CGROUP"] = str(own)
     try:
         code = RUNNER.format(modules=MODULES)
-        tool = lab.patched(runner_of(code), "--cage", "none")
+        tool = lab.patched(starts(code), "--cage", "none")
         assert lab.finished(number) == result
         wait_until("its line", lambda: jobs_of(lab))
     finally:

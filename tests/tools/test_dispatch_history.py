@@ -12,11 +12,12 @@ import tempfile
 import time
 from typing import Any, Dict, List, Optional, Set, Tuple
 
+import dying
 import pytest
 from dispatch_lab import Lab, jobs_of, lines_of, one_line_each
 from dispatch_lab import lab_fixture, make_lab_fixture  # noqa: F401
 from fizgruk import submissions
-from served import MODULES, STARTED, Farm, environment, read, wait_until
+from served import MODULES, STARTED, Farm, Tool, environment, read, wait_until
 
 # Of kills while folders are made so many, and of those at an end one in so many; more with FARM_KILLS=all.
 KILLS = (8, 1) if os.environ.get("FARM_KILLS") == "all" else (3, 2)
@@ -24,33 +25,22 @@ KILLS = (8, 1) if os.environ.get("FARM_KILLS") == "all" else (3, 2)
 
 # A dispatcher that kills itself at one of the places at which it writes, renames or gives a
 # command, counted from its start on, from its first `finish`, or from its first line of the
-# history; of what it was to write there, half is written.
-DIES = """\
-import os, signal, sys
-sys.path[:0] = sys.argv.pop(1).split(":")
-phase, left = sys.argv.pop(1), int(sys.argv.pop(1))
+# history.
+DIES = dying.HEAD + """\
+phase = sys.argv.pop(1)
 def begins(call, words):
     if phase == "finish":
         return call.__name__ == "tell" and words[1].endswith("/finish")
     return phase == "start" or call.__name__ == "write" and words[1][:7] == b'{"kind"'
-def dying(call):
-    def called(*words, **more):
-        global phase, left
-        if begins(call, words):
-            phase = "start"
-        left -= phase == "start"
-        if left == 0:
-            if call.__name__ == "write":
-                call(words[0], words[1][:len(words[1]) // 2])
-            os.kill(os.getpid(), signal.SIGKILL)
-        return call(*words, **more)
-    return called
-for name in ("write", "fsync", "replace", "rename", "link", "mkdir", "ftruncate", "unlink"):
-    setattr(os, name, dying(getattr(os, name)))
+def counts(call, words):
+    global phase
+    if begins(call, words):
+        phase = "start"
+    return phase == "start"
+die_in(os, "link", "ftruncate")
 from farm_dispatch import main as dispatch
 from fizgruk import calls
-for name in ("tell", "nudge"):
-    setattr(calls.Desk, name, dying(getattr(calls.Desk, name)))
+die_in(calls.Desk, "tell", "nudge")
 sys.exit(dispatch.main())
 """
 JOB_FIELDS = [
@@ -76,7 +66,7 @@ def dies_at(lab: Lab, phase: str, place: int) -> List[int]:
     """Runs a dispatcher that kills itself at a place, or is killed where it has done all before.
     Returns the jobs that it was given: one, and a group of two."""
     words = [
-        sys.executable, "-c", DIES, ":".join(MODULES), phase, str(place), "--server", lab.farm.server,
+        sys.executable, "-c", DIES, ":".join(MODULES), str(place), phase, "--server", lab.farm.server,
         "--folder", lab.place, "--every", "0.1", lab.command,
     ]
     process = subprocess.Popen(
@@ -224,8 +214,12 @@ def test_changes_of_health(lab: Lab) -> None:
         (board, "Unknown", f"job {number} ended Infra"),
     ]
     assert [it for it in wanted if it not in reasons] == [], "changes that aren't told"
-    # those that come while no dispatcher runs, and the same board again
     dispatcher.kill()
+    lab.closes(told_over_kills(lab, board, check))
+
+
+def told_over_kills(lab: Lab, board: str, check: str) -> Tool:
+    """What the admin does with a board that is Unknown, while no dispatcher runs and after. Returns the one that runs then."""
     lab.farm.tell("admin", f"/boards/{board}/health", {"health": "Maintenance"})
     count = len(healths_of(lab))
     dispatcher = lab.dispatch("--check", check)
@@ -241,7 +235,7 @@ def test_changes_of_health(lab: Lab) -> None:
         "what the admin did"
     )
     are_newest(lab, "boards", healths_of(lab))
-    lab.closes(dispatcher)
+    return dispatcher
 
 
 def last_of(lab: Lab, board: str) -> str:

@@ -13,7 +13,7 @@ import time
 from typing import Dict, List, Optional, Tuple
 
 import pytest
-from dispatch_lab import BOARDS, CAGES, Lab, MakeLab, Proxy, end_commands, jobs_of, runner_of
+from dispatch_lab import BOARDS, CAGES, Lab, MakeLab, Proxy, end_commands, jobs_of, starts
 from dispatch_lab import lab_fixture, make_lab_fixture  # noqa: F401
 from farm_dispatch import cages
 from served import MODULES, PATIENCE, STARTED, TOOLS, Tool, environment, read, wait_until
@@ -586,7 +586,7 @@ def test_killed_keeper(make_lab: MakeLab, cage: str) -> None:
     lab = make_lab(ONE)
     number = lab.farm.submit(lab.sleeps(306))
     code = KEEPER_DIES.format(modules=MODULES)
-    tool = lab.patched(runner_of(code), "--cage", cage)
+    tool = lab.patched(starts(code), "--cage", cage)
     lab.begun(number)
     assert lab.finished(number) == "Infra"
     assert (lab.begins(number), lab.sleepers(306)) == (1, [])

@@ -10,6 +10,7 @@ import tempfile
 import time
 from typing import Callable, List, Sequence, Tuple
 
+import lab_texts
 import pytest
 from served import TOOLS, Farm, environment
 from wants import wants_modules
@@ -173,27 +174,15 @@ LAB_OF_DESK = """\
 # machine, as root:
 #     farm-from-desk --next THIS
 
-[types.bbb]
-
-[types.rpi]
-check = "jobs"
-every = 20
-
-[boards.b1]
-type = "bbb"
-tags = ["hdmi", "rack=1"]
-health = "Good"
-
-[boards.b2]
-type = "bbb"
-tags = []
-health = "Maintenance"
-
-[boards."r.1"]
-type = "rpi"
-tags = []
-health = "Unknown"
-"""
+""" + lab_texts.written(
+    gap="\n",
+    types={"bbb": {}, "rpi": {"check": "jobs", "every": 20}},
+    boards={
+        "b1": {"type": "bbb", "tags": ["hdmi", "rack=1"], "health": "Good"},
+        "b2": {"type": "bbb", "tags": [], "health": "Maintenance"},
+        "r.1": {"type": "rpi", "tags": [], "health": "Unknown"},
+    },
+)
 # The lab's own file, of which the desk has b1 with other tags and rpi with another check.
 OWN_LAB = """\
 # ours

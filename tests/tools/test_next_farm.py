@@ -3,49 +3,32 @@ stopped anywhere. (tests/tools/test_next_units.py: the same under a systemd; tes
 from __future__ import annotations
 
 import fcntl
-import http.client
 import json
 import os
 import signal
 import subprocess
 import sys
 import time
-from typing import Any, Callable, Iterator, List, Tuple
+from typing import Callable, Iterator, List, Tuple
 
+import lab_texts
 import pytest
-from served import MODULES, TOOLS, environment, free_port
+from served import MODULES, TOOLS, Asks, environment, free_port
 from turned import Home
 
-LAB = """\
-[types.bbb]
-[types.rpi]
-check = "jobs"
-every = 20
-[boards.b1]
-type = "bbb"
-tags = ["hdmi"]
-[boards.b2]
-type = "bbb"
-[boards.r1]
-type = "rpi"
-"""
+RPI = {"type": "rpi"}
+LAB = lab_texts.written(
+    types={"bbb": {}, "rpi": {"check": "jobs", "every": 20}},
+    boards={"b1": {"type": "bbb", "tags": ["hdmi"]}, "b2": {"type": "bbb"}, "r1": RPI},
+)
 # b2 is named otherwise, rpi is checked otherwise, r1 has a tag more.
-EDITED = """\
-[types.bbb]
-[types.rpi]
-check = "hours"
-every = 24
-[boards.b1]
-type = "bbb"
-tags = ["hdmi"]
-health = "Good"
-[boards.b-two]
-type = "bbb"
-health = "Unknown"
-[boards.r1]
-type = "rpi"
-tags = ["usb"]
-"""
+EDITED = lab_texts.written(
+    types={"bbb": {}, "rpi": {"check": "hours", "every": 24}},
+    boards={
+        "b1": {"type": "bbb", "tags": ["hdmi"], "health": "Good"}, "b-two": {"type": "bbb", "health": "Unknown"},
+        "r1": {**RPI, "tags": ["usb"]},
+    },
+)
 CHANGES = """\
 type rpi: every 20 jobs becomes every 24 hours
 board b2: it is left out
@@ -57,7 +40,7 @@ OLD = (7, ["b1 bbb hdmi Good", "b2 bbb  Maintenance", "r1 rpi  Bad"])
 NEXT = ["b-two bbb  Unknown", "b1 bbb hdmi Good", "r1 rpi usb Bad"]
 
 
-class Lab(Home):
+class Lab(Home, Asks):
     """A farm of LAB with a desk that serves it, and a lab file of its next farm."""
 
     def __init__(self, folder: str, program: str):
@@ -74,21 +57,6 @@ class Lab(Home):
         with open(path, "w", encoding="utf-8") as file:
             file.write(text)
         return path
-
-    def ask(self, user: str, method: str, path: str, body: Any = None) -> Tuple[int, Any]:
-        line = http.client.HTTPConnection("127.0.0.1", self.port, timeout=60)
-        try:
-            sent = body if body is None or isinstance(body, bytes) else json.dumps(body).encode()
-            line.request(method, path, body=sent, headers={"x-user": user})
-            answer = line.getresponse()
-            return answer.status, json.loads(answer.read())
-        finally:
-            line.close()
-
-    def tell(self, user: str, path: str, body: Any = None) -> Any:
-        status, said = self.ask(user, "POST", path, body)
-        assert status == 200, f"{user} POST {path}: {said}"
-        return said
 
     def turn(self, *more: str, file: str = "") -> Tuple[int, str, List[str]]:
         """What a turn comes to: its status, its output and its errors line by line, without the tool's name."""

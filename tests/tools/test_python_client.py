@@ -185,6 +185,17 @@ def test_views_and_commands(make_farm: MakeFarm) -> None:
     own = make_farm()
     front = Front(own)
     admin, ann, runner = (client_of(front.url, it) for it in ("admin", "ann", "dispatcher"))
+    add_lab(admin, ann)
+    run_a_job(own, ann, runner)
+    held = hold_a_board(own, ann, runner)
+    raw = own.look("/status")
+    clock = datetime.datetime.fromtimestamp(raw["clock"], datetime.timezone.utc)
+    assert vars(ann.status()) == {**raw, "clock": clock}
+    demand_all_asked(front, held)
+
+
+def add_lab(admin: fizgruk.Client, ann: fizgruk.Client) -> None:
+    """Two types and a board, as ann sees them."""
     admin.add_type("bbb")
     admin.add_type("rpi", "jobs", 20)
     admin.add_board("b1", "bbb", ["serial"])
@@ -197,6 +208,10 @@ def test_views_and_commands(make_farm: MakeFarm) -> None:
         "holder": None, "jobs_since": 0, "last_check": None,
     }
     assert not ann.boards("vga")
+
+
+def run_a_job(own: Farm, ann: fizgruk.Client, runner: fizgruk.Client) -> None:
+    """A job from its submission to its end, and one that is canceled."""
     number = ann.submit(JOB)
     assert [vars(it) for it in ann.queue()] == [
         {"number": number, "kind": "group", "owner": "ann", "priority": 50, "boards": 1}
@@ -208,6 +223,10 @@ def test_views_and_commands(make_farm: MakeFarm) -> None:
     assert vars(ann.job(number)) == {**raw, "tags": tuple(raw["tags"])}
     assert [it.result for it in ann.wait_for_job(number)] == ["Complete"]
     assert ann.submit(JOB.encode()) == ann.cancel_job(number + 1)
+
+
+def hold_a_board(own: Farm, ann: fizgruk.Client, runner: fizgruk.Client) -> int:
+    """A reservation from its asking to its end. Returns its number."""
     held = ann.reserve("hdmi", priority="high")
     ann.refresh(held)
     runner.call_pass()
@@ -221,10 +240,7 @@ def test_views_and_commands(make_farm: MakeFarm) -> None:
     assert {**vars(ann.reservations()[-1]), "deadline": 0} == {**raw, "tags": ("hdmi",), "deadline": 0}
     ann.release(held)
     ann.cancel_reservation(held)
-    raw = own.look("/status")
-    clock = datetime.datetime.fromtimestamp(raw["clock"], datetime.timezone.utc)
-    assert vars(ann.status()) == {**raw, "clock": clock}
-    demand_all_asked(front, held)
+    return held
 
 
 def demand_all_asked(front: Front, held: int) -> None:

@@ -13,6 +13,7 @@ import subprocess
 import sys
 from typing import Any, Callable, Dict, List, Tuple
 
+import dying
 import pytest
 from farm_dispatch import artifacts, folders
 from fizgruk import artifacts as index
@@ -262,23 +263,9 @@ def test_a_junit_that_isnt_counted_is_kept_and_told(place: Place) -> None:
     assert place.log() == "farm-dispatch: the tests of out/junit.xml aren't counted: it has a document type\n"
 
 
-# A collector that kills itself at one of the places at which it changes something; of what it was to write half is written.
-DIES = """\
-import os, signal, sys
-sys.path[:0] = sys.argv.pop(1).split(":")
-left = int(sys.argv.pop(1))
-def dying(call):
-    def called(*words, **more):
-        global left
-        left -= 1
-        if left == 0:
-            if call.__name__ == "write":
-                call(words[0], words[1][:len(words[1]) // 2])
-            os.kill(os.getpid(), signal.SIGKILL)
-        return call(*words, **more)
-    return called
-for name in ("write", "fsync", "replace", "rename", "mkdir", "unlink", "chmod", "fchmod", "rmdir"):
-    setattr(os, name, dying(getattr(os, name)))
+# A collector that kills itself at one of the places at which it changes something.
+DIES = dying.HEAD + """\
+die_in(os, "chmod", "fchmod", "rmdir")
 from farm_dispatch import artifacts
 sys.exit(artifacts.main(sys.argv[1:]))
 """

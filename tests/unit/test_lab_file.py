@@ -6,6 +6,7 @@ import os
 import re
 from typing import List
 
+import lab_texts
 import pytest
 from farm_import import lab_file
 from fizgruk._tools import lab_text
@@ -149,19 +150,10 @@ def test_a_file_that_cant_be_written_leaves_the_old_one(lab: lab_file.LabFile, f
 
 
 def test_types_come_first_each_in_the_byte_order_of_its_name() -> None:
-    text = """\
-[boards.b1]
-type = "z"
-tags = ["usb"]
-[boards.B2]
-type = "a"
-[types.z]
-check = "jobs"
-every = 10000
-[types.a]
-check = "none"
-every = 7
-"""
+    text = lab_texts.written(
+        boards={"b1": {"type": "z", "tags": ["usb"]}, "B2": {"type": "a"}},
+        types={"z": {"check": "jobs", "every": 10000}, "a": {"check": "none", "every": 7}},
+    )
     assert lab_text.additions_of(text) == [
         Addition("types", "a", {"name": "a"}),
         Addition("types", "z", {"name": "z", "check": "jobs", "every": 10000}),
