@@ -29,6 +29,8 @@ events {{}}
 http {{
     log_format asked '$msec $status $request_method $request_uri $upstream_addr';
     access_log {folder}/asked.log asked;
+    # (as Debian's nginx.conf has it)
+    ssl_protocols TLSv1.2 TLSv1.3;
     client_body_temp_path {folder}/body;
     proxy_temp_path {folder}/proxy;
     fastcgi_temp_path {folder}/fastcgi;

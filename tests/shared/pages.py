@@ -32,6 +32,15 @@ FILES = {
 # Lets a page look every half second instead of every five.
 HURRY = """(real => window.setTimeout = (call, wait, ...more) =>
   real(call, wait === 5000 ? 500 : wait, ...more))(window.setTimeout);"""
+# Notes for each path how many answers one after the other the first request for it waited for, and how many have come; the
+# page and its files are two more.
+TRIPS = """window.trips = {}; window.come = 2; (real => {
+  window.fetch = (address, ...more) => {
+    const trip = come + 1;
+    trips[new URL(address).pathname] ??= trip;
+    return real(address, ...more).then(it => (come = Math.max(come, trip), it));
+  };
+})(window.fetch);"""
 # What a page shows: the cells of each table's rows, how many there are, and what it says. What an
 # earlier page said is found where this one says it.
 SHOWN = """(() => {
@@ -86,7 +95,7 @@ class Door(http.server.BaseHTTPRequestHandler):
         lab.may_answer.wait()
         time.sleep(lab.delays.get(path, 0))
         if path in lab.files:
-            self.give_file(lab.files[path])
+            self.give_file(path, lab.files[path])
         elif path == "/whoami" and lab.user:
             self.answer(200, "text/plain", lab.user.encode())
         elif path in ("/whoami", "/history.json", "/access.json") or path.startswith("/logs/"):
@@ -118,14 +127,15 @@ class Door(http.server.BaseHTTPRequestHandler):
                 return
         self.answer(status, "text/html" if status == 502 else "application/json", said)
 
-    def give_file(self, body: bytes) -> None:
-        """A file, or its end where that is asked for."""
+    def give_file(self, path: str, body: bytes) -> None:
+        """A file, or its end where that is asked for. What isn't a file's name stands for the desk's answer."""
+        kind = "text/plain" if "." in path or path.startswith(("/logs/", "/artifacts/")) else "application/json"
         asked = re.fullmatch(r"bytes=-(\d+)", self.headers["range"] or "")
         if not asked or not body:
-            self.answer(200, "text/plain", body)
+            self.answer(200, kind, body)
             return
         begin = max(0, len(body) - int(asked.group(1)))
-        self.answer(206, "text/plain", body[begin:], f"bytes {begin}-{len(body) - 1}/{len(body)}")
+        self.answer(206, kind, body[begin:], f"bytes {begin}-{len(body) - 1}/{len(body)}")
 
     def answer(self, status: int, kind: str, body: bytes, content_range: str = "") -> None:
         self.send_response(status)
@@ -365,3 +375,25 @@ def full_farm(now: int) -> Dict[str, bytes]:
         **{f"jobs/{number}": job for number in (*held_by, *range(1000, 1005))},
     }
     return {f"/{path}": json.dumps(body).encode() for path, body in views.items()}
+
+
+def full_present(views: Dict[str, bytes]) -> Dict[str, bytes]:
+    """What its dispatcher keeps beside these views: what runs, what waits, and the last jobs that ended."""
+    boards, queue = json.loads(views["/boards"])["boards"], json.loads(views["/queue"])["queue"]
+    now = int(json.loads(views["/status"])["clock"])
+    jobs = [
+        {"job": int(it["holder"][4:]), "group": int(it["holder"][4:]), "owner": "bob", "board": it["name"],
+         "type": it["type"], "name": "boot", "began": now - 600, "limit": 3600}
+        for it in boards if it["holder"].startswith("job ")
+    ]
+    holds = [{"board": it["name"], "reservation": int(it["holder"][12:]), "since": now - 900}
+             for it in boards if it["holder"].startswith("reservation ")]
+    groups = [{"group": it["number"], "name": f"nightly {it['number'] % 7}", "submitted": now - it["number"],
+               "wants": [{"type": f"type-{it['number'] % 8}", "tags": ["serial"]}]} for it in queue]
+    ended = [record(900 - it, f"user-{it % 40}", f"board-{it:03}", now - 60 * it) for it in range(200)]
+    told = {
+        "/running.json": {"at": now, "jobs": jobs, "holds": holds},
+        "/waiting.json": {"at": now, "groups": groups},
+        "/history.json": {"at": now, "jobs": ended, "boards": []},
+    }
+    return {path: json.dumps(body).encode() for path, body in told.items()}

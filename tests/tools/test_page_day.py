@@ -8,14 +8,15 @@ import os
 import re
 import subprocess
 import time
-from typing import Callable, Iterator, List, Set, Tuple
+from typing import Callable, Iterator, Set, Tuple
 
 import pytest
 
 import page_pictures
 from browser import Browser, Page
 from pages import (
-    HOUR, SHOWN, STATE, Lab, buttons, choose, click, facts_of, full_farm, past, record, seen, tell_at, text_of, until,
+    HOUR, SHOWN, STATE, TRIPS, Lab, buttons, choose, click, facts_of, full_farm, full_present, past, record, seen, tell_at,
+    text_of, until,
 )
 from served import TOP, Farm, wait_until
 
@@ -327,21 +328,20 @@ def test_a_log_is_shown_as_a_terminal_would(lab: Lab) -> None:
 # ---- a slow line
 
 
+FIRST_LOOK = ("queue", "boards", "status", "types", "whoami", "running.json", "waiting.json", "history.json",
+              "access.json", "notes.json", "labs.json")
+
+
 def test_on_a_slow_line_boards_come_in_three_round_trips_and_owners_in_five(lab: Lab) -> None:
     """The page, its files, and the views; owners with them, by one file for all."""
     views = full_farm(int(time.time()))
-    lab.files.update(views)
-    jobs = [{"job": int(it["holder"].split()[1]), "group": 1, "owner": "bob", "board": it["name"], "type": it["type"],
-             "name": "boot", "began": 1, "limit": 60}
-            for it in json.loads(views["/boards"])["boards"] if it["holder"].startswith("job ")]
-    lab.files["/running.json"] = json.dumps({"at": 1, "jobs": jobs, "holds": []}).encode()
-    lab.files["/waiting.json"] = b'{"at":1,"groups":[]}'
-    opened = lab.opened("/?flat")
-    assert opened.ask(SHOWN)["boards"][0][4] == "bob job 1 boot"
-    asked: List[str] = [path for path, _ in lab.asked]  # (what is asked for at once comes in any order)
-    assert {"/queue", "/boards", "/status", "/types", "/whoami", "/running.json", "/history.json"} <= set(asked[:11])
-    of_jobs = sorted(it for it in asked if it.startswith("/jobs/"))
-    assert of_jobs == [f"/jobs/{it}" for it in range(1000, 1005)], "those that wait"
+    lab.files.update({**views, **full_present(views), "/waiting.json": b'{"at":1,"groups":[]}'})
+    opened = lab.opened("/?flat", before=TRIPS)
+    assert [row[4] for row in opened.ask(SHOWN)["boards"][:2]] == ["bob job 1 boot", "ann reservation 2"]
+    trips = opened.ask("trips")
+    assert {path: trips.pop(f"/{path}") for path in FIRST_LOOK} == dict.fromkeys(FIRST_LOOK, 3)
+    assert trips.pop("/reservations") == 4
+    assert sorted(trips) == [f"/jobs/{it}" for it in range(1000, 1005)], "those that wait"
 
 
 # ---- a day by the keyboard alone

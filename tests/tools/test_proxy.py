@@ -3,10 +3,12 @@ pages' commands, many viewers, clients that ask without end, long jobs, history 
 that is away. Its addresses and files are put into the test's folder."""
 from __future__ import annotations
 
+import gzip
 import http.server
 import json
 import os
 import re
+import socket
 import ssl
 import threading
 import time
@@ -117,6 +119,32 @@ def test_history_and_logs_are_served_to_those_who_have_a_password(kept: str, sit
     assert (rows[0]["owner"], rows[0]["outcome"]) == ("ann", "Complete")
 
 
+def test_texts_come_compressed_to_who_takes_them_and_what_jobs_left_doesnt(farm: Farm, site: Site) -> None:
+    for _ in range(20):
+        farm.submit("true")
+    folder = f"{site.folder}/dispatch"
+    for name in ("artifacts/1", "logs"):
+        os.makedirs(f"{folder}/{name}")
+    for name in ("running.json", "logs/1", "artifacts/1/1"):
+        write(folder, name, "much " * 1000, 0o644)
+    takes = ("-H", "accept-encoding: gzip")
+    for path in ("/", "/page/looks.js", "/page/farm.css", "/queue", "/running.json"):
+        fields, body = site.got(path, *takes)[1:]
+        assert (fields.get("content-encoding"), fields["vary"]) == ("gzip", "accept-encoding"), path
+        plain = site.got(path)
+        assert "content-encoding" not in plain[1] and gzip.decompress(body) == plain[2], path
+    for path in ("/whoami", "/artifacts/1/1", "/logs/1"):
+        assert "content-encoding" not in site.got(path, *takes)[1], path
+
+
+def test_a_browser_gets_all_over_one_connection(site: Site) -> None:
+    """By HTTP/2, which it offers as it opens it."""
+    offers = ssl.create_default_context(cafile=site.certificate)
+    offers.set_alpn_protocols(["h2", "http/1.1"])
+    with offers.wrap_socket(socket.create_connection(("127.0.0.1", site.port)), server_hostname="localhost") as line:
+        assert line.selected_alpn_protocol() == "h2"
+
+
 def test_nothing_else_of_the_dispatchers_folder_is_served(site: Site) -> None:
     folder = f"{site.folder}/dispatch"
     for name in ("logs", "jobs/1"):
@@ -212,7 +240,8 @@ def test_what_nginx_refuses_is_told_in_json_with_its_status_for_the_code(farm: F
     assert site.said("/queue", user="") == (401, JSON, {"code": 401, "text": "Unauthorized"})
     told = {"code": 413, "text": "Request Entity Too Large"}
     assert site.said("--data-binary", f"@{large}", "/jobs") == (413, JSON, told)
-    assert site.said("-H", f"x-long: {'x' * 40_000}", "/queue") == (400, JSON, {"code": 400, "text": "Bad Request"})
+    # (by HTTP/2 such a head ends the connection)
+    assert site.said("--http1.1", "-H", f"x-long: {'x' * 40_000}", "/queue") == (400, JSON, {"code": 400, "text": "Bad Request"})
     assert site.said("/refused-by-door/x") == (404, JSON, {"code": 52, "text": "no such route"}), "the desk's own"
     farm.kill()
     assert site.said("/queue") == (502, JSON, {"code": 502, "text": "Bad Gateway"})

@@ -22,9 +22,9 @@ const TITLE = document.title;
 export function order() {
   const [boards, queue, held, ended] = tables;
   const all = narrow.matches ? [held, queue, boards, ended] : [boards, queue, held, ended];
-  const shown = all.filter(it => it !== ended || state.past);
-  arrange(main, shown.map(it => it.place));
-  arrange(nav, shown.map(it => it.jump));
+  arrange(main, all.filter(it => it !== ended || state.past).map(it => it.place));
+  // (what may come has its place before it is there, so that nothing moves then)
+  arrange(nav, all.filter(it => it !== ended || state.past !== null).map(it => it.jump));
 }
 
 // Shows all that is known, and leaves the focus where it is, or near where it was.

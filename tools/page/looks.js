@@ -7,38 +7,46 @@ import {FEW, LEASED, REST, SLACK, state} from "./state.js";
 import {stuckBy, wantsText} from "./wants.js";
 import {nameIn, numberOf} from "./words.js";
 
-// What a slow line leaves for the second part of a first look, in milliseconds.
+// What a slow line leaves for the second part of a first look, in milliseconds. One on which the
+// first takes twice as long is slower than that: what is there is shown at once.
 const PATIENCE = 400;
 
 // Looks at everything. What is there at first is shown before the rest has come, where that takes
 // long.
 export async function lookAtAll(isFresh) {
   state.lookBegan = Date.now();
-  const isFirst = !state.farm, beside = Promise.all([lookAtUser(), lookAtFiles()]);
-  const {queue, boards, status} = await views(isFresh);
+  const isFirst = !state.farm, began = performance.now();
+  // (what is asked for first comes first, where a line is slow)
+  const seen = views(isFresh), user = lookAtUser(), beside = Promise.all([user, lookAtFiles()]);
+  const {queue, boards, status} = await seen;
   takeFarm(queue, boards, status);
   noteSights(isFirst);
   const rest = lookAtRest(beside, isFresh);
-  if (isFirst && await isSlow(rest)) {
+  if (isFirst && await isSlow(began, rest)) {
+    await user;
     makeRows();
     draw();
   }
   await rest;
 }
 
-function isSlow(rest) {
-  const slow = new Promise(done => setTimeout(() => done(true), PATIENCE));
+function isSlow(began, rest) {
+  const left = performance.now() - began > 2 * PATIENCE ? 0 : PATIENCE;
+  const slow = new Promise(done => setTimeout(() => done(true), left));
   return Promise.race([slow, rest.then(() => false, () => false)]);
 }
 
+// (each waits for what it needs alone: what waits for another answer comes a round trip later)
 async function lookAtRest(beside, isFresh) {
   const {boards, queue, clock, behind} = state.farm;
   const live = liveReservations(boards, queue), moment = clock + Math.max(0, behind - SLACK);
   state.farm.live = live;
-  await Promise.all([beside, lookAtTypes(boards)]);
-  if (live.some(it => isNews(it, moment))) await lookAtReservations(moment, isFresh);
-  await lookInto(queue, boards);
-  await lookAtHolders();
+  const isNew = live.some(it => isNews(it, moment));
+  const wanted = Promise.all([
+    beside, lookAtTypes(boards), isNew && lookAtReservations(moment, isFresh),
+  ]).then(() => lookInto(queue, boards));
+  await Promise.all([wanted, beside.then(lookAtHolders)]);
+  forgetJobs();
 }
 
 // The first look asks for all views at once, since each is a way there and back. Later ones ask for
@@ -120,17 +128,19 @@ export async function lookAtJob(number) {
   return state.jobs.get(number);
 }
 
+const heldByJobs = () => state.farm.boards.map(it => it.holder).filter(it => it.startsWith("job "))
+  .map(numberOf).filter(it => !state.running?.has(it));
+
 // Asks for the jobs that hold boards and of which neither the dispatcher nor the desk has told yet.
 async function lookAtHolders() {
-  const held = state.farm.boards.map(it => it.holder).filter(it => it.startsWith("job "))
-    .map(numberOf).filter(it => !state.running?.has(it));
-  const kept = new Set([...held, ...state.farm.queue.flatMap(it => it.jobs || [])]);
-  await forEachOf(held, async number => {
-    // (the first of a group has its name)
-    const {group} = await lookAtJob(number);
-    await lookAtJob(group);
-    kept.add(group);
-  });
+  // (the first of a group has its name)
+  await forEachOf(heldByJobs(), async number => lookAtJob((await lookAtJob(number)).group));
+}
+
+// Forgets the jobs of which nothing is shown any more.
+function forgetJobs() {
+  const held = heldByJobs(), groups = held.map(it => state.jobs.get(it)?.group);
+  const kept = new Set([...held, ...groups, ...state.farm.queue.flatMap(it => it.jobs || [])]);
   for (const number of state.jobs.keys()) if (!kept.has(number)) state.jobs.delete(number);
 }
 
@@ -149,14 +159,16 @@ async function lookAtUser() {
 
 // What the dispatcher tells of the past, of what runs and of what waits; the ways to boards.
 async function lookAtFiles() {
-  const names = ["history.json", "running.json", "waiting.json", "access.json", "notes.json"];
-  const [past, running, waiting, access, notes] = await Promise.all(names.map(fileOf));
+  const [running, labs, access, notes, waiting, past] = await Promise.all([
+    fileOf("running.json"), state.labs || fileOf("labs.json"), fileOf("access.json", "low"),
+    fileOf("notes.json", "low"), fileOf("waiting.json", "low"), fileOf("history.json", "low"),
+  ]);
   if (past !== undefined) takePast(past);
   if (running !== undefined) takeRunning(running);
   if (waiting !== undefined) takeWaiting(waiting);
   if (access !== undefined) state.access = access?.boards || null;
   if (notes !== undefined) state.notes = notes?.boards || null;
-  state.labs ??= (await fileOf("labs.json"))?.labs || [];
+  state.labs ||= labs?.labs || [];
 }
 
 // (the newest of a number counts: in the next farm numbers begin anew)
@@ -209,8 +221,7 @@ async function wantsOf(claim, isAsked) {
   }
   if (!isAsked) return null;
   claim.jobs = Array.from({length: claim.boards}, (_, place) => claim.number + place);
-  const wants = [];
-  for (const number of claim.jobs) wants.push(await lookAtJob(number));
+  const wants = await Promise.all(claim.jobs.map(lookAtJob));
   claim.title = wants[0].name;
   return wants;
 }

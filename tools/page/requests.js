@@ -61,13 +61,17 @@ export async function look(path, isFresh = false) {
 
 /**
  * The JSON of a file beside the views, which not every lab has: null where it isn't served, and
- * then it is asked for again each minute; undefined where no answer came.
+ * then it is asked for again each minute; undefined where no answer came. What is of low priority
+ * comes after the views, where a line is slow.
  * @param {string} path
+ * @param {"auto" | "low"} priority
  */
-export async function fileOf(path) {
+export async function fileOf(path, priority = "auto") {
   if (Date.now() < (state.absent.get(path) || 0)) return null;
   try {
-    return await jsonOf(await get(path, {cache: "no-cache"}));
+    /** @type {any} */
+    const settings = {cache: "no-cache", priority};
+    return await jsonOf(await get(path, settings));
   } catch (fault) {
     if (fault.status !== 404) return undefined;
     state.absent.set(path, Date.now() + MINUTE);
@@ -75,8 +79,9 @@ export async function fileOf(path) {
   }
 }
 
-// Does this for each of these, some at a time.
-export async function forEachOf(all, call, most = 6) {
+// Does this for each of these, so many at a time at most. (By HTTP/2 all are asked in one round
+// trip; else a browser asks six at a time.)
+export async function forEachOf(all, call, most = 64) {
   const left = [...all];
   const work = async () => {
     while (left.length) await call(left.shift());
