@@ -18,6 +18,15 @@ test("by board each board has its own hours", () => {
   assert.deepEqual(sums, [["b1", 3], ["b2", 2]]);
 });
 
+test("a hold of a person counts beside jobs, and is told apart", () => {
+  const hold = {kind: "hold", owner: "ann", board: "b2", type: "bbb", began: H, ended: 4 * H};
+  const rows = [run("ann", ["b1"], H, 2 * H), hold, {...hold, ended: H - 1}, {...hold, kind: "other"}];
+  const {sums, held} = usageOf(rows, "owner", [0, DAY]);
+  assert.deepEqual([sums, [...held]], [[["ann", 4]], [["ann", 3]]]);
+  assert.deepEqual(usageOf(rows, "board", [0, DAY]).sums, [["b2", 3], ["b1", 1]]);
+  assert.equal(busyHours(rows, [0, DAY], at => Math.floor(at / H))[1], 2);
+});
+
 test("busy hours are boards on average", () => {
   const hours = busyHours([run("ann", ["b1", "b2"], 10 * H, 11 * H + H / 2)], [0, DAY, 2 * DAY],
     at => Math.floor(at % DAY / H));

@@ -172,8 +172,8 @@ def test_a_full_farm_is_shown(lab: Lab) -> None:
 
 @pytest.mark.parametrize("late", [0, 1])
 def test_on_a_phone_nothing_moves_while_it_looks(lab: Lab, late: int) -> None:
-    """Also where the history comes so many seconds after the desk's views."""
-    lab.delays["/history.json"] = late
+    """Also where the history, and what is known of reservations, come so many seconds after the desk's views."""
+    lab.delays.update({"/history.json": late, "/reservations": late})
     lab.reserve("ann", "hdmi")
     lab.passes()
     past(lab, record(900, "ann", "b1", int(time.time()) - 300))

@@ -12,6 +12,7 @@ from typing import Any, Callable, Dict, Optional, Tuple
 import pytest
 
 from browser import Browser
+from nginx_site import write
 from pages import BOARDS, click, seen, until
 from served import TOOLS, Farm, Tool, environment, read, wait_until
 
@@ -26,11 +27,11 @@ def farm_fixture(make_farm: Callable[..., Farm]) -> Farm:
 @pytest.fixture(name="place")
 def place_fixture(folder: str) -> str:
     """A dispatcher's folder, with a log, and with a link to a file of somebody else."""
-    os.makedirs(f"{folder}/jobs/logs")
+    for name in ("jobs/logs", "farm-watch/shown", "farm-access/shown"):
+        os.makedirs(f"{folder}/{name}")
     files = {"history.json": '{"at":1,"jobs":[],"boards":[]}', "logs/1": "one\ntwo\n", "healths.json": "{}"}
     for name, text in files.items():
-        with open(f"{folder}/jobs/{name}", "w", encoding="utf-8") as file:
-            file.write(text)
+        write(f"{folder}/jobs", name, text, 0o644)
     os.symlink("/etc/passwd", f"{folder}/jobs/logs/2")
     return f"{folder}/jobs"
 
@@ -38,7 +39,8 @@ def place_fixture(folder: str) -> str:
 @pytest.fixture(name="port")
 def port_fixture(farm: Farm, place: str, start_tool: Callable[..., Tool]) -> int:
     """The port at which the page of a farm is served for ann."""
-    words = ["farm-page", "--server", farm.server, "--user", "ann", "--port", "0", "--folder", place]
+    words = ["farm-page", "--server", farm.server, "--user", "ann", "--port", "0", "--folder", place,
+             "--labs", f"{place}/../labs.json"]
     tool = start_tool(*words)
     line = wait_until("it listens", lambda: re.match(r"http://127\.0\.0\.1:(\d+)/ as ann\n", tool.output()))
     return int(line.group(1))
@@ -80,6 +82,27 @@ def test_it_shows_what_a_dispatcher_keeps_for_all_and_nothing_else(port: int) ->
     fields = ask(port, "GET", "/page/farm.js")[1]
     assert fields["content-type"] == "text/javascript; charset=utf-8"
     assert "script-src 'self'" in fields["content-security-policy"]
+
+
+# What other tools keep, by its path: where that is beside the dispatcher's folder, and its kind.
+KEPT = {
+    "/holds.jsonl": ("farm-watch/shown/holds.jsonl", "text/plain; charset=utf-8"),
+    "/access.json": ("farm-access/shown/access.json", "application/json"),
+    "/labs.json": ("labs.json", "application/json"),
+}
+
+
+@pytest.mark.parametrize("path", KEPT)
+def test_it_serves_what_the_site_does_where_it_is_there(path: str, place: str, port: int) -> None:
+    assert ask(port, "GET", path)[::2] == (404, b'{"code": 404, "text": "no such route"}')
+    name, kind = KEPT[path]
+    write(os.path.dirname(place), name, '{"kept":1}\n', 0o644)
+    status, fields, body = ask(port, "GET", path)
+    assert (status, body, fields["content-type"]) == (200, b'{"kept":1}\n', kind)
+    assert fields["cache-control"] == "no-cache"
+    os.rename(f"{place}/../{name}", f"{place}/elsewhere")
+    os.symlink(f"{place}/elsewhere", f"{place}/../{name}")
+    assert ask(port, "GET", path)[0] == 404, "by a link"
 
 
 RESERVES = json.dumps({"tags": []})

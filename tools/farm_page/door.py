@@ -9,6 +9,8 @@ import stat
 import urllib.parse
 from typing import BinaryIO, Dict, NamedTuple, Optional, Tuple
 
+from fizgruk import records
+
 HERE = os.path.dirname(os.path.abspath(__file__))
 PAGE = os.path.join(os.path.dirname(HERE), "page")
 OF_PAGE = re.compile(r"page/[a-z]+\.(css|js)")
@@ -16,6 +18,9 @@ OF_FOLDER = re.compile(
     r"(history\.jsonl?|numbers|(running|waiting|notes)\.json|logs/[1-9][0-9]*"
     r"|artifacts/[1-9][0-9]*/([1-9][0-9]*|index\.json))"
 )
+# What other tools keep for the page, beside the dispatcher's folder.
+BESIDE = {records.HOLDS: records.OF_HOLDS, "access.json": "farm-access/shown/access.json"}
+LABS = "labs.json"
 KINDS = {
     "html": "text/html; charset=utf-8",
     "css": "text/css; charset=utf-8",
@@ -33,12 +38,23 @@ Fields = Dict[str, str]
 
 
 class Place(NamedTuple):
-    """The desk, by whom it is asked, and the dispatcher's folder, or an empty text."""
+    """The desk, by whom it is asked, the dispatcher's folder, or an empty text, and the file of other labs."""
 
     host: str
     port: int
     user: str
     folder: str
+    labs: str
+
+    def file_of(self, path: str) -> Optional[str]:
+        """The file that is served under a path; an empty text where it has no place, None where the desk is asked."""
+        if path == LABS:
+            return self.labs
+        if path in BESIDE:
+            return os.path.join(os.path.dirname(self.folder), BESIDE[path]) if self.folder else ""
+        if OF_FOLDER.fullmatch(path):
+            return os.path.join(self.folder, path) if self.folder else ""
+        return None
 
 
 class Server(http.server.ThreadingHTTPServer):
@@ -78,9 +94,8 @@ class Handler(http.server.BaseHTTPRequestHandler):
             self._give(os.path.join(PAGE, os.path.basename(path)), kind)
         elif path == "whoami":
             self._answer(200, TEXT, self.door.place.user.encode())
-        elif OF_FOLDER.fullmatch(path):
-            kind = BYTES if re.fullmatch(r"artifacts/\d+/\d+", path) else TEXT
-            self._give(os.path.join(self.door.place.folder, path), kind, self.door.place.folder)
+        elif self.door.place.file_of(path) is not None:
+            self._give(self.door.place.file_of(path) or "", kind_of(path))
         else:
             self._hand_on("GET", None)
 
@@ -120,13 +135,11 @@ class Handler(http.server.BaseHTTPRequestHandler):
         self.close_connection = True
         self._answer(status, JSON, json.dumps({"code": status, "text": text}).encode())
 
-    def _give(self, file: str, kind: str, folder: str = "/") -> None:
+    def _give(self, file: str, kind: str) -> None:
         """A file, or its end where that is asked for, and none by a link."""
         try:
-            opened = open(file, "rb", opener=_no_link) if folder else None
+            opened = open(file, "rb", opener=_no_link)
         except OSError:
-            opened = None
-        if opened is None:
             self._refuse(404, "no such route")
             return
         with opened:
@@ -186,6 +199,12 @@ class Handler(http.server.BaseHTTPRequestHandler):
 
     def log_message(self, format: str, *args: object) -> None:  # pylint: disable=redefined-builtin
         """Nothing is told of requests."""
+
+
+def kind_of(path: str) -> str:
+    if path in (LABS, "access.json"):
+        return JSON
+    return BYTES if re.fullmatch(r"artifacts/\d+/\d+", path) else TEXT
 
 
 def _no_link(file: str, flags: int) -> int:

@@ -36,7 +36,7 @@ def main(words: Optional[Sequence[str]] = None) -> int:
         if address.scheme != "http" or address.hostname not in LOOPBACK:
             return tell.told(FAULT, f"{settings.server} isn't a desk of this machine")
         folder = os.path.abspath(options.folder) if options.folder else ""
-        place = door.Place(address.hostname, address.port or 80, settings.user, folder)
+        place = door.Place(address.hostname, address.port or 80, settings.user, folder, options.labs)
         with door.Server(place, options.port) as server:
             print(f"http://127.0.0.1:{server.server_port}/ as {settings.user}", flush=True)
             server.serve_forever()
@@ -51,8 +51,13 @@ def parser_of() -> parsers.Parser:
     parser = parsers.parser_of(PROGRAM, ABOUT, STATUSES)
     about = "Listen at this port of 127.0.0.1 (default %(default)s); 0 takes a port that is free."
     parser.option("--port", "PORT", about, type=_port, default=PORT)
-    about = "The folder of farm-dispatch, whose history and logs are shown too."
+    about = (
+        "The folder of farm-dispatch, whose history and logs are shown too, and what farm-watch and farm-access keep "
+        "beside it, in farm-watch and farm-access."
+    )
     parser.option("--folder", "DIR", about)
+    about = "The other labs, of which the page has a menu where this file is there (default %(default)s)."
+    parser.option("--labs", "FILE", about, default="/etc/farm/labs.json")
     asking.add_options(parser, "desk", "default the login's name")
     return parser
 

@@ -122,14 +122,14 @@ export function boardRow(board) {
 
 // Makes the rows of all tables anew from what is known.
 export function makeRows() {
-  const unknown = {owner: "", priority: "", tags: []};
+  const unknown = {owner: "", priority: "", tags: [], isAwaited: true};
   const boards = state.farm.boards.map(boardRow);
   const byName = new Map(boards.map(it => [it.name, it]));
   state.rows = {
     boards, waits: new Map(),
     queue: state.farm.queue.map(it => ({...it, key: it.number})),
     reservations: state.farm.live.map(it => ({
-      ...unknown, ...state.reservations.get(it.number), ...it, key: it.number,
+      ...(state.reservations.get(it.number) || unknown), ...it, key: it.number,
       since: byName.get(it.board)?.since, isSeen: byName.get(it.board)?.isSeen,
     })),
     ended: (state.past?.jobs || []).filter(it => it.ended).map(

@@ -274,7 +274,7 @@ export class Table {
   fill(line, row) {
     const isShown = line.row === row;
     line.row = row;
-    setKind(line, isOwn(row) && !this.isWhole ? "mine" : "");
+    setKind(line, row.isAwaited ? "awaited" : isOwn(row) && !this.isWhole ? "mine" : "");
     this.columns.forEach((column, place) => {
       if (isShown && !column.isTimed) return;
       const text = column.text(row), kind = column.kind ? column.kind(row) : "";

@@ -1,40 +1,55 @@
 // The dialog that shows how much the boards were used: bars a day, the sums, the busy hours.
 import {machineTime} from "./clocks.js";
-import {arrangeNamed, element, setText} from "./elements.js";
+import {arrangeNamed, element, setHidden, setText} from "./elements.js";
 import {usageBy, usageDialog} from "./parts.js";
 import {get} from "./requests.js";
 import {busyHours, linesOf, usageOf} from "./usage.js";
 
 const DAYS = 14, MOST_READ = 4000000, NAMED = 6, WIDE = 700, HIGH = 180;
 const SVG = document.querySelector("#usage-days svg").namespaceURI;
-let lines = null;
+/** @type {any[]} the jobs and the holds that ended; null where nobody keeps holds */
+let lines = [], holds = null;
 
 export async function openUsage() {
   if (!usageDialog.open) usageDialog.showModal();
   drawUsage("loading");
   try {
-    const headers = {range: "bytes=-" + MOST_READ};
-    lines = linesOf(await (await get("history.jsonl", {cache: "no-cache", headers})).text());
-    drawUsage("");
+    const [jobs, held] = await Promise.all([linesIn("history.jsonl"), linesIn("holds.jsonl")]);
+    holds = held;
+    lines = [...jobs || [], ...held || []];
+    drawUsage(jobs ? "" : "No history is served here.");
   } catch (fault) {
-    drawUsage(fault.status === 404 || fault.status === 416
-      ? "No history is served here." : "no answer (" + fault.message + ")");
+    drawUsage("no answer (" + fault.message + ")");
+  }
+}
+
+// The last lines of a file, null where it isn't served. (416: it has no line yet)
+async function linesIn(path) {
+  const headers = {range: "bytes=-" + MOST_READ};
+  try {
+    return linesOf(await (await get(path, {cache: "no-cache", headers})).text());
+  } catch (fault) {
+    if (fault.status === 416) return [];
+    if (fault.status === 404) return null;
+    throw fault;
   }
 }
 
 export function drawUsage(said) {
-  setText(document.getElementById("usage-said"), said);
+  const uncounted = holds ? "" : "Holds of people aren't counted: farm-watch keeps none here.";
+  setText(document.getElementById("usage-said"), said || uncounted);
+  for (const it of usageDialog.querySelectorAll(".held")) setHidden(it, !holds);
   const charts = document.getElementById("usage-charts");
   charts.hidden = Boolean(said);
   if (said) return;
   const begins = daysUntil(new Date(machineTime() * 1000));
-  const {days, sums} = usageOf(lines, usageBy.value, begins);
+  const {days, sums, held} = usageOf(lines, usageBy.value, begins);
   const names = sums.slice(0, NAMED).map(([name]) => name);
   drawBars(document.getElementById("usage-days"), days.map(({begin, hours}) => ({
     label: new Date(begin * 1000).toLocaleDateString([], {day: "numeric", month: "numeric"}),
     parts: partsOf(hours, names),
   })), "hours");
-  drawSums(sums, names);
+  drawSums(sums, names, held);
   const hours = busyHours(lines, begins, at => new Date(at * 1000).getHours());
   drawBars(document.getElementById("usage-hours"), hours.map((it, hour) =>
     ({label: String(hour), parts: [{name: "boards", amount: it, at: 0}]})), "boards");
@@ -90,10 +105,10 @@ function drawBars(place, bars, unit) {
   place.replaceChildren(drawn);
 }
 
-function drawSums(sums, names) {
+function drawSums(sums, names, held) {
   const list = document.getElementById("usage-sums"), shown = sums.slice(0, 20);
   if (!shown.length) {
-    list.replaceChildren(element("li", "", "no job has ended in these days"));
+    list.replaceChildren(element("li", "", "nothing has ended in these days"));
     return;
   }
   const made = arrangeNamed(list, shown.map(([name]) => name), () => {
@@ -104,6 +119,7 @@ function drawSums(sums, names) {
   shown.forEach(([name, hours], at) => {
     const place = names.indexOf(name);
     made[at].firstChild.className = "swatch share-" + (place < 0 ? NAMED : place);
-    setText(made[at].lastChild, name + ": " + hours.toFixed(1) + " hours");
+    const part = held.get(name), inHolds = part ? ", " + part.toFixed(1) + " held" : "";
+    setText(made[at].lastChild, name + ": " + hours.toFixed(1) + " hours" + inHolds);
   });
 }
