@@ -72,7 +72,7 @@ def note(port: int, desk: int, notes: str) -> None:
                     return line.close()
                 said += more
             file.write(said.split(b" ", 2)[1] + b"\n")
-            with line, socket.create_connection(("127.0.0.1", desk)) as other:
+            with contextlib.suppress(OSError), line, socket.create_connection(("127.0.0.1", desk)) as other:
                 other.sendall(said)
                 while (told := other.recv(65536)):
                     line.sendall(told)
