@@ -16,6 +16,7 @@ TOP = os.path.realpath(os.path.join(os.path.dirname(__file__), "../.."))
 TOOLS = os.path.join(TOP, "tools")
 LIBRARY = os.path.join(TOP, "python/src")
 MODULES = [TOOLS, LIBRARY]
+NO_HOME = "/proc/none"  # a folder that nobody can make: a shell would, as root, and leave it to the others
 PATIENCE = 240.0  # seconds for what comes within one on an idle machine
 # Processes that are killed at the end of the test that started them, and those that last for the whole run.
 STARTED: List["subprocess.Popen[Any]"] = []
@@ -77,7 +78,7 @@ def environment(**more: str) -> Dict[str, str]:
     their bytecode, as a user's do, since they are started some hundred times."""
     left_out = ("DESK_", "DISPATCH_", "FARM_", "PYTHONDONTWRITEBYTECODE", "PYTHONUNBUFFERED", "PYTEST_")
     kept = {name: text for name, text in os.environ.items() if not name.startswith(left_out)}
-    homes = {"HOME": "/nonexistent", "XDG_CONFIG_HOME": "/nonexistent", "COLUMNS": "80"}
+    homes = {"HOME": NO_HOME, "XDG_CONFIG_HOME": NO_HOME, "COLUMNS": "80"}
     return {**kept, **homes, **more}
 
 
