@@ -99,6 +99,7 @@ def lives(lab: Lab, ways: Optional[access_lab.Lab], dice: random.Random) -> Copy
         time.sleep(0.5)
     with lab.turning:
         lab.tools["follower"].kill()
+        lab.is_ending = True
         standby = Copy(f"{lab.standby}/farm.db", beside.moment_of(lab.standby), time.time())
     for it in working:
         it.join(QUEUED)

@@ -17,7 +17,7 @@ from served import PATIENCE, TOOLS, environment, read
 KILLED = ("desk", "dispatcher", "watcher", "follower")
 LAST_KILL = 12  # seconds before the end of the week
 LEAST = 60  # kills of a week
-BACK_WITHIN, LONGEST = 30.0, 40.0  # seconds for which what was killed is waited for, and from one kill to the next
+BACK_WITHIN, LONGEST = 30.0, 80.0  # seconds for which what was killed is waited for, and from one kill to the next
 
 
 def kills(lab: Lab, dice: random.Random) -> None:
@@ -29,12 +29,12 @@ def kills(lab: Lab, dice: random.Random) -> None:
         sign = works_by(lab, name)
         with lab.turning:
             # (the follower's last kill is the one after which its standby is compared)
-            if name != "follower" or lab.left() > LAST_KILL:
+            if name != "follower" or not lab.is_ending:
                 lab.kill(name)
         if dice.random() < 0.8:
             lab.waits(min(lab.left(), BACK_WITHIN), lambda: works_by(lab, name) != sign)
         time.sleep(dice.uniform(1, 7))
-        if lab.left() < LONGEST and sum(lab.kills.values()) < LEAST:
+        if lab.left() < LONGEST and sum(lab.kills.values()) < LEAST and not lab.is_ending:
             lab.over = min(lab.over + LONGEST, latest)
 
 

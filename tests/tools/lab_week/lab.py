@@ -87,6 +87,7 @@ class Lab:
         self.room = room
         self.deviations: List[str] = []
         self.site: Optional[PeopleSite] = None
+        self.is_ending = False  # the follower was killed for the last time
         self.drained = threading.Event()
         self.turning, self.copying = threading.Lock(), threading.Lock()  # held while machines take turns
         self.counts = itertools.count()

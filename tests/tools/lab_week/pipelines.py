@@ -7,6 +7,7 @@ import json
 import os
 import random
 import re
+import subprocess
 import time
 from typing import Any, List, Tuple
 
@@ -87,22 +88,26 @@ def asks_by_tokens(lab: Lab, user: str, dice: random.Random) -> None:
         elif ran.returncode != NO_ANSWER:
             lab.wrong(f"{user}: desk add-token: {ran.returncode} {ran.stderr}")
         if ends(lab, user, name) and ran.returncode == 0:
-            after = lab.ran(user, "boards", DESK_PASSWORD_FILE=file)
+            after = answered(lab, user, "boards", DESK_PASSWORD_FILE=file)
             if after.returncode != REFUSED or "401" not in after.stderr:
                 lab.wrong(f"{user}'s token that was ended is answered: {after.returncode} {after.stderr}")
             lab.tokens["refused"] += 1
         time.sleep(dice.uniform(5, 15))
 
 
-def uses(lab: Lab, user: str, file: str, dice: random.Random) -> None:
-    leaves = leaving.leaves_of(dice)
-    job, words = write(lab.room, f"{os.path.basename(file)}.toml", text_of(1, "0", leaves, dice)), ["submit"]
-    key = f"{os.path.basename(file)}-job"
+def answered(lab: Lab, user: str, *words: str, **more: str) -> "subprocess.CompletedProcess[str]":
+    """What the client comes to, called again where it got no answer in its time."""
     until = time.monotonic() + PATIENCE
     while True:
-        ran = lab.ran(user, *words, job, "--key", key, DESK_PASSWORD_FILE=file)
+        ran = lab.ran(user, *words, **more)
         if ran.returncode != NO_ANSWER or time.monotonic() > until:
-            break
+            return ran
+
+
+def uses(lab: Lab, user: str, file: str, dice: random.Random) -> None:
+    leaves = leaving.leaves_of(dice)
+    job = write(lab.room, f"{os.path.basename(file)}.toml", text_of(1, "0", leaves, dice))
+    ran = answered(lab, user, "submit", job, "--key", f"{os.path.basename(file)}-job", DESK_PASSWORD_FILE=file)
     if ran.returncode:
         lab.wrong(f"{user}: desk submit by a token: {ran.returncode} {ran.stderr}")
         return
