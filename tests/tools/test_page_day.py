@@ -122,6 +122,8 @@ def test_256_boards_are_one_screen(lab: Lab) -> None:
     opened = lab.opened("/?grid", wide=1280, high=1000)
     assert opened.ask("document.querySelectorAll('#tiles a').length") == 256
     assert opened.ask("document.getElementById('tiles').offsetHeight") < 900
+    cut = "[...document.querySelectorAll('#tiles a')].filter(it => it.scrollWidth > it.clientWidth).length"
+    assert opened.ask(cut) == 0, "names that are cut"
     opened.ask("grid.click()")
     stops = "[...document.querySelectorAll('a, button, input')].filter(it => it.checkVisibility() && it.tabIndex >= 0)"
     assert opened.ask(f"{stops}.length") < 300
@@ -251,17 +253,22 @@ NAMED = ("button", "textbox", "searchbox", "link", "checkbox", "dialog", "combob
 
 @pytest.mark.parametrize("address, wanted", [
     ("/", ("table", "Queue (4)")), ("/?grid", ("link", "qemu-04: free")), ("/#/boards/rpi4b-02", ("dialog", "rpi4b-02")),
-    ("/#/jobs/42", ("dialog", "Job 42: kernel next")), ("/#/submit", ("dialog", "Submit a job")),
+    ("/#/jobs/42", ("dialog", "Job 42: kernel next")), ("/#/jobs/15", ("dialog", "Job 15: nightly")),
+    ("/#/jobs/7", ("dialog", "Job 7: boot ann")), ("/#/submit", ("dialog", "Submit a job")),
     ("/#/usage", ("dialog", "Usage of the last 14 days")), ("/#/keys", ("dialog", "Keys")),
 ])
 def test_in_each_state_all_has_a_name_and_contrast(example: Lab, address: str, wanted: Tuple[str, str]) -> None:
     opened = example.opened(address)
     wait_until(f"there is {wanted}", lambda: wanted in accessible(opened))
+    has_names_and_contrast(opened)
+    opened.close()
+
+
+def has_names_and_contrast(opened: Page) -> None:
     assert [it for it in accessible(opened) if it[0] in NAMED and not it[1]] == [], "what has no name"
     for scheme in ("light", "dark"):
         opened.set_scheme(scheme)
         assert opened.poor_texts() == set(), scheme
-    opened.close()
 
 
 def test_a_desk_that_is_down_leaves_an_old_page_without_live_buttons(lab: Lab) -> None:
@@ -274,6 +281,7 @@ def test_a_desk_that_is_down_leaves_an_old_page_without_live_buttons(lab: Lab) -
     assert len(shown["boards"]) == 3
     assert opened.ask(live) == 0
     assert opened.ask("document.body.classList.contains('stale')")
+    has_names_and_contrast(opened)
     lab.farm.start()
     seen(opened)
     until(opened, "it comes back", lambda it: it["said"].startswith("as of"))
@@ -288,8 +296,10 @@ def test_a_fault_of_the_page_is_told_as_that(lab: Lab) -> None:
 
 
 def test_a_farm_without_boards_says_how_they_come(make_lab: Callable[..., Lab]) -> None:
-    lab = make_lab([])
-    assert lab.look()["text"]["boards"].startswith("no boards yet: an admin adds them")
+    lab = make_lab([], user=None)
+    opened = lab.opened()
+    assert opened.ask(SHOWN)["text"]["boards"].startswith("no boards yet: an admin adds them")
+    has_names_and_contrast(opened)
 
 
 HOSTILE = '<img src=x onerror="document.title=1"><b>bold</b>'

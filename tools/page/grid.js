@@ -4,12 +4,17 @@ import {hrefOfBoard} from "./routes.js";
 import {holderText, useOf} from "./rows.js";
 import {byKey, sortKey} from "./words.js";
 
+// So many letters of a name have room in a tile, however wide others are.
+const LONGEST = 24;
+
 /**
  * @param {HTMLElement} place
  * @param {any[]} rows
  */
 export function drawGrid(place, rows) {
-  const types = new Map();
+  const types = new Map(), longest = Math.max(0, ...rows.map(it => it.name.length));
+  // (names of a lab differ at their ends)
+  place.style.setProperty("--tile", Math.min(longest, LONGEST) + "ch");
   for (const row of rows) {
     if (types.has(row.type)) types.get(row.type).push(row);
     else types.set(row.type, [row]);
