@@ -7,6 +7,7 @@ import gzip
 import json
 import os
 import re
+import shlex
 import shutil
 import socket
 import subprocess
@@ -252,7 +253,7 @@ def make_board(lab: Lab, folder: str) -> None:
     words = re.search("^ExecStart=(.*)$", blocks("ini")[0], re.MULTILINE)
     assert words
     told = words[1].replace("/srv/virt", lab.place).replace("/run/qemu", lab.place).replace("%i", "virt-1")
-    lab.start("virt-1", *told.split())
+    lab.start("virt-1", *shlex.split(told))
     sockets = [lab.path(f"virt-1.{it}") for it in ("qmp", "console")]
     wait_until("qemu's sockets", lambda: all(os.path.exists(it) for it in sockets))
 

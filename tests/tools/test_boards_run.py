@@ -46,7 +46,7 @@ targets:
         cpu: max
         memory: 256M
         kernel: kernel
-        boot_args: !template "console=ttyS0 quiet $LG_APPEND"
+        boot_args: !template "console=ttyS0 no_timer_check quiet $LG_APPEND"
         extra_args: '-name @NAME@ -net none -initrd @INITRAMFS@'
       ShellDriver:
         prompt: '{PROMPT}'
@@ -102,7 +102,7 @@ actions:
     to: tmpfs
     images:
       kernel:
-        image_arg: -kernel {kernel} -append "console=ttyS0 loglevel=6 @APPEND@"
+        image_arg: -kernel {kernel} -append "console=ttyS0 no_timer_check loglevel=6 @APPEND@"
         url: file://@KERNEL@
       initrd:
         image_arg: -initrd {initrd}

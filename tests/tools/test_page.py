@@ -204,13 +204,15 @@ def test_a_lease_runs_on_while_no_pass_comes_and_is_over_unless_refreshed(make_l
     times = set()
 
     def counts(shown: Shown) -> bool:
-        times.add(shown["reservations"][1][2])
+        times.update(it[2] for it in shown["reservations"][1:])
         return len(times) > 2
 
     shown = until(opened, "it is counted between two looks", counts)
     over, *others = [it[2] for it in shown["reservations"]]
     assert over == OVER
-    assert times <= {f"{it} s" for it in range(16)} and set(others) <= times, times
+    assert times <= {f"{it} s" for it in range(16)}, times
+    first, second = [int(it.split()[0]) for it in others]
+    assert abs(first - second) <= 1, "they are drawn one after the other"
     lab.farm.kill()
     tell_at(lab.farm, now + 5, "eve", "/reservations/3/refresh")
     lab.farm.start()
