@@ -201,7 +201,7 @@ def test_a_lease_runs_on_while_no_pass_comes_and_is_over_unless_refreshed(make_l
     lab.date = now
     lab.farm.start()
     opened = lab.opened()
-    times = set()
+    times: Set[str] = set()
 
     def counts(shown: Shown) -> bool:
         times.update(it[2] for it in shown["reservations"][1:])
