@@ -1,5 +1,5 @@
 //! The boards that are measured: 256 of four types, as those of the plain pass in bench/pass.c.
-use farm_types::{BoardRow, Check, Health, Name, Tag, Tags, TypeRow, WordFault};
+use farm_types::{BoardRow, Check, Health, Name, Refusal, Tag, Tags, TypeRow};
 use std::alloc::Global;
 
 /// The most boards that a farm can have.
@@ -16,8 +16,8 @@ const KINDS: [&str; 4] = [
     "beaglebone-black-3",
 ];
 
-pub fn name(alloc: Global, text: &str) -> Result<Name, WordFault> {
-    Name::parse(alloc, text.as_bytes())
+pub fn name(text: &str) -> Result<Name, Refusal> {
+    Name::parse(text.as_bytes())
 }
 
 /// The tag of a claim: one that each board has, or the rare one.
@@ -30,7 +30,7 @@ pub fn asked_tags(alloc: Global, rare: bool) -> anyhow::Result<Tags> {
 /// The name of the board at a place.
 pub fn board_name(alloc: Global, place: u64) -> anyhow::Result<Name> {
     let text = format!(in alloc; "board-{place:03}")?;
-    Ok(name(alloc, text.as_str())?)
+    Ok(name(text.as_str())?)
 }
 
 /// The type of the board at a place, or of what wants a board: each in its turn.
@@ -43,7 +43,7 @@ pub fn kind_at(place: u64) -> &'static str {
 pub fn types(alloc: Global) -> anyhow::Result<Vec<TypeRow>> {
     let mut rows = Vec::new(alloc);
     for text in KINDS {
-        let name = name(alloc, text)?;
+        let name = name(text)?;
         let check = Check::Never;
         rows.push(TypeRow { name, check })?;
     }
@@ -61,7 +61,7 @@ fn tags_at(alloc: Global, place: u64, rare: bool) -> anyhow::Result<Tags> {
 /// A free board.
 fn board(alloc: Global, place: u64, rare: bool) -> anyhow::Result<BoardRow> {
     let name = board_name(alloc, place)?;
-    let kind = self::name(alloc, kind_at(place))?;
+    let kind = self::name(kind_at(place))?;
     let tags = tags_at(alloc, place, rare)?;
     let mut row = BoardRow::new(name, kind, tags);
     row.health = Health::Good;

@@ -68,7 +68,7 @@ fn proper_pass() -> Cmd
 
 /// A pass at a moment.
 pub fn pass_at(alloc: Global, now: u64) -> anyhow::Result<Call> {
-    let caller = boards::name(alloc, "dispatcher")?;
+    let caller = boards::name("dispatcher")?;
     Ok(Call::new(caller, None, now, proper_pass()))
 }
 

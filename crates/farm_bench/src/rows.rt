@@ -113,9 +113,9 @@ fn priority_of(number: u64) -> anyhow::Result<Priority> {
 
 /// A job that waits for a board of a type; the first of its group has a text of 300 bytes.
 fn job(alloc: Global, number: u64, group: u64, rare: bool) -> anyhow::Result<JobRow> {
-    let owner = boards::name(alloc, "ann")?;
+    let owner = boards::name("ann")?;
     let priority = priority_of(group)?;
-    let kind = Some(boards::name(alloc, boards::kind_at(group))?);
+    let kind = Some(boards::name(boards::kind_at(group))?);
     let tags = boards::asked_tags(alloc, rare)?;
     let length = if number == group { 300 } else { 0 };
     let text = format!(in alloc; "{:x>length$}", "")?;
@@ -126,7 +126,7 @@ fn job(alloc: Global, number: u64, group: u64, rare: bool) -> anyhow::Result<Job
 
 /// A reservation for a board of any type.
 fn reservation(alloc: Global, number: u64, state: ResState, rare: bool) -> anyhow::Result<ResRow> {
-    let owner = boards::name(alloc, "ann")?;
+    let owner = boards::name("ann")?;
     let priority = priority_of(number)?;
     let tags = boards::asked_tags(alloc, rare)?;
     Ok(ResRow {
@@ -169,7 +169,7 @@ fn add_front(alloc: Global, rows: &mut Rows, together: bool) -> anyhow::Result<(
     for _ in 0..boards::RARE {
         let number = take_number(rows);
         let group = if together { first } else { number };
-        let kind = boards::name(alloc, boards::kind_at(number))?;
+        let kind = boards::name(boards::kind_at(number))?;
         let mut row = job(alloc, number, group, true)?;
         row.priority = highest;
         row.want.kind = Some(kind);

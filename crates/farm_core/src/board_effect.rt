@@ -5,7 +5,6 @@ ghost use Rattle.farm_types.specs.Pass.{held_board};
 
 use farm_table::Edit;
 use farm_types::{BoardRow, Health, Holder, MOST_JOBS_SINCE, Outcome, State};
-use std::alloc::AllocError;
 
 /// What becomes of a board.
 #[derive(Clone, Copy, Debug, PartialEq, Eq)]
@@ -78,7 +77,7 @@ impl Edit<BoardRow> for BoardEffect {
         true
     }
 
-    fn change(&self, row: &mut BoardRow) -> Result<(), AllocError> {
+    fn change(&self, row: &mut BoardRow) {
         match *self {
             BoardEffect::Free => set_holder(row, Holder::Nobody, State::Idle),
             BoardEffect::State(state) => row.state = state,
@@ -96,6 +95,5 @@ impl Edit<BoardRow> for BoardEffect {
                 set_holder(row, Holder::Nobody, State::Idle);
             }
         }
-        Ok(())
     }
 }

@@ -141,8 +141,8 @@ impl Tables {
     {
         if let Some(key) = &call.key {
             self.kept.put(KeptRow {
-                caller: call.caller.copy()?,
-                key: key.copy()?,
+                caller: call.caller.copy(),
+                key: key.copy(),
                 kind: call.cmd.kind(),
                 reply,
             })?;

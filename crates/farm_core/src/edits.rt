@@ -149,15 +149,14 @@ impl Edit<JobRow> for JobEdit<'_> {
         self.jobs.accepts(row)
     }
 
-    fn change(&self, row: &mut JobRow) -> Result<(), AllocError> {
+    fn change(&self, row: &mut JobRow) {
         match self.placement {
             Placement::Stays => {}
             Placement::Leaves => row.board = None,
-            Placement::On(name) => row.board = Some(name.copy()?),
+            Placement::On(name) => row.board = Some(name.copy()),
         }
         row.state = self.state;
         row.outcome = self.outcome.or(row.outcome);
-        Ok(())
     }
 }
 
@@ -239,13 +238,12 @@ impl Edit<ResRow> for ResEdit<'_> {
         row.number == self.number
     }
 
-    fn change(&self, row: &mut ResRow) -> Result<(), AllocError> {
+    fn change(&self, row: &mut ResRow) {
         if let Some(name) = self.board {
-            row.board = Some(name.copy()?);
+            row.board = Some(name.copy());
         }
         row.state = self.state.unwrap_or(row.state);
         row.deadline = self.deadline.unwrap_or(row.deadline);
-        Ok(())
     }
 }
 
@@ -278,8 +276,8 @@ impl Edit<BoardRow> for Held<'_> {
         }
     }
 
-    fn change(&self, row: &mut BoardRow) -> Result<(), AllocError> {
-        self.effect.change(row)
+    fn change(&self, row: &mut BoardRow) {
+        self.effect.change(row);
     }
 }
 

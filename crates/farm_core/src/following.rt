@@ -25,7 +25,7 @@ fn note_board(queues: &mut Queues, types: &[TypeRow], row: &BoardRow) -> Result<
     }) }
 {
     if farm_pick::is_free(types, row) {
-        return queues.put_board(row.name.copy()?, &row.kind);
+        return queues.put_board(row.name.copy(), &row.kind);
     }
     queues.take_board(&row.name);
     Ok(())

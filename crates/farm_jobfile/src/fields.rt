@@ -1,5 +1,5 @@
 //! The tree of a file, and the words in it.
-ghost use Rattle.std.specs.Prelude.{◌≡◌, ◌≤◌, length, IfOk, map, Err, IsOk};
+ghost use Rattle.std.specs.Prelude.{◌≡◌, ◌≤◌, length, IfOk, map};
 ghost use Rattle.toml.specs.View.{view, items_view, table_view};
 ghost use Rattle.toml.specs.Data.{as_table};
 ghost use Rattle.farm_types.specs.Reads.{OrNoMemory, viewed};
@@ -49,34 +49,29 @@ pub(crate) fn table_of<'v>(file: FileKind, value: &'v Value) -> Result<&'v Table
     value.as_table().ok_or(Fault::Bad(file, Reason::WrongKind))
 }
 
-/// The name that a text spells; memory is wanted only where it spells one.
-pub(crate) fn name_of(alloc: Global, text: &str) -> FileResult<Name>
-    ensures spells { OrNoMemory text_fault (λ name. name) result (name_or text.now) }
-    ensures memory { result ≡ Err FileFault.NoMemory → IsOk (name_or text.now) }
+/// The name that a text spells.
+pub(crate) fn name_of(text: &str) -> Result<Name, Fault>
+    ensures { result ≡ name_or text.now }
 {
-    Ok(Name::parse(alloc, text.as_bytes())?)
+    Name::parse(text.as_bytes()).map_err(Fault::Word)
 }
 
-/// The name that a value spells, a text; memory is wanted only where it spells one.
+/// The name that a value spells, a text.
 #[tactic(auto, unfolding(crate::specs::Fields::name_from))]
-pub(crate) fn name_from(alloc: Global, file: FileKind, value: &Value) -> FileResult<Name>
-    ensures spells { OrNoMemory text_fault (λ name. name) result (name_from file (view value.now)) }
-    ensures memory { result ≡ Err FileFault.NoMemory → IsOk (name_from file (view value.now)) }
+pub(crate) fn name_from(file: FileKind, value: &Value) -> Result<Name, Fault>
+    ensures { result ≡ name_from file (view value.now) }
 {
-    let text = value.as_str().ok_or(file.bad(Reason::WrongKind))?;
-    name_of(alloc, text)
+    let text = value.as_str();
+    name_of(text.ok_or(Fault::Bad(file, Reason::WrongKind))?)
 }
 
-/// The name under a key, which must be there; memory is wanted only where there is one.
+/// The name under a key, which must be there.
 #[tactic(auto, unfolding(crate::specs::Fields::name_in))]
-pub(crate) fn name_at(alloc: Global, file: FileKind, value: &Value, key: &str) -> FileResult<Name>
-    ensures spells { OrNoMemory text_fault (λ name. name) result
-        (name_in file key.now (view value.now)) }
-    ensures memory { result ≡ Err FileFault.NoMemory
-        → IsOk (name_in file key.now (view value.now)) }
+pub(crate) fn name_at(file: FileKind, value: &Value, key: &str) -> Result<Name, Fault>
+    ensures { result ≡ name_in file key.now (view value.now) }
 {
-    let field = value.get(key).ok_or(file.bad(Reason::Missing))?;
-    name_from(alloc, file, field)
+    let field = value.get(key);
+    name_from(file, field.ok_or(Fault::Bad(file, Reason::Missing))?)
 }
 
 /// The texts of an array's items.

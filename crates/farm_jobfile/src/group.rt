@@ -28,8 +28,8 @@ impl Member {
     pub(crate) fn copy(&self) -> Result<Member, AllocError>
         ensures { IfOk result (λ member. member ≡ self.now) }
     {
-        let role = copy_name(&self.role)?;
-        let kind = self.kind.copy()?;
+        let role = copy_name(&self.role);
+        let kind = self.kind.copy();
         let tags = self.tags.copy()?;
         Ok(Member { role, kind, tags })
     }

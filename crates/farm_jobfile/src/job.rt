@@ -72,7 +72,7 @@ fn playing(alloc: Global, role: Option<Name>, value: &Value) -> FileResult<Vec<M
     ensures { OrNoMemory text_fault (λ members. members.items) result
         (playing_in role (view value.now)) }
 {
-    let kind = name_at(alloc, FileKind::JobFile, value, "device_type")?;
+    let kind = name_at(FileKind::JobFile, value, "device_type")?;
     let count = count_of(value)?;
     let tags = tags_at(alloc, FileKind::JobFile, value)?;
     Ok(copies(alloc, &Member { role, kind, tags }, count)?)
@@ -84,7 +84,7 @@ fn role_of(alloc: Global, name: &str, value: &Value) -> FileResult<Vec<Member>>
     ensures { OrNoMemory text_fault (λ members. members.items) result
         (role_in name.now (view value.now)) }
 {
-    let role = Some(name_of(alloc, name)?);
+    let role = Some(name_of(name)?);
     let _table = table_of(FileKind::JobFile, value)?;
     playing(alloc, role, value)
 }
@@ -122,7 +122,7 @@ fn single_of(alloc: Global, kind: &Value, value: &Value) -> FileResult<Vec<Membe
         (single_in (view kind.now) (view value.now)) }
 {
     let role = None;
-    let kind = name_from(alloc, FileKind::JobFile, kind)?;
+    let kind = name_from(FileKind::JobFile, kind)?;
     let tags = tags_at(alloc, FileKind::JobFile, value)?;
     Ok(vec![in alloc; Member { role, kind, tags }]?)
 }

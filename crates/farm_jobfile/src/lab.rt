@@ -82,7 +82,7 @@ fn type_of(alloc: Global, name: &str, value: &Value, now: u64) -> FileResult<Cal
     ensures { OrNoMemory text_fault (λ call. entry_of call) result
         (type_in now name.now (view value.now)) }
 {
-    let kind = name_of(alloc, name)?;
+    let kind = name_of(name)?;
     let _table = table_of(FileKind::LabFile, value)?;
     let check = check_of(value)?;
     let cmd = Cmd::add_type(kind, check);
@@ -105,9 +105,9 @@ fn board_of(alloc: Global, name: &str, value: &Value, now: u64) -> FileResult<Ca
     ensures { OrNoMemory text_fault (λ call. entry_of call) result
         (board_in now name.now (view value.now)) }
 {
-    let board = name_of(alloc, name)?;
+    let board = name_of(name)?;
     let _table = table_of(FileKind::LabFile, value)?;
-    let kind = name_at(alloc, FileKind::LabFile, value, "type")?;
+    let kind = name_at(FileKind::LabFile, value, "type")?;
     let tags = own_tags(tags_at(alloc, FileKind::LabFile, value)?)?;
     let cmd = Cmd::add_board(board, kind, tags);
     Ok(call_of(alloc, "board.", name, now, cmd)?)

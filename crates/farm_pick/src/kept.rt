@@ -83,11 +83,11 @@ fn forget(several: &mut BTreeSet<Rank>, spot: Spot)
 }
 
 /// An equal claim.
-fn copied(claim: &Claim) -> Result<Claim, AllocError>
-    ensures { IfOk result (λ copy. copy ≡ claim.now) }
+fn copied(claim: &Claim) -> Claim
+    ensures { result ≡ claim.now }
 {
-    let owner = claim.owner.copy()?;
-    Ok(Claim { owner, ..*claim })
+    let owner = claim.owner.copy();
+    Claim { owner, ..*claim }
 }
 
 /// Copies of the claims in the order `before`. Each queue is in that order already, so the sort has
@@ -99,7 +99,7 @@ pub fn in_order(alloc: Global, claims: &BTreeMap<Spot, Claim>) -> Result<Vec<Cla
 {
     let mut sorted = Vec::new(alloc);
     for claim in claims.values() {
-        sorted.push(copied(claim)?)?;
+        sorted.push(copied(claim))?;
     }
     sorted.sort_by(queue_order)?;
     Ok(sorted)

@@ -28,7 +28,7 @@ pub fn made_type(kinds: &mut Vec<Name>, kind: &Name) -> Result<usize, AllocError
     if let Some(at) = place_of(kinds, kind) {
         return Ok(at + 1);
     }
-    let own = kind.copy()?;
+    let own = kind.copy();
     kinds.push(own)?;
     Ok(kinds.len())
 }

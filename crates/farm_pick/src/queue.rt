@@ -21,16 +21,16 @@ fn is_waiting(reservation: &ResRow) -> bool
     reservation.state == ResState::Waiting
 }
 
-fn shown_reservation(reservation: &ResRow) -> Result<Claim, AllocError>
-    ensures { IfOk result (λ claim. claim ≡ shown_reservation reservation.now) }
+fn shown_reservation(reservation: &ResRow) -> Claim
+    ensures { result ≡ shown_reservation reservation.now }
 {
-    Ok(Claim {
+    Claim {
         kind: ClaimKind::Reservation,
         number: reservation.number,
-        owner: reservation.owner.copy()?,
+        owner: reservation.owner.copy(),
         priority: reservation.priority,
         boards: 1,
-    })
+    }
 }
 
 /// Adds a claim for each waiting reservation.
@@ -40,7 +40,7 @@ fn add_reservations(claims: &mut Vec<Claim>, reservations: &[ResRow]) -> Result<
 {
     for reservation in reservations {
         if is_waiting(reservation) {
-            claims.push(shown_reservation(reservation)?)?;
+            claims.push(shown_reservation(reservation))?;
         }
     }
     Ok(())
@@ -84,17 +84,17 @@ fn count_mates(group: u64, near: &[JobRow]) -> u64
     near.iter().filter(|job| job.group == group).count() as u64
 }
 
-fn shown_group(job: &JobRow, near: &[JobRow]) -> Result<Claim, AllocError>
+fn shown_group(job: &JobRow, near: &[JobRow]) -> Claim
     requires { length near.now ≤ most_mates }
-    ensures { IfOk result (λ claim. claim ≡ shown_group job.now near.now) }
+    ensures { result ≡ shown_group job.now near.now }
 {
-    Ok(Claim {
+    Claim {
         kind: ClaimKind::Group,
         number: job.group,
-        owner: job.owner.copy()?,
+        owner: job.owner.copy(),
         priority: job.priority,
         boards: 1 + count_mates(job.group, near),
-    })
+    }
 }
 
 /// Adds a claim for each group whose members all wait for boards.
@@ -105,7 +105,7 @@ fn add_groups(claims: &mut Vec<Claim>, jobs: &[JobRow]) -> Result<(), AllocError
     while let Some((job, behind)) = rest.split_first() {
         let near = nearby(behind);
         if leads(job, near) {
-            claims.push(shown_group(job, near)?)?;
+            claims.push(shown_group(job, near))?;
         }
         rest = behind;
     }

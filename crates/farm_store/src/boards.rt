@@ -153,8 +153,8 @@ impl Stored for BoardRow {
             holder: holder_at(row, 5, 6)?,
             jobs_since: number_at(row, 7)?,
             last_check: number_at(row, 8)?,
-            name: name_at(row, 0, reader)?,
-            kind: name_at(row, 1, reader)?,
+            name: name_at(row, 0)?,
+            kind: name_at(row, 1)?,
             tags: tags_at(row, 2, reader)?,
         })
     }

@@ -190,13 +190,13 @@ impl Stored for JobRow {
             priority: priority_at(row, 4)?,
             state: job_state_at(row, 8, reader.edition)?,
             outcome: outcome_at(row, 9)?,
-            owner: name_at(row, 3, reader)?,
+            owner: name_at(row, 3)?,
             want: Want {
-                kind: name_if_any_at(row, 5, reader)?,
+                kind: name_if_any_at(row, 5)?,
                 tags: tags_at(row, 6, reader)?,
             },
-            role: name_if_any_at(row, 7, reader)?,
-            board: name_if_any_at(row, 10, reader)?,
+            role: name_if_any_at(row, 7)?,
+            board: name_if_any_at(row, 10)?,
             body: body_at(row, 11, reader)?,
         })
     }

@@ -90,12 +90,12 @@ impl Stored for KeptRow {
         READ
     }
 
-    fn of(row: &Row, reader: &mut Reader) -> Result<KeptRow, WordFault> {
+    fn of(row: &Row, _reader: &mut Reader) -> Result<KeptRow, WordFault> {
         Ok(KeptRow {
             kind: number_at(row, 2)?,
             reply: Reply(number_at(row, 3)?, number_at(row, 4)?, number_at(row, 5)?),
-            caller: name_at(row, 0, reader)?,
-            key: key_at(row, 1, reader)?,
+            caller: name_at(row, 0)?,
+            key: key_at(row, 1)?,
         })
     }
 

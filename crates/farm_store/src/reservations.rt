@@ -104,12 +104,12 @@ impl Stored for ResRow {
             priority: priority_at(row, 2)?,
             state: res_state_at(row, 4)?,
             deadline: number_at(row, 5)?,
-            owner: name_at(row, 1, reader)?,
+            owner: name_at(row, 1)?,
             want: Want {
                 kind: None,
                 tags: tags_at(row, 3, reader)?,
             },
-            board: name_if_any_at(row, 6, reader)?,
+            board: name_if_any_at(row, 6)?,
         })
     }
 

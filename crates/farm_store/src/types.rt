@@ -107,9 +107,9 @@ impl Stored for TypeRow {
         READ
     }
 
-    fn of(row: &Row, reader: &mut Reader) -> Result<TypeRow, WordFault> {
+    fn of(row: &Row, _reader: &mut Reader) -> Result<TypeRow, WordFault> {
         let check = check_of(number_at(row, 1)?, number_at(row, 2)?).ok_or(BAD)?;
-        let name = name_at(row, 0, reader)?;
+        let name = name_at(row, 0)?;
         Ok(TypeRow { name, check })
     }
 

@@ -43,9 +43,9 @@ pub trait Row {
     ghost ties: { (a b : Self.Key) → same a b ≡ is_eq (key_cmp a b) };
 }
 
-/// A change of the rows that pass a test. One that fails changes nothing.
+/// A change of the rows that pass a test.
 pub trait Edit<R> {
-    ghost use Rattle.std.specs.Prelude.{◌≡◌, Bool, OnOk, OnErr};
+    ghost use Rattle.std.specs.Prelude.{◌≡◌, Bool};
 
     ghost passes: { Self → R → Bool };
 
@@ -56,9 +56,8 @@ pub trait Edit<R> {
         ensures { result ≡ passes self.now row.now };
 
     /// Changes the row.
-    fn change(&self, row: &mut R) -> Result<(), AllocError>
-        ensures done { OnOk result (row.new ≡ changed self.now row.old) }
-        ensures stays { OnErr result (row.new ≡ row.old) };
+    fn change(&self, row: &mut R)
+        ensures { row.new ≡ changed self.now row.old };
 }
 
 impl Row for TypeRow {
@@ -87,7 +86,7 @@ impl Row for TypeRow {
     }
 
     fn copy(&self) -> Result<TypeRow, AllocError> {
-        TypeRow::copy(self)
+        Ok(TypeRow::copy(self))
     }
 
     ghost total = { nat_list_cmp_total };

@@ -160,9 +160,9 @@ impl<R: Row + Drop> Table<R> {
         ensures stays { OnErr result (self.new ≡ self.old) }
     {
         let mut changed = self.rows[at].copy()?;
-        edit.change(&mut changed)?;
         self.log.reserve(1)?;
-        edit.change(&mut self.rows[at])?;
+        edit.change(&mut changed);
+        edit.change(&mut self.rows[at]);
         self.log.push_reserved(changed);
         Ok(())
     }

@@ -15,7 +15,7 @@ const BOARDS: [&str; 3] = ["b1", "b2", "b3"];
 
 /// A type with a check.
 fn types(alloc: Global) -> Result<Vec<TypeRow>, Fail> {
-    let row = type_row(alloc, "bbb", Check::Hours(24))?;
+    let row = type_row("bbb", Check::Hours(24))?;
     Ok(vec![in alloc; row]?)
 }
 

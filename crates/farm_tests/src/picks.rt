@@ -51,7 +51,7 @@ fn least_of_lent_wants(rt: HostRuntime) -> Result<(), Fail> {
 }
 
 fn claim(alloc: Global, number: u64, priority: u64) -> Result<Claim, Fail> {
-    let owner = name(alloc, "ann")?;
+    let owner = name("ann")?;
     let priority = Priority::of(priority)?;
     Ok(Claim {
         kind: ClaimKind::Group,

@@ -2,13 +2,13 @@
 ghost use Rattle.std.specs.Prelude.{◌≡◌, IfOk};
 
 use farm_types::{
-    BoardRow, Check, Health, JobRow, JobState, MetaRow, Name, Priority, Rows, Tags, TypeRow, Want,
-    WordFault,
+    BoardRow, Check, Health, JobRow, JobState, MetaRow, Name, Priority, Refusal, Rows, Tags,
+    TypeRow, Want, WordFault,
 };
 use std::alloc::Global;
 
-pub(crate) fn name(alloc: Global, text: &str) -> Result<Name, WordFault> {
-    Name::parse(alloc, text.as_bytes())
+pub(crate) fn name(text: &str) -> Result<Name, Refusal> {
+    Name::parse(text.as_bytes())
 }
 
 /// Tags of their canonical text.
@@ -17,15 +17,15 @@ pub(crate) fn tags(alloc: Global, text: &str) -> Result<Tags, WordFault> {
 }
 
 /// A device type.
-pub(crate) fn type_row(alloc: Global, called: &str, check: Check) -> Result<TypeRow, WordFault> {
-    let name = name(alloc, called)?;
+pub(crate) fn type_row(called: &str, check: Check) -> Result<TypeRow, Refusal> {
+    let name = name(called)?;
     Ok(TypeRow { name, check })
 }
 
 /// A Good board of type `bbb` that nobody holds.
 pub(crate) fn board(alloc: Global, called: &str, texts: &str) -> Result<BoardRow, WordFault> {
-    let name = name(alloc, called)?;
-    let kind = Name::parse(alloc, b"bbb")?;
+    let name = name(called)?;
+    let kind = Name::parse(b"bbb")?;
     let tags = tags(alloc, texts)?;
     let mut row = BoardRow::new(name, kind, tags);
     row.health = Health::Good;
@@ -34,7 +34,7 @@ pub(crate) fn board(alloc: Global, called: &str, texts: &str) -> Result<BoardRow
 
 /// A want of type `bbb`.
 pub(crate) fn want(alloc: Global, texts: &str) -> Result<Want, WordFault> {
-    let kind = Some(name(alloc, "bbb")?);
+    let kind = Some(name("bbb")?);
     let tags = tags(alloc, texts)?;
     Ok(Want { kind, tags })
 }
@@ -50,7 +50,7 @@ pub(crate) fn job(
     ensures number { IfOk result (λ row. row.number ≡ number) }
     ensures group { IfOk result (λ row. row.group ≡ group) }
 {
-    let owner = name(alloc, "ann")?;
+    let owner = name("ann")?;
     let want = want(alloc, "")?;
     let mut row = JobRow::new(alloc, number, group, owner, priority, want);
     row.state = state;

@@ -126,7 +126,7 @@ fn made_board(alloc: Global, dice: &mut Dice, called: &str) -> Result<BoardRow, 
     let mut row = board(alloc, called, dice.tags())?;
     row.health = dice.health();
     if dice.throw(4) == 0 {
-        row.kind = type_row(alloc, "aaa", Check::Never)?.name;
+        row.kind = type_row("aaa", Check::Never)?.name;
     }
     if dice.throw(6) == 0 {
         row.holder = Holder::Job(1);
@@ -159,8 +159,8 @@ fn made_wants(alloc: Global, dice: &mut Dice) -> Result<Vec<Want>, WordFault> {
 /// Type `aaa` is never checked, type `bbb` each hour.
 fn two_types(alloc: Global) -> Result<Vec<TypeRow>, WordFault> {
     let mut types = Vec::new(alloc);
-    types.push(type_row(alloc, "aaa", Check::Never)?)?;
-    types.push(type_row(alloc, "bbb", Check::Hours(1))?)?;
+    types.push(type_row("aaa", Check::Never)?)?;
+    types.push(type_row("bbb", Check::Hours(1))?)?;
     Ok(types)
 }
 

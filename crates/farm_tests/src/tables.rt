@@ -19,7 +19,7 @@ use std::test::Fail;
 fn types(alloc: Global) -> Result<Vec<TypeRow>, Fail>
     ensures { IfOk result (λ rows. AllByRecursion IsSmallType rows.items) }
 {
-    let mut row = type_row(alloc, "bbb", Check::Never)?;
+    let mut row = type_row("bbb", Check::Never)?;
     row.check = Check::Hours(24);
     Ok(vec![in alloc; row]?)
 }
@@ -53,8 +53,8 @@ fn second_job(alloc: Global) -> Result<JobRow, Fail>
     ensures { IfOk result IsSmallJob }
 {
     let tags = tags(alloc, "usb")?;
-    let role = name(alloc, "client")?;
-    let board = name(alloc, "b2")?;
+    let role = name("client")?;
+    let board = name("b2")?;
     let mut row = job(alloc, 4, 2, Priority::of(100)?, JobState::Canceling)?;
     row.checking = true;
     row.want.tags = tags;
@@ -75,10 +75,10 @@ fn jobs(alloc: Global) -> Result<Vec<JobRow>, Fail>
 fn reservations(alloc: Global) -> Result<Vec<ResRow>, Fail>
     ensures { IfOk result (λ rows. AllByRecursion IsSmallRes rows.items) }
 {
-    let owner = name(alloc, "ann")?;
+    let owner = name("ann")?;
     let priority = Priority::of(50)?;
     let tags = tags(alloc, "usb")?;
-    let board = Some(name(alloc, "b3")?);
+    let board = Some(name("b3")?);
     let row = ResRow {
         number: 8,
         owner,
@@ -94,8 +94,8 @@ fn reservations(alloc: Global) -> Result<Vec<ResRow>, Fail>
 fn kept(alloc: Global) -> Result<Vec<KeptRow>, Fail>
     ensures { IfOk result (λ rows. AllByRecursion IsSmallKept rows.items) }
 {
-    let caller = name(alloc, "ann")?;
-    let key = Key::parse(alloc, b"j2")?;
+    let caller = name("ann")?;
+    let key = Key::parse(b"j2")?;
     let row = KeptRow {
         caller,
         key,

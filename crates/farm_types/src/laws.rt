@@ -2,7 +2,7 @@
 ghost use Rattle.std.specs.Prelude.{◌≡◌, ℕ, List, [], Some, Ok};
 ghost use Rattle.farm_types.specs.Agreed.{RefusalsAgree};
 ghost use Rattle.farm_types.specs.Words.{IsTags, is_word, word_or};
-ghost use Rattle.farm_types.specs.Reads.{OrNoMemory, refused_code};
+ghost use Rattle.farm_types.specs.Reads.{by_code};
 ghost use Rattle.farm_types.specs.Limits.{longest_key, longest_name};
 ghost use Rattle.farm_types.specs.Refusals.{bad_key, bad_name};
 ghost use Rattle.farm_types.specs.Tags.{tags_read, tags_text};
@@ -17,9 +17,8 @@ ghost use Rattle.farm_types.specs.declared.rows.ResState.{ResState};
 ghost use Rattle.farm_types.specs.Farm.{Farm};
 ghost use Rattle.farm_types.specs.Machine.{run};
 
-use crate::fault::WordFault;
+use crate::refusal::Refusal;
 use crate::words::{Key, Name};
-use std::alloc::Global;
 
 /// A run of no calls stays.
 pub fn nothing_runs()
@@ -48,17 +47,15 @@ pub fn tags_read_back()
 {}
 
 /// A name is a word up to the limit of names, and any other text is refused as no name.
-pub fn names_are_parsed(alloc: Global, text: &[u8]) -> Result<Name, WordFault>
-    ensures { OrNoMemory refused_code (λ name. name) result
-        (word_or (is_word longest_name text.now) text.now bad_name) }
+pub fn names_are_parsed(text: &[u8]) -> Result<Name, Refusal>
+    ensures { by_code result ≡ word_or (is_word longest_name text.now) text.now bad_name }
 {
-    Name::parse(alloc, text)
+    Name::parse(text)
 }
 
 /// A key is a word up to the limit of keys, and any other text is refused as no key.
-pub fn keys_are_parsed(alloc: Global, text: &[u8]) -> Result<Key, WordFault>
-    ensures { OrNoMemory refused_code (λ key. key) result
-        (word_or (is_word longest_key text.now) text.now bad_key) }
+pub fn keys_are_parsed(text: &[u8]) -> Result<Key, Refusal>
+    ensures { by_code result ≡ word_or (is_word longest_key text.now) text.now bad_key }
 {
-    Key::parse(alloc, text)
+    Key::parse(text)
 }

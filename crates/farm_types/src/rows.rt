@@ -189,10 +189,10 @@ pub struct MetaRow {
 }
 
 /// An equal name, if there is one.
-pub fn copy_name(name: &Option<Name>) -> Result<Option<Name>, AllocError>
-    ensures { IfOk result (λ copy. copy ≡ name.now) }
+pub fn copy_name(name: &Option<Name>) -> Option<Name>
+    ensures { result ≡ name.now }
 {
-    name.as_ref().map(|name| name.copy()).transpose()
+    name.as_ref().map(|name| name.copy())
 }
 
 impl Want {
@@ -200,7 +200,7 @@ impl Want {
     pub fn copy(&self) -> Result<Want, AllocError>
         ensures { IfOk result (λ copy. copy ≡ self.now) }
     {
-        let kind = copy_name(&self.kind)?;
+        let kind = copy_name(&self.kind);
         let tags = self.tags.copy()?;
         Ok(Want { kind, tags })
     }
@@ -208,24 +208,24 @@ impl Want {
 
 impl TypeRow {
     /// An equal row.
-    pub fn copy(&self) -> Result<TypeRow, AllocError>
-        ensures { IfOk result (λ copy. copy ≡ self.now) }
+    pub fn copy(&self) -> TypeRow
+        ensures { result ≡ self.now }
     {
-        let name = self.name.copy()?;
-        Ok(TypeRow { name, ..*self })
+        let name = self.name.copy();
+        TypeRow { name, ..*self }
     }
 }
 
 impl KeptRow {
     /// An equal row.
-    pub fn copy(&self) -> Result<KeptRow, AllocError>
-        ensures { IfOk result (λ copy. copy ≡ self.now) }
+    pub fn copy(&self) -> KeptRow
+        ensures { result ≡ self.now }
     {
-        Ok(KeptRow {
-            caller: self.caller.copy()?,
-            key: self.key.copy()?,
+        KeptRow {
+            caller: self.caller.copy(),
+            key: self.key.copy(),
             ..*self
-        })
+        }
     }
 }
 
@@ -258,8 +258,8 @@ impl BoardRow {
         ensures { IfOk result (λ copy. copy ≡ self.now) }
     {
         Ok(BoardRow {
-            name: self.name.copy()?,
-            kind: self.kind.copy()?,
+            name: self.name.copy(),
+            kind: self.kind.copy(),
             tags: self.tags.copy()?,
             ..*self
         })
@@ -306,10 +306,10 @@ impl JobRow {
         ensures { IfOk result (λ copy. copy ≡ self.now) }
     {
         Ok(JobRow {
-            owner: self.owner.copy()?,
+            owner: self.owner.copy(),
             want: self.want.copy()?,
-            role: copy_name(&self.role)?,
-            board: copy_name(&self.board)?,
+            role: copy_name(&self.role),
+            board: copy_name(&self.board),
             body: self.body.copy()?,
             ..*self
         })
@@ -322,9 +322,9 @@ impl ResRow {
         ensures { IfOk result (λ copy. copy ≡ self.now) }
     {
         Ok(ResRow {
-            owner: self.owner.copy()?,
+            owner: self.owner.copy(),
             want: self.want.copy()?,
-            board: copy_name(&self.board)?,
+            board: copy_name(&self.board),
             ..*self
         })
     }

@@ -1,15 +1,14 @@
 //! Words: texts and numbers that keep a rule of their own.
-ghost use Rattle.std.specs.Prelude.{◌≡◌, ◌↔◌, ◌≤◌, ◌<◌, [], length, IsTrue, IfOk, Err, MatchResult};
+ghost use Rattle.std.specs.Prelude.{◌≡◌, ◌↔◌, ◌≤◌, ◌<◌, [], length, IsTrue, IfOk, MatchResult};
 ghost use Rattle.std.specs.List.{list_all};
 ghost use Rattle.std.specs.Str.{bytes_eq};
 ghost use Rattle.std.specs.String.{string_bytes};
 ghost use Rattle.farm_types.specs.Words.{IsText, is_word, is_name_byte, text_cmp};
 ghost use Rattle.farm_types.specs.Words.{word_or};
-ghost use Rattle.farm_types.specs.Reads.{OrNoMemory, refused_code};
+ghost use Rattle.farm_types.specs.Reads.{by_code};
 ghost use Rattle.farm_types.specs.Limits.{highest_priority, is_priority};
 ghost use Rattle.farm_types.specs.Called.{medium_priority, priority_called};
 
-use crate::fault::WordFault;
 use crate::limits::{HIGHEST_PRIORITY, LONGEST_KEY, LONGEST_NAME};
 use crate::refusal::{BAD_KEY, BAD_NAME, BAD_PRIORITY, Refusal};
 pub use crate::tags::{Tag, Tags};
@@ -76,10 +75,8 @@ impl<const MOST: usize, const CODE: u16> Word<MOST, CODE> {
     }
 
     /// The word that a text spells; refused where it spells none.
-    pub fn parse(alloc: Global, text: &[u8]) -> Result<Word<MOST, CODE>, WordFault>
-        ensures reads { OrNoMemory refused_code (λ word. word) result
-            (word_or (is_word MOST text.now) text.now CODE) }
-        ensures memory { result ≡ Err WordFault.NoMemory → IsTrue (is_word MOST text.now) }
+    pub fn parse(text: &[u8]) -> Result<Word<MOST, CODE>, Refusal>
+        ensures { by_code result ≡ word_or (is_word MOST text.now) text.now CODE }
     {
         Refusal::unless(is_word(MOST, text), CODE)?;
         Ok(Word::of(text))
@@ -94,10 +91,10 @@ impl<const MOST: usize, const CODE: u16> Word<MOST, CODE> {
     }
 
     /// An equal word.
-    pub fn copy(&self) -> Result<Word<MOST, CODE>, AllocError>
-        ensures same { IfOk result (λ word. word ≡ self.now) }
+    pub fn copy(&self) -> Word<MOST, CODE>
+        ensures { result ≡ self.now }
     {
-        Ok(Word { text: self.text })
+        Word { text: self.text }
     }
 
     /// Whether two words are equal.

@@ -53,7 +53,7 @@ impl Routes {
     }
 
     /// What a request asks at a moment, or the first refusal. A POST costs what its body is long, a
-    /// GET what its path is; memory is taken for the words and for the body's JSON.
+    /// GET what its path is; memory is taken for the body alone, its JSON and its words.
     pub fn ask(&self, alloc: Global, taken: &Taken, now: u64) -> Result<Ask, AskFault>
         ensures { (request : Request) → ParsesTo taken.now.bytes.items taken.now.head request
             → OrNoMemory denial_of shown_ask result (ask request now) }
@@ -146,8 +146,8 @@ fn view_of(kind: ViewKind, path: &str) -> Result<View, Refusal>
 fn call_of(alloc: Global, kind: CommandKind, path: &str, parts: &Parts<'_>, now: u64) -> Read<Ask>
     ensures { OrNoMemory refused_code shown_ask result (call_in kind path.now parts.now now) }
 {
-    let caller = caller_of(alloc, parts)?;
-    let key = key_of(alloc, parts)?;
+    let caller = caller_of(parts)?;
+    let key = key_of(parts)?;
     let cmd = command_of(alloc, kind, path, parts.body())?;
     Ok(Ask::Call(Call::new(caller, key, now, cmd)))
 }

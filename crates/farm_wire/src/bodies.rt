@@ -60,7 +60,7 @@ pub(crate) fn add_type_of(alloc: Global, body: &[u8]) -> Read<Cmd>
     ensures proper { IfOk result (λ cmd. IsTrue (is_proper_cmd cmd)) }
 {
     let value = object_of(alloc, body)?;
-    let name = name_of(alloc, &value, "name")?;
+    let name = name_of(&value, "name")?;
     let check = check_of(&value)?;
     Ok(Cmd::add_type(name, check))
 }
@@ -81,8 +81,8 @@ pub(crate) fn add_board_of(alloc: Global, body: &[u8]) -> Read<Cmd>
     ensures proper { IfOk result (λ cmd. IsTrue (is_proper_cmd cmd)) }
 {
     let value = object_of(alloc, body)?;
-    let name = name_of(alloc, &value, "name")?;
-    let kind = name_of(alloc, &value, "type")?;
+    let name = name_of(&value, "name")?;
+    let kind = name_of(&value, "type")?;
     let tags = board_tags(new_tags_of(alloc, &value)?)?;
     Ok(Cmd::add_board(name, kind, tags))
 }
@@ -93,7 +93,7 @@ pub(crate) fn set_tags_of(alloc: Global, path: &str, body: &[u8]) -> Read<Cmd>
     ensures meaning { OrNoMemory refused_code (λ cmd. cmd) result (set_tags path.now body.now) }
     ensures proper { IfOk result (λ cmd. IsTrue (is_proper_cmd cmd)) }
 {
-    let name = board_of(alloc, path)?;
+    let name = board_of(path)?;
     let value = object_of(alloc, body)?;
     let tags = board_tags(tags_of(alloc, &value)?)?;
     Ok(Cmd::set_tags(name, tags))
@@ -105,7 +105,7 @@ pub(crate) fn set_health_of(alloc: Global, path: &str, body: &[u8]) -> Read<Cmd>
     ensures meaning { OrNoMemory refused_code (λ cmd. cmd) result (set_health path.now body.now) }
     ensures proper { IfOk result (λ cmd. IsTrue (is_proper_cmd cmd)) }
 {
-    let name = board_of(alloc, path)?;
+    let name = board_of(path)?;
     let value = object_of(alloc, body)?;
     let health = Health::called(text_of(&value, "health")?).ok_or(BAD)?;
     Ok(Cmd::set_health(name, health))

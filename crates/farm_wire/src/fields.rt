@@ -1,5 +1,5 @@
 //! The JSON object of a body, and its members.
-ghost use Rattle.std.specs.Prelude.{◌≡◌, map, Err, IsTrue, IfOk, IsOk};
+ghost use Rattle.std.specs.Prelude.{◌≡◌, map, IsTrue, IfOk};
 ghost use Rattle.serde_json.specs.View.{view, items_view};
 ghost use Rattle.farm_types.specs.Proper.{has_no_name_tag};
 ghost use Rattle.farm_types.specs.Reads.{OrNoMemory, by_code, refused_code, viewed};
@@ -30,7 +30,7 @@ pub(crate) fn object_of(alloc: Global, body: &[u8]) -> Read<Value>
     }
 }
 
-/// The text under a key, which must be there. It takes no memory.
+/// The text under a key, which must be there.
 #[tactic(auto, unfolding(crate::specs::Fields::text_in))]
 pub(crate) fn text_of<'v>(value: &'v Value, key: &str) -> Result<&'v str, Refusal>
     ensures { by_code (viewed (λ text. text.now) result) ≡ text_in key.now (view value.now) }
@@ -38,14 +38,12 @@ pub(crate) fn text_of<'v>(value: &'v Value, key: &str) -> Result<&'v str, Refusa
     value.get(key).and_then(Value::as_str).ok_or(BAD)
 }
 
-/// The name under a key, which must be there; memory is wanted only where there is one.
+/// The name under a key, which must be there.
 #[tactic(auto, unfolding(crate::specs::Fields::name_in))]
-pub(crate) fn name_of(alloc: Global, value: &Value, key: &str) -> Read<Name>
-    ensures reads { OrNoMemory refused_code (λ name. name) result
-        (name_in key.now (view value.now)) }
-    ensures memory { result ≡ Err WordFault.NoMemory → IsOk (name_in key.now (view value.now)) }
+pub(crate) fn name_of(value: &Value, key: &str) -> Result<Name, Refusal>
+    ensures { by_code result ≡ name_in key.now (view value.now) }
 {
-    Name::parse(alloc, text_of(value, key)?.as_bytes())
+    Name::parse(text_of(value, key)?.as_bytes())
 }
 
 /// The texts of an array's items.

@@ -1,16 +1,15 @@
 //! The words of a request's head: the parameter of its path, which is the first segment behind what
 //! each path of a group begins with, who sends it, and under which key its reply is kept.
-ghost use Rattle.std.specs.Prelude.{◌≡◌, ◌==◌, drop, Err, IsOk, position};
+ghost use Rattle.std.specs.Prelude.{◌≡◌, ◌==◌, drop, position};
 ghost use Rattle.std.specs.List.{before_first};
-ghost use Rattle.farm_types.specs.Reads.{OrNoMemory, by_code, refused_code};
+ghost use Rattle.farm_types.specs.Reads.{by_code};
 ghost use Rattle.farm_wire.specs.Parameters.{parameter, is_number_text, number_in, board_in};
 ghost use Rattle.farm_wire.specs.Parameters.{job_in, reservation_in};
 ghost use Rattle.farm_wire.specs.Sender.{caller_in, key_in};
 
-use crate::fields::{BAD, Read};
+use crate::fields::BAD;
 use farm_http::{Parts, is_digits, number_within};
-use farm_types::{Key, NUMBERS_END, Name, Refusal, WordFault};
-use std::alloc::Global;
+use farm_types::{Key, NUMBERS_END, Name, Refusal};
 
 /// What stands behind the first bytes.
 fn behind(path: &[u8], count: usize) -> &[u8]
@@ -58,13 +57,12 @@ fn number_of(text: &[u8]) -> Result<u64, Refusal>
     number_within(text, (NUMBERS_END - 1) as u32).ok_or(BAD)
 }
 
-/// The board that a path names; memory is wanted only where it names one.
+/// The board that a path names.
 #[tactic(auto, unfolding(crate::specs::Parameters::board_in))]
-pub(crate) fn board_of(alloc: Global, path: &str) -> Read<Name>
-    ensures reads { OrNoMemory refused_code (λ name. name) result (board_in path.now) }
-    ensures memory { result ≡ Err WordFault.NoMemory → IsOk (board_in path.now) }
+pub(crate) fn board_of(path: &str) -> Result<Name, Refusal>
+    ensures { by_code result ≡ board_in path.now }
 {
-    Name::parse(alloc, parameter("/boards/", path))
+    Name::parse(parameter("/boards/", path))
 }
 
 /// The job that a path names.
@@ -83,24 +81,20 @@ pub(crate) fn reservation_of(path: &str) -> Result<u64, Refusal>
     number_of(parameter("/reservations/", path))
 }
 
-/// The name in the field `x-user`, which must stand there once; memory is wanted only where there
-/// is one.
+/// The name in the field `x-user`, which must stand there once.
 #[tactic(auto, unfolding(crate::specs::Sender::caller_in))]
-pub(crate) fn caller_of(alloc: Global, parts: &Parts<'_>) -> Read<Name>
-    ensures reads { OrNoMemory refused_code (λ name. name) result (caller_in parts.now.fields) }
-    ensures memory { result ≡ Err WordFault.NoMemory → IsOk (caller_in parts.now.fields) }
+pub(crate) fn caller_of(parts: &Parts<'_>) -> Result<Name, Refusal>
+    ensures { by_code result ≡ caller_in parts.now.fields }
 {
     let value = parts.field(b"x-user").ok().flatten();
-    Name::parse(alloc, value.ok_or(BAD)?)
+    Name::parse(value.ok_or(BAD)?)
 }
 
-/// The key in the field `x-key`, which may stand there once; memory is wanted only where there is
-/// one.
+/// The key in the field `x-key`, which may stand there once.
 #[tactic(auto, unfolding(crate::specs::Sender::key_in))]
-pub(crate) fn key_of(alloc: Global, parts: &Parts<'_>) -> Read<Option<Key>>
-    ensures reads { OrNoMemory refused_code (λ key. key) result (key_in parts.now.fields) }
-    ensures memory { result ≡ Err WordFault.NoMemory → IsOk (key_in parts.now.fields) }
+pub(crate) fn key_of(parts: &Parts<'_>) -> Result<Option<Key>, Refusal>
+    ensures { by_code result ≡ key_in parts.now.fields }
 {
     let value = parts.field(b"x-key").map_err(|_| BAD)?;
-    value.map(|value| Key::parse(alloc, value)).transpose()
+    value.map(|value| Key::parse(value)).transpose()
 }

@@ -4,7 +4,7 @@ use Rattle.std.specs.Str.{is_utf8, chars}
 use Rattle.std.specs.declared.cmp.Ordering.TheVariants.{Less}
 use Rattle.farm_types.specs.Words.{is_word, is_tag, is_tags, text_cmp, word_or}
 use Rattle.farm_types.specs.Table.{put, put_all, change_where, type_cmp, kept_cmp}
-use Rattle.farm_types.specs.Reads.{OrNoMemory, refused_code, ◌>>=◌}
+use Rattle.farm_types.specs.Reads.{OrNoMemory, by_code, refused_code, ◌>>=◌}
 use Rattle.farm_types.specs.Tags.{tags_of, tags_text, tags_among, tags_read}
 use Rattle.farm_types.specs.Codes.{job_state_code, job_state_with, outcome_with, job_state_word}
 use Rattle.farm_types.specs.Called.{health_called, outcome_called, priority_called, holder_text}
@@ -28,6 +28,7 @@ use Rattle.farm_types.specs.declared.rows.TypeRow.{TypeRow}
 use Rattle.farm_types.specs.declared.rows.BoardRow.{BoardRow}
 use Rattle.farm_types.specs.declared.rows.JobRow.{JobRow}
 use Rattle.farm_types.specs.declared.rows.KeptRow.{KeptRow}
+use Rattle.farm_types.specs.declared.refusal.Refusal.{Refusal}
 use Rattle.farm_types.specs.declared.fault.WordFault.{WordFault}
 use Rattle.farm_types.specs.declared.fault.WordFault.TheVariants.{Refused, NoMemory}
 use Rattle.farm_types.specs.declared.calls.Cmd.{Cmd}
@@ -75,15 +76,26 @@ pub record BookOfTables : Type 0 where
 abbrev pub name_of : List ℕ → Result (List ℕ) ℕ
 name_of text = word_or (is_word 48 text) text 5
 
-abbrev pub ReadsName : List ℕ → Result (List ℕ) WordFault → Type 0
-ReadsName text given = OrNoMemory refused_code (λ name. name) given (name_of text)
+abbrev pub ReadsName : List ℕ → Result (List ℕ) Refusal → Type 0
+ReadsName text given = by_code given ≡ name_of text
+
+-- the tag that a text spells, or bad tag
+abbrev pub tag_of : List ℕ → Result (List ℕ) ℕ
+tag_of text = word_or (is_tag text) text 6
+
+abbrev pub ReadsTag : List ℕ → Result (List ℕ) WordFault → Type 0
+ReadsTag text given = OrNoMemory refused_code (λ tag. tag) given (tag_of text)
 
 pub record BookOfReaders : Type 0 where
   pub name_is_read : ReadsName (codes "b1") (Ok (codes "b1"))
-  pub bad_name_is_refused : ReadsName (codes "b 1") (Err (Refused (record { code = 5 })))
+  pub bad_name_is_refused : ReadsName (codes "b 1") (Err (record { code = 5 }))
   pub bad_name_is_not_read : ReadsName (codes "b 1") (Ok (codes "b1")) → ⊥
-  pub name_is_not_refused : ReadsName (codes "b1") (Err (Refused (record { code = 5 }))) → ⊥
-  pub memory_ran_out : ReadsName (codes "b1") (Err NoMemory)
+  pub name_is_not_refused : ReadsName (codes "b1") (Err (record { code = 5 })) → ⊥
+  pub tag_is_read : ReadsTag (codes "usb") (Ok (codes "usb"))
+  pub bad_tag_is_refused : ReadsTag (codes "=x") (Err (Refused (record { code = 6 })))
+  pub bad_tag_is_not_read : ReadsTag (codes "=x") (Ok (codes "x")) → ⊥
+  pub tag_is_not_refused : ReadsTag (codes "usb") (Err (Refused (record { code = 6 }))) → ⊥
+  pub memory_ran_out : ReadsTag (codes "usb") (Err NoMemory)
   pub first_fault_stands : (Err 6 >>= tags_of) ≡ Err 6
 
 -- ---- tags

@@ -32,7 +32,7 @@ impl Tables {
         ensures { OnOk result (CameTo self.old (seen_at (put_type (plain_farm self.old)
             (record { name = name.now; check = check })) (seen self.old)) self.new) }
     {
-        let name = name.copy()?;
+        let name = name.copy();
         self.types.put(TypeRow { name, check })
     }
 }
@@ -91,7 +91,7 @@ impl Tables {
         ensures { OnOk result (CameTo self.old (seen_at (put_board (plain_farm self.old)
             (new_board name.now kind.now tags.now)) (seen self.old)) self.new) }
     {
-        let row = BoardRow::new(name.copy()?, kind.copy()?, tags.copy()?);
+        let row = BoardRow::new(name.copy(), kind.copy(), tags.copy()?);
         self.boards.put(row)
     }
 

@@ -72,7 +72,7 @@ impl Tables {
         let tags = tags.copy()?;
         let row = ResRow {
             number,
-            owner: owner.copy()?,
+            owner: owner.copy(),
             priority,
             want: Want { kind: None, tags },
             state: ResState::Waiting,
@@ -82,7 +82,7 @@ impl Tables {
         let claim = Claim {
             kind: ClaimKind::Reservation,
             number,
-            owner: owner.copy()?,
+            owner: owner.copy(),
             priority,
             boards: 1,
         };

@@ -86,9 +86,10 @@ impl Tables {
     {
         let alloc = *self.boards.allocator();
         for at in 0..wants.len() {
-            let (owner, want) = (owner.copy()?, wants[at].copy()?);
+            let owner = owner.copy();
+            let want = wants[at].copy()?;
             let mut row = JobRow::new(alloc, group + at as u64, group, owner, priority, want);
-            row.role = copy_name(&roles[at])?;
+            row.role = copy_name(&roles[at]);
             row.body = member_text(alloc, at, body)?;
             self.jobs.put(row)?;
         }
@@ -114,7 +115,7 @@ impl Tables {
         let claim = Claim {
             kind: ClaimKind::Group,
             number: group,
-            owner: owner.copy()?,
+            owner: owner.copy(),
             priority,
             boards: wants.items().len() as u64,
         };

@@ -44,12 +44,12 @@ fn is_due_by(check: Check, now: u64, board: &BoardRow) -> bool
     }
 }
 
-/// The name of the admin, who owns the checks. The text is a name, so only memory can be wanting.
+/// The name of the admin, who owns the checks.
 #[tactic(auto, unfolding(farm_types::specs::Words::is_word))]
-fn admin_name(alloc: Global) -> Result<Name, AllocError>
-    ensures { IfOk result (λ name. name ≡ codes "admin") }
+fn admin_name() -> Name
+    ensures { result ≡ codes "admin" }
 {
-    Name::parse(alloc, b"admin").map_err(|_| AllocError)
+    Name::of(b"admin")
 }
 
 /// The priority of checks.
@@ -60,18 +60,18 @@ fn highest_priority() -> Priority
 }
 
 /// The row of the job that checks a board.
-fn check_job(alloc: Global, number: u64, board: &BoardRow) -> Result<JobRow, AllocError>
-    ensures { IfOk result (λ row. row ≡ check_job number board.now) }
+fn check_job(alloc: Global, number: u64, board: &BoardRow) -> JobRow
+    ensures { result ≡ check_job number board.now }
 {
-    let kind = Some(board.kind.copy()?);
+    let kind = Some(board.kind.copy());
     let tags = Tags::none(alloc);
     let want = Want { kind, tags };
-    let admin = admin_name(alloc)?;
-    let mut row = JobRow::new(alloc, number, number, admin, highest_priority(), want);
+    let (owner, priority) = (admin_name(), highest_priority());
+    let mut row = JobRow::new(alloc, number, number, owner, priority, want);
     row.checking = true;
     row.state = JobState::Scheduled;
-    row.board = Some(board.name.copy()?);
-    Ok(row)
+    row.board = Some(board.name.copy());
+    row
 }
 
 impl Tables {
@@ -109,7 +109,7 @@ impl Tables {
         }
         let number = self.next;
         let board = &self.boards.rows()[at];
-        let row = check_job(*self.boards.allocator(), number, board)?;
+        let row = check_job(*self.boards.allocator(), number, board);
         self.jobs.put(row)?;
         self.reserve_board(at, Holder::Job(number))?;
         self.next = number + 1;

@@ -145,32 +145,28 @@ pub(crate) fn number_at(row: &Row, at: usize) -> Result<u64, Refusal>
     }
 }
 
-pub(crate) fn name_at(row: &Row, at: usize, reader: &Reader) -> Result<Name, WordFault>
-    ensures { ReadsWord result IsName Text (column row.now at) }
+pub(crate) fn name_at(row: &Row, at: usize) -> Result<Name, Refusal>
+    ensures { ReadsAs result IsName Text (column row.now at) }
 {
-    Name::parse(reader.alloc, text_at(row, at)?)
+    Name::parse(text_at(row, at)?)
 }
 
 /// No name where the text is empty.
-pub(crate) fn name_if_any_at(
-    row: &Row,
-    at: usize,
-    reader: &Reader,
-) -> Result<Option<Name>, WordFault>
-    ensures { ReadsWord result (λ name. IfSome name IsName) (λ name. Text (unwrap_or name []))
+pub(crate) fn name_if_any_at(row: &Row, at: usize) -> Result<Option<Name>, Refusal>
+    ensures { ReadsAs result (λ name. IfSome name IsName) (λ name. Text (unwrap_or name []))
         (column row.now at) }
 {
     let text = text_at(row, at)?;
     if text.is_empty() {
         return Ok(None);
     }
-    Ok(Some(Name::parse(reader.alloc, text)?))
+    Ok(Some(Name::parse(text)?))
 }
 
-pub(crate) fn key_at(row: &Row, at: usize, reader: &Reader) -> Result<Key, WordFault>
-    ensures { ReadsWord result IsKey Text (column row.now at) }
+pub(crate) fn key_at(row: &Row, at: usize) -> Result<Key, Refusal>
+    ensures { ReadsAs result IsKey Text (column row.now at) }
 {
-    Key::parse(reader.alloc, text_at(row, at)?)
+    Key::parse(text_at(row, at)?)
 }
 
 pub(crate) fn tags_at(row: &Row, at: usize, reader: &mut Reader) -> Result<Tags, WordFault>

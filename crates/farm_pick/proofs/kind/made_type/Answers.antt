@@ -4,7 +4,7 @@ use Rattle.farm_pick.proofs.kind.made_type.Goals as goal
 
 pub returns-clause-apart : goal.returns-clause-apart
 returns-clause-apart c =
-    kinds_after c.args.kinds.now.items c.deref.result.now c.push.new.self.items c.in_ok-own.own c.args.kind.now c.deref.ensures.value c.in_ok-own.ensures.same
+    kinds_after c.args.kinds.now.items c.deref.result.now c.push.new.self.items c.copy-own.result c.args.kind.now c.deref.ensures.value c.copy-own.ensures
     c.in_ok-push.ensures.items (kind_nowhere c.deref.result.now c.args.kind.now c.in_default.ensures)
 
 pub returns-in-Some-clause-queue : goal.returns-in-Some-clause-queue

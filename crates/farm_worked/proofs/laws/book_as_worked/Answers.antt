@@ -29,12 +29,16 @@ returns-clause-tables c = record {
 }
 
 pub returns-clause-readers : goal.returns-clause-readers
-unfolding is_word
+unfolding is_word is_tag
 returns-clause-readers c = record {
   name_is_read = refl;
   bad_name_is_refused = refl;
-  bad_name_is_not_read = λ read. true≢false (sym (ap is_ok read));
-  name_is_not_refused = λ read. true≢false (ap is_ok read);
+  bad_name_is_not_read = λ read. true≢false (ap is_ok read);
+  name_is_not_refused = λ read. true≢false (sym (ap is_ok read));
+  tag_is_read = refl;
+  bad_tag_is_refused = refl;
+  bad_tag_is_not_read = λ read. true≢false (sym (ap is_ok read));
+  tag_is_not_refused = λ read. true≢false (ap is_ok read);
   memory_ran_out = tt;
   first_fault_stands = refl;
 }

@@ -21,8 +21,8 @@ loop-at-preserved c =
     let more = members_more c.args.group c.args.owner.now c.args.priority c.args.wants.now c.args.roles.now n (c.args.group + n) (text_at n c.args.body.now) c.index-wants-at.result c.index-roles-at.result (omega arith) c.requires.roles in
     record {
       now = (λ i. let F = record s.farm { jobs = c.in_ok-put.ensures.rows i } in seen_at (put_jobs F (rest c (next i) (text_next n c.args.body.now i))) (record s { farm = F }))
-          ∙ (λ i. seen_at (put_jobs s.farm (record (c.new-row.ensures i) { role = c.in_ok-row.ensures i; body = c.in_ok-row-2.ensures i } ∷ rest c (c.args.group + n + 1) [])) s)
-          ∙ (λ i. seen_at (put_jobs s.farm (new_job (c.args.group + n) c.args.group (c.in_ok-owner.ensures.same i) c.args.priority (c.in_ok-want.ensures i) c.index-roles-at.result (text_at n c.args.body.now) ∷ rest c (c.args.group + n + 1) [])) s)
+          ∙ (λ i. seen_at (put_jobs s.farm (record (c.new-row.ensures i) { role = c.copy_name-row.ensures i; body = c.in_ok-row.ensures i } ∷ rest c (c.args.group + n + 1) [])) s)
+          ∙ (λ i. seen_at (put_jobs s.farm (new_job (c.args.group + n) c.args.group (c.copy-owner.ensures i) c.args.priority (c.in_ok-want.ensures i) c.index-roles-at.result (text_at n c.args.body.now) ∷ rest c (c.args.group + n + 1) [])) s)
           ∙ (λ i. seen_at (put_jobs s.farm (new_job (c.args.group + n) c.args.group c.args.owner.now c.args.priority (c.index-wants-at.is i) (c.index-roles-at.is i) (text_at n c.args.body.now) ∷ rest c (c.args.group + n + 1) [])) s)
           ∙ ap (λ rows. seen_at (put_jobs s.farm rows) s) (sym more)
           ∙ c.loop-at.invariant.now;

@@ -19,7 +19,7 @@ returns c = λ b is.
     let same : c.index-rows-at.result ≡ b =
     get_or_read T.boards.rows c.args.at c.index-rows-at.result c.requires (c.index-rows-at.is ∙ ap (λ bs. get_or bs c.args.at c.index-rows-at.result) c.rows.ensures.rows) b ∙ sym is in
     let room : true ≡ has_room F 1 = c.if-not-has_room.ensures in
-    let row = c.in_ok-row.ensures ∙ ap (check_job F.next) same in
+    let row = c.check_job-row.ensures ∙ ap (check_job F.next) same in
     let added = c.in_ok-put.ensures.rows ∙ ap (put job_cmp F.jobs) row in
     let reserved = c.in_ok-reserve_board.ensures b is in
     let taken : seen c.reserve_board.new.self ≡ seen_at (record F {
