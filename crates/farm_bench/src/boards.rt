@@ -1,5 +1,5 @@
 //! The boards that are measured: 256 of four types, as those of the plain pass in bench/pass.c.
-use farm_types::{BoardRow, Check, Health, Name, Refusal, Tag, Tags, TypeRow};
+use farm_types::{BoardRow, Check, Health, Name, Tag, Tags, TypeRow, WordFault};
 use std::alloc::Global;
 
 /// The most boards that a farm can have.
@@ -16,8 +16,8 @@ const KINDS: [&str; 4] = [
     "beaglebone-black-3",
 ];
 
-pub fn name(text: &str) -> Result<Name, Refusal> {
-    Name::parse(text.as_bytes())
+pub fn name(text: &str) -> Result<Name, WordFault> {
+    Ok(Name::parse(text.as_bytes())?)
 }
 
 /// The tag of a claim: one that each board has, or the rare one.
