@@ -81,12 +81,12 @@ class Worker(threading.Thread):
 
 
 class Stream(Worker):
-    """Commands that are sent one after another, each again under its key until it is answered."""
+    """Commands that are sent one after another, each again under its key until it is answered: at most so many."""
 
-    def __init__(self, farm: Farm):
+    def __init__(self, farm: Farm, most: int = 10**9):
         self.farm = farm
         self.answered: List[float] = []  # the moment of each answer
-        self.most = 10**9  # how many are sent
+        self.most = most
         self.pause = 0.0  # before each
         super().__init__()
 

@@ -33,8 +33,7 @@ class Pair:
         self.farm, self.start_tool = farm, start_tool
         self.to = os.path.join(folder, "standby")
         self.standby = f"{self.to}/farm.db"
-        stream = Stream(farm)
-        stream.most = SENT
+        stream = Stream(farm, SENT)
         wait_until("commands", lambda: len(stream.answered) == SENT)
         stream.end()
         self.count = self.status()["count"]

@@ -99,8 +99,7 @@ def test_a_follower_without_a_farm_says_so_once_and_goes_on(
 def followed(make_farm: Made, start_tool: Starts, folder: str) -> Tuple[Farm, Tool]:
     """A farm of two commands of the stream, and its follower, whose standby has both."""
     farm = make_farm(BOARDS)
-    stream = Stream(farm)
-    stream.most = 2
+    stream = Stream(farm, 2)
     wait_until("two commands", lambda: len(stream.answered) == 2)
     stream.end()
     follower = start_tool(*words_of(farm, "--follow", folder))
