@@ -16,7 +16,6 @@ With --without farm-access lacks the lock, with what is cleaned up under it and 
 from __future__ import annotations
 
 import argparse
-import fcntl
 import json
 import os
 import random
@@ -240,27 +239,15 @@ def judged(board: Board) -> Dict[str, Any]:
     }
 
 
-def locked(lab: Lab) -> List[str]:
-    found = []
-    for it in access_lab.BOARDS:
-        if os.path.exists(lab.path("run", f"{it}.lock")):
-            with open(lab.path("run", f"{it}.lock"), encoding="utf-8") as file:
-                try:
-                    fcntl.flock(file, fcntl.LOCK_EX | fcntl.LOCK_NB)
-                except BlockingIOError:
-                    found.append(it)
-    return found
-
-
 def told(lab: Lab, trial: Trial, boards: List[Board]) -> bool:
     """Prints what came out. Returns whether all is well."""
     until = time.monotonic() + 15
-    while (locked(lab) or lab.nasty() or lab.sessions()) and time.monotonic() < until:
+    while (lab.locked() or lab.nasty() or lab.sessions()) and time.monotonic() < until:
         time.sleep(0.1)
     rows = [judged(it) for it in boards]
     for row in rows:
         print(json.dumps(row))
-    left = {"locked": locked(lab), "sessions": len(lab.sessions()), "processes": len(lab.nasty())}
+    left = {"locked": lab.locked(), "sessions": len(lab.sessions()), "processes": len(lab.nasty())}
     print(json.dumps({"kills": trial.kills, "late sessions": trial.late[:3], "left": left}), flush=True)
     is_ended = all(it["worst end"] <= trial.within and it["mixes"] == 0 and it["with bytes"] for it in rows)
     return is_ended and not trial.late and not any(left.values())

@@ -6,6 +6,7 @@ account that a namespace of mounts has in its /etc/passwd, so that nothing of th
 """
 from __future__ import annotations
 
+import fcntl
 import json
 import os
 import shutil
@@ -363,6 +364,31 @@ class Lab:
     def nasty(self) -> List[int]:
         """The processes that went away from their session."""
         return self.pids_of("access_nasty.py")
+
+    def locked(self) -> List[str]:
+        """The boards whose lock somebody has."""
+        found = []
+        for it in BOARDS:
+            if os.path.exists(self.path("run", f"{it}.lock")):
+                with open(self.path("run", f"{it}.lock"), encoding="utf-8") as file:
+                    try:
+                        fcntl.flock(file, fcntl.LOCK_EX | fcntl.LOCK_NB)
+                    except BlockingIOError:
+                        found.append(it)
+        return found
+
+    def is_at_rest(self) -> bool:
+        """Whether nobody has a board, and all is cleaned up behind who had it last."""
+        is_free = all(self.farm.board(it)["holder"] == "none" for it in BOARDS)
+        return is_free and not self.sessions() and not any(map(self.last_hold, BOARDS)) and not self.locked()
+
+    def last_hold(self, board: str) -> str:
+        """The hold of which a board has to be cleaned, in the file of its lock."""
+        try:
+            with open(self.path("run", f"{board}.lock"), encoding="utf-8") as file:
+                return file.read().strip()
+        except FileNotFoundError:
+            return ""
 
     # ---- the desk and the boards
 

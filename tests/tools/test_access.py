@@ -14,7 +14,7 @@ from typing import Any, Callable, Iterator, List, Sequence, Tuple
 import access_lab
 import pytest
 from access_lab import Lab, kill, until
-from served import Farm, free_port
+from served import Farm, free_port, wait_until
 
 pytestmark = [pytest.mark.xdist_group("access"), pytest.mark.slow(120)]
 BAD_WORDS, FAULT, NOT_YOURS, LOST, NO_SSH = 2, 4, 5, 6, 255
@@ -315,13 +315,14 @@ def test_each_session_is_a_line_of_the_log(lab: Lab, held: Callable[..., int]) -
 
 
 def test_check_says_which_way_answers(lab: Lab) -> None:
-    words = [*lab.access.split(), "check", "b1"]
+    words = [*lab.access.split(), "check"]
     # (what the hold before left is cleaned up first)
-    until(lambda: b"in use" not in lab.try_words(words).output)
+    wait_until("that no board is used", lab.is_at_rest)
     lab.parts["ser2net"].send_signal(signal.SIGSTOP)
-    stopped = lab.try_words(words).output.decode().splitlines()
+    stopped = lab.try_words([*words, "b1"]).output.decode().splitlines()
     lab.parts["ser2net"].send_signal(signal.SIGCONT)
-    well = lab.try_words([*lab.access.split(), "check"])
+    wait_until("that no board is used", lab.is_at_rest)
+    well = lab.try_words(words)
     said = well.output.decode().splitlines()
     assert "b1 power: answers" in said and "b1 console: answers" in said and f"keys: of {3}" in said
     assert "b2 lacking: it has no tag flasher=.." in said
