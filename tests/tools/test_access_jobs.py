@@ -28,16 +28,17 @@ after = ["/bin/sh", "-c", "echo b1 >> {place}/after; printf '<after>' > {place}/
 boards = "b2"
 gone = ["/no/such/command"]
 """
+# What switches the board on by its ways, waits until it says that it is UP, types TYPED, and waits for SAID.
 LABGRID = """[labgrid]
 test = \'\'\'
 from labgrid.protocol import ConsoleProtocol, PowerProtocol
 
-def test_answers(target):
+def test_board(target):
     console = target.get_driver(ConsoleProtocol)
     target.get_driver(PowerProtocol).cycle()
-    console.expect("the board is up", timeout=60)
-    console.sendline("typed by a test")
-    console.expect("typed by a test", timeout=60)
+    console.expect("UP", timeout=200)
+    console.sendline("TYPED")
+    console.expect("SAID", timeout=200)
 \'\'\'
 """
 DEVICE = """\
@@ -58,7 +59,13 @@ actions:
 - boot: {method: minimal, prompts: ['board:/#']}
 \'\'\'
 """
-OF_WAYS = {"labgrid": LABGRID, "lava": LAVA}
+
+
+def labgrid_of(up: str, typed: str, said: str) -> str:
+    return LABGRID.replace("UP", up).replace("TYPED", typed).replace("SAID", said)
+
+
+OF_WAYS = {"labgrid": labgrid_of("the board is up", "typed by a test", "typed by a test"), "lava": LAVA}
 
 
 @pytest.fixture(scope="module")

@@ -20,7 +20,7 @@ from access_lab import PYTHON, Lab, until
 from farm_access import site
 from fizgruk import toml_text
 from served import STARTED, TOOLS, TOP, Farm, free_port, wait_until
-from test_access_jobs import DEVICE, LAVA, ended, log_of
+from test_access_jobs import DEVICE, LAVA, ended, labgrid_of, log_of
 from test_boards_run import wants_way
 from wants import wants
 
@@ -56,20 +56,11 @@ exec < /dev/console > /dev/console 2>&1
 export PS1='the-board# '
 exec setsid cttyhack sh
 """
-# What boots the board by its ways, and has its shell reckon.
-LABGRID = """[labgrid]
-test = '''
-from labgrid.protocol import ConsoleProtocol, PowerProtocol
-
-def test_boots(target):
-    console = target.get_driver(ConsoleProtocol)
-    target.get_driver(PowerProtocol).cycle()
-    console.expect("the-board# ", timeout=200)
-    console.sendline("echo $((6 * 7))")
-    console.expect("\\n42", timeout=200)
-'''
-"""
-DRIVERS = {"labgrid": LABGRID, "lava": LAVA.replace("board:/#", "the-board#")}
+# What boots the board by its ways; labgrid's has its shell reckon.
+DRIVERS = {
+    "labgrid": labgrid_of("the-board# ", "echo $((6 * 7))", "\\n42"),
+    "lava": LAVA.replace("board:/#", "the-board#"),
+}
 
 
 def guide() -> str:
