@@ -15,42 +15,36 @@ use crate::upserts::{Tagged, Upsert, name, number, text};
 use farm_types::{BoardRow, Holder, Refusal, WordFault};
 use sqlite::types::ValueRef;
 use sqlite::{Alter, Error, Row, Transaction};
-use sqlite_schema::schema::{Kind, Table};
+use sqlite_schema::schema::Table;
 
-/// Makes the table.
-pub(crate) const MAKE: &str = "CREATE TABLE boards(name TEXT PRIMARY KEY NOT NULL, \
-    kind TEXT NOT NULL, tags TEXT NOT NULL, health INTEGER NOT NULL, state INTEGER NOT NULL, \
-    holder INTEGER NOT NULL, held_by INTEGER NOT NULL, jobs_since INTEGER NOT NULL, \
-    last_check INTEGER NOT NULL) STRICT";
+/// Its columns, in this order, and what `statement` makes of them.
+macro_rules! columns {
+    ($statement:ident) => {
+        crate::statements::$statement!("boards" ["name"]
+            "name" "TEXT",
+            "kind" "TEXT",
+            "tags" "TEXT",
+            "health" "INTEGER",
+            "state" "INTEGER",
+            "holder" "INTEGER",
+            "held_by" "INTEGER",
+            "jobs_since" "INTEGER",
+            "last_check" "INTEGER"
+        )
+    };
+}
 
-/// All rows, in order of their keys.
-const READ: &str = "SELECT name, kind, tags, health, state, holder, held_by, jobs_since, \
-    last_check FROM boards ORDER BY name";
+pub(crate) const MAKE: &str = columns!(create);
 
-/// Writes a row over the one with its key, or adds it.
-const PUT: &str = "INSERT INTO boards VALUES (?1, ?2, ?3, ?4, ?5, ?6, ?7, ?8, ?9) \
-    ON CONFLICT (name) DO UPDATE SET kind = excluded.kind, tags = excluded.tags, \
-    health = excluded.health, state = excluded.state, holder = excluded.holder, \
-    held_by = excluded.held_by, jobs_since = excluded.jobs_since, last_check = excluded.last_check";
+const READ: &str = columns!(select);
 
-/// Its columns, in this order.
-const COLUMNS: [(&str, Kind); 9] = [
-    ("name", Kind::Text),
-    ("kind", Kind::Text),
-    ("tags", Kind::Text),
-    ("health", Kind::Integer),
-    ("state", Kind::Integer),
-    ("holder", Kind::Integer),
-    ("held_by", Kind::Integer),
-    ("jobs_since", Kind::Integer),
-    ("last_check", Kind::Integer),
-];
+const PUT: &str = columns!(write_over);
 
 /// Whether a table is this one.
 pub(crate) fn is_boards(table: &Table) -> bool
     ensures { IsTrue result ↔ (table.now ≡ record boards_table { tree = 2 }) }
 {
-    is_keyed(table, "boards", 2, &[1]) && are_columns(table.columns.as_slice(), &COLUMNS)
+    is_keyed(table, "boards", 2, &[1]) && are_columns(table.columns.as_slice(), &columns!(kinds))
 }
 
 /// What holds a board, and its number.

@@ -24,22 +24,33 @@ use crate::upserts::{Tagged, Upsert, name, name_if_any, number, text};
 use farm_types::{JobRow, Want, WordFault};
 use sqlite::types::ValueRef;
 use sqlite::{Alter, Error, Row, Transaction};
-use sqlite_schema::schema::{Kind, Table};
+use sqlite_schema::schema::Table;
 
-/// Makes the table.
-pub(crate) const MAKE: &str = "CREATE TABLE jobs(number INTEGER PRIMARY KEY NOT NULL, \
-    grp INTEGER NOT NULL, checking INTEGER NOT NULL, owner TEXT NOT NULL, \
-    priority INTEGER NOT NULL, kind TEXT NOT NULL, tags TEXT NOT NULL, role TEXT NOT NULL, \
-    state INTEGER NOT NULL, outcome INTEGER NOT NULL, board TEXT NOT NULL, \
-    body TEXT NOT NULL) STRICT";
+/// Its columns, in this order, and what `statement` makes of them.
+macro_rules! columns {
+    ($statement:ident) => {
+        crate::statements::$statement!("jobs" ["number"]
+            "number" "INTEGER",
+            "grp" "INTEGER",
+            "checking" "INTEGER",
+            "owner" "TEXT",
+            "priority" "INTEGER",
+            "kind" "TEXT",
+            "tags" "TEXT",
+            "role" "TEXT",
+            "state" "INTEGER",
+            "outcome" "INTEGER",
+            "board" "TEXT",
+            "body" "TEXT"
+        )
+    };
+}
 
-/// All rows, in order of their keys.
-const READ: &str = "SELECT number, grp, checking, owner, priority, kind, tags, role, state, \
-    outcome, board, body FROM jobs ORDER BY number";
+pub(crate) const MAKE: &str = columns!(create);
 
-/// Puts a row in the place of the one with its key, or adds it.
-const PUT: &str = "INSERT OR REPLACE INTO jobs VALUES (?1, ?2, ?3, ?4, ?5, ?6, ?7, ?8, ?9, ?10, \
-    ?11, ?12)";
+const READ: &str = columns!(select);
+
+const PUT: &str = columns!(replace);
 
 /// Gives each state of the jobs from one number to another its code of the second edition, where
 /// that is another one. The codes of the first are 0 to 4, and each but 0 grows by 1; 5, which is no
@@ -53,27 +64,11 @@ const WINDOW: usize = 100;
 /// The number after the largest that is stored.
 const END: u64 = 9_000_000_000_000_000_001;
 
-/// Its columns, in this order.
-const COLUMNS: [(&str, Kind); 12] = [
-    ("number", Kind::Integer),
-    ("grp", Kind::Integer),
-    ("checking", Kind::Integer),
-    ("owner", Kind::Text),
-    ("priority", Kind::Integer),
-    ("kind", Kind::Text),
-    ("tags", Kind::Text),
-    ("role", Kind::Text),
-    ("state", Kind::Integer),
-    ("outcome", Kind::Integer),
-    ("board", Kind::Text),
-    ("body", Kind::Text),
-];
-
 /// Whether a table is this one.
 pub(crate) fn is_jobs(table: &Table) -> bool
     ensures { IsTrue result ↔ (table.now ≡ record jobs_table { tree = 4 }) }
 {
-    is_numbered(table, "jobs", 4) && are_columns(table.columns.as_slice(), &COLUMNS)
+    is_numbered(table, "jobs", 4) && are_columns(table.columns.as_slice(), &columns!(kinds))
 }
 
 /// Its columns, with 0 for an outcome while it has none; `tags` is the text of the tags that it

@@ -11,32 +11,33 @@ use crate::upserts::{Upsert, name, number, text};
 use farm_types::{KeptRow, Reply, WordFault};
 use sqlite::types::ValueRef;
 use sqlite::{Alter, Error, Row, Transaction};
-use sqlite_schema::schema::{Kind, Table};
+use sqlite_schema::schema::Table;
 
-/// Makes the table.
-pub(crate) const MAKE: &str = "CREATE TABLE kept(caller TEXT NOT NULL, ckey TEXT NOT NULL, \
-    kind INTEGER NOT NULL, a INTEGER NOT NULL, b INTEGER NOT NULL, c INTEGER NOT NULL, \
-    PRIMARY KEY(caller, ckey)) STRICT";
+/// Its columns, in this order, and what `statement` makes of them.
+macro_rules! columns {
+    ($statement:ident) => {
+        crate::statements::$statement!("kept" ["caller", "ckey"]
+            "caller" "TEXT",
+            "ckey" "TEXT",
+            "kind" "INTEGER",
+            "a" "INTEGER",
+            "b" "INTEGER",
+            "c" "INTEGER"
+        )
+    };
+}
 
-/// All rows, in order of their keys.
-const READ: &str = "SELECT caller, ckey, kind, a, b, c FROM kept ORDER BY caller, ckey";
+pub(crate) const MAKE: &str = columns!(create);
 
-/// Puts a row in the place of the one with its key, or adds it.
-const PUT: &str = "INSERT OR REPLACE INTO kept VALUES (?1, ?2, ?3, ?4, ?5, ?6)";
+const READ: &str = columns!(select);
+
+const PUT: &str = columns!(replace);
 
 /// Whether a table is this one.
 pub(crate) fn is_replies(table: &Table) -> bool
     ensures { IsTrue result ↔ (table.now ≡ record kept_table { tree = 6 }) }
 {
-    let wanted = [
-        ("caller", Kind::Text),
-        ("ckey", Kind::Text),
-        ("kind", Kind::Integer),
-        ("a", Kind::Integer),
-        ("b", Kind::Integer),
-        ("c", Kind::Integer),
-    ];
-    is_keyed(table, "kept", 6, &[1, 2]) && are_columns(table.columns.as_slice(), &wanted)
+    is_keyed(table, "kept", 6, &[1, 2]) && are_columns(table.columns.as_slice(), &columns!(kinds))
 }
 
 /// Its columns.

@@ -19,6 +19,7 @@ mod queries;
 mod raising;
 mod reservations;
 mod schema;
+mod statements;
 mod tables;
 mod types;
 mod upserts;

@@ -24,18 +24,23 @@ use crate::tables::{are_columns, is_keyed};
 use crate::upserts::{number, text};
 use farm_types::{MetaRow, Refusal};
 use sqlite::{Alter, Connection, Error, Row, Transaction};
-use sqlite_schema::schema::{Kind, Table};
+use sqlite_schema::schema::Table;
 
-/// Makes the table.
-pub(crate) const MAKE: &str = "CREATE TABLE meta(name TEXT PRIMARY KEY NOT NULL, \
-    value INTEGER NOT NULL) STRICT";
+/// Its columns, in this order, and what `statement` makes of them.
+macro_rules! columns {
+    ($statement:ident) => {
+        crate::statements::$statement!("meta" ["name"]
+            "name" "TEXT",
+            "value" "INTEGER"
+        )
+    };
+}
 
-/// All rows, in order of their keys.
-const READ: &str = "SELECT name, value FROM meta ORDER BY name";
+pub(crate) const MAKE: &str = columns!(create);
 
-/// Puts a row's value into the row with its key, or adds it.
-const PUT: &str = "INSERT INTO meta VALUES (?1, ?2) ON CONFLICT (name) DO \
-    UPDATE SET value = excluded.value";
+const READ: &str = columns!(select);
+
+const PUT: &str = columns!(write_over);
 
 /// Writes the four numbers over those that are there, where they are others: one statement, which
 /// reads the table once.
@@ -48,8 +53,7 @@ const CHANGE: &str = "UPDATE meta SET value = CASE name WHEN 'clock' THEN ?1 \
 pub(crate) fn is_numbers(table: &Table) -> bool
     ensures { IsTrue result ↔ (table.now ≡ record meta_table { tree = 8 }) }
 {
-    let wanted = [("name", Kind::Text), ("value", Kind::Integer)];
-    is_keyed(table, "meta", 8, &[1]) && are_columns(table.columns.as_slice(), &wanted)
+    is_keyed(table, "meta", 8, &[1]) && are_columns(table.columns.as_slice(), &columns!(kinds))
 }
 
 /// Puts a number into the row with its name, or adds it.

@@ -14,34 +14,34 @@ use crate::upserts::{Tagged, Upsert, name, name_if_any, number, text};
 use farm_types::{ResRow, Want, WordFault};
 use sqlite::types::ValueRef;
 use sqlite::{Alter, Error, Row, Transaction};
-use sqlite_schema::schema::{Kind, Table};
+use sqlite_schema::schema::Table;
 
-/// Makes the table.
-pub(crate) const MAKE: &str = "CREATE TABLE reservations(number INTEGER PRIMARY KEY NOT NULL, \
-    owner TEXT NOT NULL, priority INTEGER NOT NULL, tags TEXT NOT NULL, state INTEGER NOT NULL, \
-    deadline INTEGER NOT NULL, board TEXT NOT NULL) STRICT";
+/// Its columns, in this order, and what `statement` makes of them.
+macro_rules! columns {
+    ($statement:ident) => {
+        crate::statements::$statement!("reservations" ["number"]
+            "number" "INTEGER",
+            "owner" "TEXT",
+            "priority" "INTEGER",
+            "tags" "TEXT",
+            "state" "INTEGER",
+            "deadline" "INTEGER",
+            "board" "TEXT"
+        )
+    };
+}
 
-/// All rows, in order of their keys.
-const READ: &str = "SELECT number, owner, priority, tags, state, deadline, board FROM reservations \
-    ORDER BY number";
+pub(crate) const MAKE: &str = columns!(create);
 
-/// Puts a row in the place of the one with its key, or adds it.
-const PUT: &str = "INSERT OR REPLACE INTO reservations VALUES (?1, ?2, ?3, ?4, ?5, ?6, ?7)";
+const READ: &str = columns!(select);
+
+const PUT: &str = columns!(replace);
 
 /// Whether a table is this one.
 pub(crate) fn is_reservations(table: &Table) -> bool
     ensures { IsTrue result ↔ (table.now ≡ record reservations_table { tree = 5 }) }
 {
-    let wanted = [
-        ("number", Kind::Integer),
-        ("owner", Kind::Text),
-        ("priority", Kind::Integer),
-        ("tags", Kind::Text),
-        ("state", Kind::Integer),
-        ("deadline", Kind::Integer),
-        ("board", Kind::Text),
-    ];
-    is_numbered(table, "reservations", 5) && are_columns(table.columns.as_slice(), &wanted)
+    is_numbered(table, "reservations", 5) && are_columns(table.columns.as_slice(), &columns!(kinds))
 }
 
 /// Its columns; `tags` is the text of the tags that it wants.

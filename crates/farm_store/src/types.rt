@@ -12,28 +12,30 @@ use crate::upserts::{Upsert, name, number};
 use farm_types::{Check, TypeRow, WordFault};
 use sqlite::types::ValueRef;
 use sqlite::{Alter, Error, Row, Transaction};
-use sqlite_schema::schema::{Kind, Table};
+use sqlite_schema::schema::Table;
 
-/// Makes the table.
-pub(crate) const MAKE: &str = "CREATE TABLE types(name TEXT PRIMARY KEY NOT NULL, \
-    unit INTEGER NOT NULL, every INTEGER NOT NULL) STRICT";
+/// Its columns, in this order, and what `statement` makes of them.
+macro_rules! columns {
+    ($statement:ident) => {
+        crate::statements::$statement!("types" ["name"]
+            "name" "TEXT",
+            "unit" "INTEGER",
+            "every" "INTEGER"
+        )
+    };
+}
 
-/// All rows, in order of their keys.
-const READ: &str = "SELECT name, unit, every FROM types ORDER BY name";
+pub(crate) const MAKE: &str = columns!(create);
 
-/// Puts a row in the place of the one with its key, or adds it.
-const PUT: &str = "INSERT OR REPLACE INTO types VALUES (?1, ?2, ?3)";
+const READ: &str = columns!(select);
+
+const PUT: &str = columns!(replace);
 
 /// Whether a table is this one.
 pub(crate) fn is_types(table: &Table) -> bool
     ensures { IsTrue result ↔ (table.now ≡ record types_table { tree = 0 }) }
 {
-    let wanted = [
-        ("name", Kind::Text),
-        ("unit", Kind::Integer),
-        ("every", Kind::Integer),
-    ];
-    is_keyed(table, "types", 0, &[1]) && are_columns(table.columns.as_slice(), &wanted)
+    is_keyed(table, "types", 0, &[1]) && are_columns(table.columns.as_slice(), &columns!(kinds))
 }
 
 /// The unit of a check's frequency, and how many of it.
