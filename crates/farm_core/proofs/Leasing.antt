@@ -22,7 +22,7 @@ use Rattle.farm_sound.proofs.Lists.{none_pass}
 use Rattle.farm_sound.proofs.Own.{itself}
 use Rattle.farm_sound.proofs.Tests.{both, same_number}
 use Rattle.farm_sound.proofs.Where.{AllByRecursion-both}
-use Rattle.farm_sound.specs.Place.{res_in}
+use Rattle.farm_sound.specs.Keys.{res_in}
 use Rattle.farm_pick.specs.Queued.{Queued}
 use Rattle.farm_core.specs.Came.{Seen}
 use Rattle.farm_core.specs.Following.{without_claim}

@@ -17,7 +17,7 @@ use Rattle.farm_types.specs.declared.rows.JobRow.{JobRow}
 use Rattle.farm_types.specs.declared.rows.ResRow.{ResRow}
 use Rattle.farm_types.specs.declared.claims.Claim.{Claim}
 use Rattle.farm_types.specs.declared.claims.ClaimKind.{ClaimKind}
-use Rattle.farm_sound.specs.Place.{job_in}
+use Rattle.farm_sound.specs.Keys.{job_in}
 use Rattle.farm_pick.specs.Queued.{IdleBoard, QueueLists, Queued, idle_board, idle_boards}
 use Rattle.farm_pick.specs.Queued.{queue_lists, queued_of}
 use Rattle.farm_pick.specs.Kept.{named_cmp, queued_cmp}

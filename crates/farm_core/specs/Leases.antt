@@ -10,7 +10,7 @@ use Rattle.farm_types.specs.Codes.{same_res_state}
 use Rattle.farm_types.specs.Pass.{is_dead}
 use Rattle.farm_types.specs.declared.rows.ResRow.{ResRow}
 use Rattle.farm_types.specs.declared.rows.ResState.{ResState}
-use Rattle.farm_sound.specs.Place.{res_in}
+use Rattle.farm_sound.specs.Keys.{res_in}
 use Rattle.farm_core.specs.declared.res_table.Lease.{Lease}
 
 -- a reservation that waits or has been allocated is dead once its lease is over

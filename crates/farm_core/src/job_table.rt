@@ -4,7 +4,7 @@ ghost use Rattle.std.specs.Option.{option_map_or};
 ghost use Rattle.farm_types.specs.Small.{IsSmall};
 ghost use Rattle.farm_types.specs.Table.{change_where, job_cmp};
 ghost use Rattle.farm_types.specs.declared.rows.JobRow.{JobRow};
-ghost use Rattle.farm_sound.specs.Place.{job_in};
+ghost use Rattle.farm_sound.specs.Keys.{job_in};
 ghost use Rattle.farm_table.specs.Tabled.{Leads};
 ghost use Rattle.farm_core.specs.Edits.{job_passes, job_changed, first_of};
 ghost use Rattle.farm_core.specs.PartitionPoint.{IsPartitionPoint};

@@ -8,14 +8,13 @@ ghost use Rattle.farm_types.specs.Pass.{is_dead};
 ghost use Rattle.farm_types.specs.Table.{res_cmp, put, change_where};
 ghost use Rattle.farm_types.specs.Small.{IsSmall, IsSmallRes};
 ghost use Rattle.farm_types.specs.declared.rows.ResRow.{ResRow};
-ghost use Rattle.farm_sound.specs.Place.{res_in};
+ghost use Rattle.farm_sound.specs.Keys.{res_in};
 ghost use Rattle.farm_table.specs.Tabled.{Leads};
 ghost use Rattle.farm_core.specs.Leases.{may_end_in, lease_if, is_dead_at, is_noted, AreNoted};
 ghost use Rattle.farm_core.specs.Leases.{Grows};
 ghost use Rattle.farm_core.specs.Edits.{res_changed, res_passes};
 
 use crate::edits::{ResEdit, ResFilter, is_dead};
-use farm_sound::seek;
 use farm_table::Table;
 use farm_types::{ResRow, ResState};
 use std::alloc::{AllocError, Global};
@@ -69,11 +68,10 @@ fn note_leases(leases: &mut BTreeSet<Lease>, rows: &[ResRow]) -> Result<(), Allo
 }
 
 /// Whether the reservation of a number is dead, by binary search.
-fn is_dead_at(reservations: &[ResRow], number: u64, now: u64) -> bool
-    requires { IsStrictlySortedBy res_cmp reservations.now }
-    ensures { result ≡ is_dead_at now reservations.now number }
+fn is_dead_at(table: &Table<ResRow>, number: u64, now: u64) -> bool
+    ensures { result ≡ is_dead_at now table.now.rows number }
 {
-    seek::res_of(reservations, number).is_some_and(|row| is_dead(now, row))
+    table.find(&number).is_some_and(|row| is_dead(now, row))
 }
 
 /// The number of a reservation that is dead, if there is one: that of the first lease that is over,
@@ -81,19 +79,20 @@ fn is_dead_at(reservations: &[ResRow], number: u64, now: u64) -> bool
 /// has ended, are forgotten on the way.
 ///
 /// With R reservations and L leases each lease that is forgotten costs O(log R + log L).
-fn first_dead(leases: &mut BTreeSet<Lease>, reservations: &[ResRow], now: u64) -> Option<u64>
-    requires ordered { IsStrictlySortedBy res_cmp reservations.now }
-    requires noted { AreNoted leases.old reservations.now }
-    ensures noted { AreNoted leases.new reservations.now }
-    ensures dead { IfSome result (λ number. is_dead_at now reservations.now number ≡ true) }
-    ensures none { IfNone result (AllByRecursion (λ r. is_dead now r ≡ false) reservations.now) }
+fn first_dead(leases: &mut BTreeSet<Lease>, table: &Table<ResRow>, now: u64) -> Option<u64>
+    requires { AreNoted leases.old table.now.rows }
+    ensures noted { AreNoted leases.new table.now.rows }
+    ensures dead { IfSome result (λ number. is_dead_at now table.now.rows number ≡ true) }
+    ensures none { IfNone result (AllByRecursion (λ r. is_dead now r ≡ false) table.now.rows) }
 {
+    // no row is read: it tells proofs that they stand in order
+    let _rows = table.rows();
     while let Some(lease) = leases.first() {
         let Lease { deadline, number } = *lease;
         if deadline > now {
             return None;
         }
-        if is_dead_at(reservations, number, now) {
+        if is_dead_at(table, number, now) {
             return Some(number);
         }
         let _over = leases.pop_first();
@@ -230,7 +229,9 @@ impl ResTable {
         ensures dead { IfSome result (λ number. is_dead_at now self.old.rows number ≡ true) }
         ensures none { IfNone result (AllByRecursion (λ r. is_dead now r ≡ false) self.old.rows) }
     {
-        first_dead(&mut self.leases, self.table.rows(), now)
+        // no row is read: it tells proofs that they stand in order, and are few
+        let _rows = self.rows();
+        first_dead(&mut self.leases, &self.table, now)
     }
 
     /// Gives the log away, and begins a new one.

@@ -1,3 +1,4 @@
+pub mod Placed
 pub mod Choices
 pub mod Places
 pub mod Meeting

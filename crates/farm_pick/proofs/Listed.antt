@@ -20,7 +20,7 @@ use Rattle.farm_sound.proofs.Lists.{all_fail, among_has}
 use Rattle.farm_sound.proofs.Own.{text_itself}
 use Rattle.farm_sound.proofs.Tests.{both}
 use Rattle.farm_pick.specs.Choice.{IsShortlist, candidate_at}
-use Rattle.farm_sound.specs.Place.{board_in}
+use Rattle.farm_sound.specs.Keys.{board_in}
 use Rattle.farm_pick.specs.Fitting.{is_named, named_at}
 use Rattle.farm_pick.specs.Kept.{IsIdle, kind_at, shown_idle}
 use Rattle.farm_pick.specs.Queued.{IdleBoard, idle_board}

@@ -6,6 +6,7 @@ pub mod Queued
 pub mod Merged
 pub mod Heads
 pub mod Walked
+pub mod Place
 pub mod Kept
 pub mod Several
 pub mod Fitting

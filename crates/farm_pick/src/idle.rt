@@ -7,17 +7,17 @@ ghost use Rattle.std.specs.Str.{bytes_eq};
 ghost use Rattle.farm_types.specs.Limits.{most_wants};
 ghost use Rattle.farm_types.specs.Pick.{is_free, least};
 ghost use Rattle.farm_types.specs.Table.{board_cmp, put};
-ghost use Rattle.farm_sound.specs.Place.{IsPlace, board_in};
+ghost use Rattle.farm_sound.specs.Keys.{board_in};
 ghost use Rattle.farm_pick.specs.Choice.{IsShortlist, candidate_at};
 ghost use Rattle.farm_pick.specs.Fitting.{is_named, named_at};
 ghost use Rattle.farm_pick.specs.Heads.{queue_open};
 ghost use Rattle.farm_pick.specs.Kept.{AreIdle, idle_cmp, shown_idle};
 ghost use Rattle.farm_pick.specs.Least.{boards_at};
+ghost use Rattle.farm_pick.specs.Place.{IsPlace};
 ghost use Rattle.farm_pick.specs.Queued.{idle_board};
 
 use crate::picked::Picked;
 use crate::{fit, kind, search};
-use farm_sound::seek;
 use farm_types::{BoardRow, Name, TypeRow, Want};
 use std::alloc::AllocError;
 use std::collections::VecDeque;
@@ -101,7 +101,7 @@ fn place_of(boards: &[BoardRow], name: &Name, from: usize) -> Option<usize>
             return Some(at);
         }
     }
-    match seek::board_at(boards, name) {
+    match boards.binary_search_by(|board| board.name.order(name)) {
         Ok(at) => Some(at),
         Err(_gap) => None,
     }

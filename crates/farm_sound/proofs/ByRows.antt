@@ -9,21 +9,21 @@ use Rattle.farm_sound.proofs.Where.{AllByRecursion-both}
 
 steady_from_rows : (F : Farm) → IsSoundByRows F → IsSteady F
 steady_from_rows F is = record {
-  types_sorted = is.ordered.types;
-  boards_sorted = is.ordered.boards;
-  jobs_sorted = is.ordered.jobs;
-  reservations_sorted = is.ordered.reservations;
-  kept_sorted = is.ordered.kept;
+  types_sorted = is.bounds.ordered.types;
+  boards_sorted = is.bounds.ordered.boards;
+  jobs_sorted = is.bounds.ordered.jobs;
+  reservations_sorted = is.bounds.ordered.reservations;
+  kept_sorted = is.bounds.ordered.kept;
   types = is.types;
   boards = AllByRecursion-weaker (λ b it. it.row) F.boards is.boards;
   jobs = AllByRecursion-weaker (λ j it. it.row) F.jobs is.jobs;
   reservations = AllByRecursion-weaker (λ r it. it.row) F.reservations is.reservations;
   kept = is.kept;
-  few = is.few.sizes;
+  few = is.bounds.few.sizes;
   few_of_kind = few_of_kinds F (AllByRecursion-weaker (λ b it. it.few) F.boards is.boards);
-  clock = is.few.clock;
-  count = is.few.count;
-  next = is.few.next;
+  clock = is.bounds.few.clock;
+  count = is.bounds.few.count;
+  next = is.bounds.few.next;
 }
 
 pub sound_from_rows : (F : Farm) → IsSoundByRows F → IsSound F
@@ -43,18 +43,20 @@ rows_from_sound F is =
     let jobs = AllByRecursion-both (IsInStep F) (IsShownOfJob F) F.jobs (steps_from_whole F steady.jobs is.whole)
     (jobs_from_keys F is.held (own_job F steady) steady.jobs) in
     record {
-      ordered = record {
-        types = steady.types_sorted;
-        boards = steady.boards_sorted;
-        jobs = steady.jobs_sorted;
-        reservations = steady.reservations_sorted;
-        kept = steady.kept_sorted;
-      };
-      few = record {
-        sizes = steady.few;
-        clock = steady.clock;
-        count = steady.count;
-        next = steady.next;
+      bounds = record {
+        ordered = record {
+          types = steady.types_sorted;
+          boards = steady.boards_sorted;
+          jobs = steady.jobs_sorted;
+          reservations = steady.reservations_sorted;
+          kept = steady.kept_sorted;
+        };
+        few = record {
+          sizes = steady.few;
+          clock = steady.clock;
+          count = steady.count;
+          next = steady.next;
+        };
       };
       types = steady.types;
       boards = AllByRecursion-weaker (λ b two. record { row = two.0; few = steady.few_of_kind b.kind; held = two.1 }) F.boards

@@ -38,7 +38,7 @@ pub mod Step
 pub mod Once
 pub mod Puts
 pub mod Commute
-pub mod Placed
 pub mod Steps
 pub mod ShownHolders
+pub mod Lookups
 pub mod ByRows

@@ -85,6 +85,11 @@ pub record IsFew (F : Farm) : Type 0 where
   pub count : F.count ≤ most_commands
   pub next : (1 ≤ F.next) × (F.next ≤ numbers_end)
 
+-- both: what look-ups by binary search stand on
+pub record IsInBounds (F : Farm) : Type 0 where
+  pub ordered : IsOrdered F
+  pub few : IsFew F
+
 -- what a row says, and what the others say of it
 pub record IsSoundBoard (F : Farm) (b : BoardRow) : Type 0 where
   pub row : IsBoardRow F b
@@ -101,8 +106,7 @@ pub record IsSoundRes (F : Farm) (r : ResRow) : Type 0 where
   pub shown : IsShownOfRes F r
 
 pub record IsSoundByRows (F : Farm) : Type 0 where
-  pub ordered : IsOrdered F
-  pub few : IsFew F
+  pub bounds : IsInBounds F
   pub types : AllByRecursion IsTypeRow F.types
   pub boards : AllByRecursion (IsSoundBoard F) F.boards
   pub jobs : AllByRecursion (IsSoundJob F) F.jobs

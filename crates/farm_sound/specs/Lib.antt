@@ -1,3 +1,3 @@
-pub mod Place
+pub mod Keys
 pub mod ByRows
 pub mod Served

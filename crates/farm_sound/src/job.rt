@@ -1,15 +1,13 @@
 //! The test of job rows: each by itself, against the rows that it names, and as one of its group.
 ghost use Rattle.std.specs.Prelude.{◌≡◌, ◌≤◌, ◌==◌, ◌↔◌, ℕ, IsTrue, length};
 ghost use Rattle.std.specs.List.{filter, AllByRecursion};
-ghost use Rattle.std.specs.List.Sorted.{IsStrictlySortedBy};
-ghost use Rattle.farm_types.specs.Table.{type_cmp, board_cmp, job_cmp, res_cmp};
 ghost use Rattle.farm_types.specs.Farm.{farm_of};
 ghost use Rattle.farm_types.specs.Sound.{IsJobRow, IsCheck, IsCollecting, Follows, job_gives};
 ghost use Rattle.farm_types.specs.Sound.{phase};
-ghost use Rattle.farm_sound.specs.ByRows.{IsOrdered, IsJobNumbered, IsJobWorded, IsJobPlaced};
+ghost use Rattle.farm_sound.specs.ByRows.{IsJobNumbered, IsJobWorded, IsJobPlaced};
 ghost use Rattle.farm_sound.specs.ByRows.{IsJobGrouped, IsInStep, IsShownOfJob};
 
-use crate::seek::{job_of, res_of};
+use crate::ordered::OrderedRows;
 use crate::want::{is_shown, names_board, names_type, prove_role, prove_want};
 use farm_types::{HIGHEST_PRIORITY, Holder, JobRow, JobState, MOST_WANTS, Rows, State};
 
@@ -36,34 +34,31 @@ fn phase(state: JobState) -> u8
 }
 
 /// The lines on a job's numbers.
-fn is_numbered(rows: &Rows, row: &JobRow) -> bool
-    requires { IsStrictlySortedBy res_cmp rows.now.reservations.items }
-    ensures { IsTrue result ↔ IsJobNumbered (farm_of rows.now) row.now }
+fn is_numbered(ordered: &OrderedRows<'_>, row: &JobRow) -> bool
+    ensures { IsTrue result ↔ IsJobNumbered (farm_of ordered.now) row.now }
 {
     1 <= row.number
-        && row.number < rows.meta.next
-        && res_of(rows.reservations.as_slice(), row.number).is_none()
+        && row.number < ordered.rows().meta.next
+        && ordered.res_of(row.number).is_none()
         && row.group <= row.number
         && row.number - row.group < MOST_WANTS as u64
 }
 
 /// The lines on a job's words.
-fn is_worded(rows: &Rows, row: &JobRow) -> bool
-    requires { IsStrictlySortedBy type_cmp rows.now.types.items }
-    ensures { IsTrue result ↔ IsJobWorded (farm_of rows.now) row.now }
+fn is_worded(ordered: &OrderedRows<'_>, row: &JobRow) -> bool
+    ensures { IsTrue result ↔ IsJobWorded (farm_of ordered.now) row.now }
 {
     let (_owner, _priority) = (row.owner.as_str(), row.priority.get());
     prove_want(&row.want);
     prove_role(&row.role);
-    names_type(rows, &row.want.kind) && row.is_within_limits()
+    names_type(ordered, &row.want.kind) && row.is_within_limits()
 }
 
 /// The lines on a job's state, outcome and board.
-fn is_placed(rows: &Rows, row: &JobRow) -> bool
-    requires { IsStrictlySortedBy board_cmp rows.now.boards.items }
-    ensures { IsTrue result ↔ IsJobPlaced (farm_of rows.now) row.now }
+fn is_placed(ordered: &OrderedRows<'_>, row: &JobRow) -> bool
+    ensures { IsTrue result ↔ IsJobPlaced (farm_of ordered.now) row.now }
 {
-    names_board(rows, &row.board)
+    names_board(ordered, &row.board)
         && match row.state {
             JobState::Submitted => row.outcome.is_none() && row.board.is_none(),
             JobState::Finished => row.outcome.is_some(),
@@ -72,12 +67,11 @@ fn is_placed(rows: &Rows, row: &JobRow) -> bool
 }
 
 /// Whether a member but the first follows another.
-fn follows(rows: &Rows, row: &JobRow) -> bool
-    requires sorted { IsStrictlySortedBy job_cmp rows.now.jobs.items }
-    requires number { 1 ≤ row.now.number }
-    ensures { IsTrue result ↔ Follows (farm_of rows.now) row.now }
+fn follows(ordered: &OrderedRows<'_>, row: &JobRow) -> bool
+    requires { 1 ≤ row.now.number }
+    ensures { IsTrue result ↔ Follows (farm_of ordered.now) row.now }
 {
-    job_of(rows.jobs.as_slice(), row.number - 1).is_some_and(|previous| {
+    ordered.job_of(row.number - 1).is_some_and(|previous| {
         previous.group == row.group
             && previous.owner.is(&row.owner)
             && previous.priority.get() == row.priority.get()
@@ -100,39 +94,38 @@ fn is_check(row: &JobRow) -> bool
 }
 
 /// The lines on a job's group.
-fn is_grouped(rows: &Rows, row: &JobRow) -> bool
-    requires sorted { IsStrictlySortedBy job_cmp rows.now.jobs.items }
-    requires number { 1 ≤ row.now.number }
-    ensures { IsTrue result ↔ IsJobGrouped (farm_of rows.now) row.now }
+fn is_grouped(ordered: &OrderedRows<'_>, row: &JobRow) -> bool
+    requires { 1 ≤ row.now.number }
+    ensures { IsTrue result ↔ IsJobGrouped (farm_of ordered.now) row.now }
 {
-    (row.number == row.group || follows(rows, row)) && (!row.checking || is_check(row))
+    (row.number == row.group || follows(ordered, row)) && (!row.checking || is_check(row))
 }
 
 /// The lines on a job.
-pub fn is_job_row(rows: &Rows, row: &JobRow) -> bool
-    requires { IsOrdered (farm_of rows.now) }
-    ensures { IsTrue result ↔ IsJobRow (farm_of rows.now) row.now }
+pub fn is_job_row(ordered: &OrderedRows<'_>, row: &JobRow) -> bool
+    ensures { IsTrue result ↔ IsJobRow (farm_of ordered.now) row.now }
 {
-    is_numbered(rows, row) && is_worded(rows, row) && is_placed(rows, row) && is_grouped(rows, row)
+    is_numbered(ordered, row)
+        && is_worded(ordered, row)
+        && is_placed(ordered, row)
+        && is_grouped(ordered, row)
 }
 
 /// Whether a member but the first is in the phase of the one before it.
-pub fn is_in_step(rows: &Rows, row: &JobRow) -> bool
-    requires sorted { IsStrictlySortedBy job_cmp rows.now.jobs.items }
-    requires number { 1 ≤ row.now.number }
-    ensures { IsTrue result ↔ IsInStep (farm_of rows.now) row.now }
+pub fn is_in_step(ordered: &OrderedRows<'_>, row: &JobRow) -> bool
+    requires { 1 ≤ row.now.number }
+    ensures { IsTrue result ↔ IsInStep (farm_of ordered.now) row.now }
 {
     let in_phase = |previous: &JobRow| phase(previous.state) == phase(row.state);
-    row.number == row.group || job_of(rows.jobs.as_slice(), row.number - 1).is_some_and(in_phase)
+    row.number == row.group || ordered.job_of(row.number - 1).is_some_and(in_phase)
 }
 
 /// Whether the board that a job holds says so.
-pub fn is_shown_of_job(rows: &Rows, row: &JobRow) -> bool
-    requires { IsStrictlySortedBy board_cmp rows.now.boards.items }
-    ensures { IsTrue result ↔ IsShownOfJob (farm_of rows.now) row.now }
+pub fn is_shown_of_job(ordered: &OrderedRows<'_>, row: &JobRow) -> bool
+    ensures { IsTrue result ↔ IsShownOfJob (farm_of ordered.now) row.now }
 {
     let holder = Holder::Job(row.number);
-    is_shown(rows, job_gives(row.state), &row.board, holder)
+    is_shown(ordered, job_gives(row.state), &row.board, holder)
 }
 
 /// How many jobs are of the group.

@@ -1,18 +1,17 @@
 //! What each farm that the machine reaches keeps: the laws that every command keeps a farm sound,
-//! the exact test whether rows are those of a sound farm, and look-ups in tables by binary search.
+//! and the exact test whether rows are those of a sound farm.
 //!
 //! `laws` says what is proved of the machine's definitions; `sound` decides them at run time, row
-//! by row; `seek` finds rows.
+//! by row, among rows that `ordered` found in order.
 //!
-//! Read `specs/` in the order Place, ByRows, Served.
+//! Read `specs/` in the order Keys, ByRows, Served.
 #![tactic(auto)]
 
 mod board;
 mod job;
 mod laws;
+mod ordered;
 mod reservation;
-// Stays a module: its look-ups are called as `seek::job_at` and `seek::job_of`.
-pub mod seek;
 mod sound;
 mod want;
 

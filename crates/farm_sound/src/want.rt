@@ -1,15 +1,13 @@
 //! What the types of a row's words prove of them, and the names that it gives of other rows.
 ghost use Rattle.std.specs.Prelude.{◌≡◌, ◌↔◌, IsTrue, IsSome, IfSome, IsSomeAnd, Some};
-ghost use Rattle.std.specs.List.Sorted.{IsStrictlySortedBy};
 ghost use Rattle.farm_types.specs.Words.{IsName};
-ghost use Rattle.farm_types.specs.Table.{type_cmp, board_cmp};
 ghost use Rattle.farm_types.specs.Farm.{farm_of, type_of};
 ghost use Rattle.farm_types.specs.Proper.{is_want};
 ghost use Rattle.farm_types.specs.Sound.{IsBoardOf};
 ghost use Rattle.farm_sound.specs.ByRows.{IsShown};
 
-use crate::seek::{board_of, type_of};
-use farm_types::{BoardRow, Holder, Name, Rows, State, Want};
+use crate::ordered::OrderedRows;
+use farm_types::{BoardRow, Holder, Name, State, Want};
 
 /// A want names a type, if it names one, and tags.
 pub(crate) fn prove_want(want: &Want)
@@ -27,23 +25,24 @@ pub(crate) fn prove_role(role: &Option<Name>)
 }
 
 /// Whether a type is named that is there.
-pub fn names_type(rows: &Rows, kind: &Option<Name>) -> bool
-    requires { IsStrictlySortedBy type_cmp rows.now.types.items }
+pub fn names_type(ordered: &OrderedRows<'_>, kind: &Option<Name>) -> bool
     ensures { IsTrue result
-        ↔ IsSomeAnd kind.now (λ kind. IsSome (type_of (farm_of rows.now) kind)) }
+        ↔ IsSomeAnd kind.now (λ kind. IsSome (type_of (farm_of ordered.now) kind)) }
 {
-    kind.as_ref()
-        .is_some_and(|kind| type_of(rows.types.as_slice(), kind).is_some())
+    match kind {
+        Some(kind) => ordered.type_of(kind).is_some(),
+        None => false,
+    }
 }
 
 /// Whether the board that is named, if one is, is there.
-pub fn names_board(rows: &Rows, board: &Option<Name>) -> bool
-    requires { IsStrictlySortedBy board_cmp rows.now.boards.items }
-    ensures { IsTrue result ↔ IsBoardOf (farm_of rows.now) board.now }
+pub fn names_board(ordered: &OrderedRows<'_>, board: &Option<Name>) -> bool
+    ensures { IsTrue result ↔ IsBoardOf (farm_of ordered.now) board.now }
 {
-    board
-        .as_ref()
-        .is_none_or(|name| board_of(rows.boards.as_slice(), name).is_some())
+    match board {
+        Some(name) => ordered.board_of(name).is_some(),
+        None => true,
+    }
 }
 
 /// Whether a board is named, and has this name.
@@ -54,15 +53,19 @@ pub fn is_named(board: &Option<Name>, name: &Name) -> bool
 }
 
 /// Whether the board that a row holds, where its state gives it one, says so.
-pub fn is_shown(rows: &Rows, given: Option<State>, board: &Option<Name>, holder: Holder) -> bool
-    requires { IsStrictlySortedBy board_cmp rows.now.boards.items }
+pub fn is_shown(
+    ordered: &OrderedRows<'_>,
+    given: Option<State>,
+    board: &Option<Name>,
+    holder: Holder,
+) -> bool
     ensures { IsTrue result
-        ↔ IfSome given (λ _. IsShown (farm_of rows.now) board.now holder) }
+        ↔ IfSome given (λ _. IsShown (farm_of ordered.now) board.now holder) }
 {
     let is_holder = |board: &BoardRow| board.holder == holder;
     match (given, board) {
         (None, _) => true,
         (Some(_), None) => false,
-        (Some(_), Some(name)) => board_of(rows.boards.as_slice(), name).is_some_and(is_holder),
+        (Some(_), Some(name)) => ordered.board_of(name).is_some_and(is_holder),
     }
 }

@@ -1,6 +1,10 @@
-use Rattle.std.proofs.Common.{◌∙◌, sym, ap, arith}
+use Rattle.std.proofs.Common.{◌∙◌, sym, ap, arith, rules, Ok, Err}
+use Rattle.std.proofs.lemmas.Fn.{always_returns_same}
+use Rattle.std.specs.Cmp.Lexicographic.{nat_list_cmp_total}
 use Rattle.std.specs.Str.{bytes_eq}
 use Rattle.farm_types.specs.declared.rows.BoardRow.{BoardRow}
+use Rattle.farm_types.specs.Words.{text_cmp}
+use Rattle.farm_types.proofs.Searched.{found_at, same_names}
 use Rattle.farm_pick.proofs.Listed.{named_found, named_near}
 use Rattle.farm_pick.proofs.idle.place_of.Goals as goal
 
@@ -10,4 +14,12 @@ returns-then-is-clause-found c =
     (ap (λ (b : BoardRow). bytes_eq b.name c.args.name.now) c.index-boards-at.is ∙ (sym c.is.ensures ∙ c.if-is.true))
 
 pub returns-in-Ok-clause-found : goal.returns-in-Ok-clause-found
-returns-in-Ok-clause-found c = named_found c.args.boards.now c.args.name.now c.in-Ok.at c.in-Ok.ensures.within c.in-Ok.ensures.row
+returns-in-Ok-clause-found c =
+    named_found c.args.boards.now c.args.name.now c.in-Ok.at c.in-Ok.ensures.bound
+    (found_at (λ (b : BoardRow). b.name) text_cmp nat_list_cmp_total bytes_eq same_names c.args.name.now c.args.boards.now c.requires (Ok c.in-Ok.at) c.in-Ok.ensures.bound
+    (c.in-Ok.ensures.position (λ b. text_cmp b.name c.args.name.now) (always_returns_same _ _ _ (λ a b f' called. search rules))))
+
+pub returns-in-Err-clause-none : goal.returns-in-Err-clause-none
+returns-in-Err-clause-none c =
+    found_at (λ (b : BoardRow). b.name) text_cmp nat_list_cmp_total bytes_eq same_names c.args.name.now c.args.boards.now c.requires (Err c.in-Err._gap) c.in-Err.ensures.bound
+    (c.in-Err.ensures.position (λ b. text_cmp b.name c.args.name.now) (always_returns_same _ _ _ (λ a b f' called. search rules)))

@@ -10,7 +10,7 @@ use Rattle.std.proofs.lemmas.List.{get_or_default}
 use Rattle.std.proofs.lemmas.Slice.Eq.{bytes_eq-Decides}
 use Rattle.farm_types.specs.Words.{text_cmp}
 use Rattle.farm_types.proofs.Searched.{same_names}
-use Rattle.farm_sound.proofs.Placed.{placed}
+use Rattle.farm_pick.proofs.Placed.{placed}
 use Rattle.farm_pick.specs.declared.idle.IdleRow.{IdleRow}
 use Rattle.farm_pick.proofs.idle.row_at.Goals as goal
 
