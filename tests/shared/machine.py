@@ -13,6 +13,7 @@ from typing import IO, Iterator, List, Optional, Sequence
 
 import pytest
 
+import counting
 from served import PATIENCE, STARTED, TOP
 from wants import lacks, wants
 
@@ -27,7 +28,7 @@ mount -t cgroup2 cgroup2 "$1/groups"
 mkdir "$1/groups/$2"
 echo $$ > "$1/groups/$2/cgroup.procs"
 mount -t overlay overlay -o "lowerdir=/,upperdir=$1/up,workdir=$1/work" "$1/root"
-exec unshare --mount --pid --fork --uts --ipc --net --cgroup --propagation private sh -c "$3" sh "$1/root"
+exec unshare --mount --pid --fork --uts --ipc --net --cgroup --propagation private sh -c "$3" sh "$1/root" "$4" "$5"
 """
 INSIDE = """\
 set -e
@@ -41,6 +42,7 @@ for name in null zero full random urandom tty; do
     touch "$1/dev/$name"
     mount --bind "/dev/$name" "$1/dev/$name"
 done
+[ -z "$2" ] || mount -m --bind "$2" "$1$3"
 mkdir "$1/dev/shm" "$1/dev/pts"
 mount -t devpts -o newinstance,ptmxmode=666 devpts "$1/dev/pts"
 ln -s pts/ptmx "$1/dev/ptmx"
@@ -84,9 +86,8 @@ class Machine:
         os.mkdir(self.room)
         self.log = open(os.path.join(folder, "machine.log"), "wb")  # pylint: disable=consider-using-with
         words = ["unshare", "--mount", "--propagation", "private", "sh", "-c", OUTSIDE, "sh"]
-        self.process = subprocess.Popen(
-            [*words, self.room, self.group, INSIDE], stdin=subprocess.DEVNULL, stdout=self.log, stderr=self.log
-        )
+        words += [self.room, self.group, INSIDE, counting.FOLDER, counting.THERE]
+        self.process = subprocess.Popen(words, stdin=subprocess.DEVNULL, stdout=self.log, stderr=self.log)
         STARTED.append(self.process)
         atexit.register(self.end)
         try:
@@ -121,6 +122,8 @@ class Machine:
             self.run("sh", "-c", "mkdir /tmp/source && tar -xC /tmp/source", stdin=packed.stdout)
         if os.path.basename(program) != "farm":
             self.run("mv", f"/tmp/source/{os.path.basename(program)}", "/tmp/source/farm")
+        for name, text in counting.files_of_a_machine().items():
+            self.write(name, text)
         self.run("sh", "-c", SET_UP)
 
     def run(
@@ -172,6 +175,7 @@ class Machine:
 
     def end(self) -> None:
         """Ends all that is in it, where it hasn't ended."""
+        counting.keep(self.group)
         for pid in self._children():
             with contextlib.suppress(ProcessLookupError):
                 os.kill(pid, signal.SIGKILL)

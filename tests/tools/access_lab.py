@@ -17,6 +17,7 @@ import tempfile
 import time
 from typing import Any, Callable, Dict, List, NamedTuple, Optional, Sequence
 
+import counting
 from served import LASTING, PATIENCE, STARTED, TOOLS, TOP, Farm, free_port, wait_until
 from wants import wants
 
@@ -29,7 +30,7 @@ PYTHON = "/usr/bin/python3"
 # What starts farm-access. {before} may spoil it, in trials that have to fail.
 LAUNCHER = """\
 #!/usr/bin/python3
-import sys
+{counts}import sys
 sys.path.insert(0, {tools!r})
 {before}
 sys.argv[0] = {file!r}
@@ -151,7 +152,7 @@ class Lab:
         self.write("ser2net.yaml", SER2NET.format(place=self.place, accepter=accepter))
         self.write("pdudaemon.conf", json.dumps(self.pdus()))
         launcher = self.path("farm-access.py")
-        self.write("farm-access.py", LAUNCHER.format(tools=TOOLS, before=before, file=launcher))
+        self.write("farm-access.py", LAUNCHER.format(tools=TOOLS, before=before, file=launcher, counts=counting.lines()))
         os.chmod(launcher, 0o755)
         self.access = f"{PYTHON} {launcher} --file {self.path('access.toml')}"
         self.write("sshd.conf", self.sshd_conf())
@@ -201,7 +202,8 @@ class Lab:
 
     def as_board(self, *words: str) -> List[str]:
         """A command of the lab's account, with nothing of this environment."""
-        plain = ["env", "-i", "PATH=/usr/bin:/bin:/usr/sbin", f"HOME={self.path('home')}", *words]
+        around = ["PATH=/usr/bin:/bin:/usr/sbin", f"HOME={self.path('home')}", *counting.AROUND]
+        plain = ["env", "-i", *around, *words]
         if not self.is_root:
             return plain
         script = 'mount --bind "$1" /etc/passwd && shift && exec "$@"'
