@@ -15,7 +15,6 @@ pub mod GoingOn
 pub mod Executed
 pub mod EmptyRows
 pub mod SmallCodes
-pub mod Through
 pub mod Commute
 pub mod ColumnsFrom
 pub mod OnlyReads

@@ -9,28 +9,23 @@ ghost use Rattle.farm_types.specs.declared.rows.Holder.{Holder};
 ghost use Rattle.farm_store.specs.Columns.{board_columns, holder_of};
 ghost use Rattle.farm_store.specs.Schema.{boards_table};
 
-use crate::queries::rows::{BAD, Reader, Stored, health_at, name_at, number_at, state_at, tags_at};
+use crate::queries::rows::{BAD, Reader, health_at, name_at, number_at, state_at, tags_at};
+use crate::stored::Stored;
 use crate::tables::{are_columns, is_keyed};
-use crate::upserts::{Tagged, Upsert, name, number, text};
+use crate::upserts::{name, number, text};
 use farm_types::{BoardRow, Holder, Refusal, WordFault};
 use sqlite::types::ValueRef;
 use sqlite::{Alter, Error, Row, Transaction};
 use sqlite_schema::schema::Table;
+use std::alloc::{AllocError, Global};
 
 /// Its columns, in this order, and what `statement` makes of them.
 macro_rules! columns {
     ($statement:ident) => {
         crate::statements::$statement!("boards" ["name"]
-            "name" "TEXT",
-            "kind" "TEXT",
-            "tags" "TEXT",
-            "health" "INTEGER",
-            "state" "INTEGER",
-            "holder" "INTEGER",
-            "held_by" "INTEGER",
-            "jobs_since" "INTEGER",
-            "last_check" "INTEGER"
-        )
+            "name" "TEXT", "kind" "TEXT", "tags" "TEXT", "health" "INTEGER", "state" "INTEGER",
+            "holder" "INTEGER", "held_by" "INTEGER", "jobs_since" "INTEGER",
+            "last_check" "INTEGER")
     };
 }
 
@@ -104,27 +99,10 @@ fn board_columns<'a>(row: &'a BoardRow, tags: &'a str) -> [ValueRef<'a>; 9]
     ]
 }
 
-impl Upsert for Tagged<'_, BoardRow> {
-    ghost use Rattle.std.specs.Prelude.{refl};
-    ghost use Rattle.farm_types.specs.Small.{IsSmallBoard};
-    ghost use Rattle.farm_store.specs.Columns.{board_columns};
-    ghost use Rattle.farm_store.specs.Places.{of_boards};
-
-    ghost place = { of_boards };
-
-    ghost columns = { λ row. board_columns row.row.now };
-
-    ghost IsSmall = { λ row. IsSmallBoard row.row.now };
-
-    fn put<S: Alter>(&self, tx: &mut Transaction<'_, S>) -> Result<usize, Error> {
-        tx.execute(PUT, &board_columns(self.row, self.text.as_str()))
-    }
-
-    ghost is_place = { record { own = λ T rows. refl; over = λ T rows more. refl; same = λ T. refl } };
-}
-
 impl Stored for BoardRow {
     ghost use Rattle.std.specs.Prelude.{refl};
+    ghost use Rattle.farm_types.specs.Small.{IsSmallBoard};
+    ghost use Rattle.farm_types.specs.Tags.{tags_text};
     ghost use Rattle.farm_store.specs.Columns.{board_columns};
     ghost use Rattle.farm_store.specs.Places.{of_boards};
     ghost use Rattle.farm_store.specs.Readable.{IsReadableBoard};
@@ -133,7 +111,11 @@ impl Stored for BoardRow {
 
     ghost columns = { λ _. board_columns };
 
+    ghost tags_text_of = { λ row. tags_text row.tags };
+
     ghost IsGood = { λ _. IsReadableBoard };
+
+    ghost IsSmall = { IsSmallBoard };
 
     #[tactic(auto, using(crate::proofs::RowSelects::asks_boards))]
     fn query() -> &'static str {
@@ -153,5 +135,15 @@ impl Stored for BoardRow {
         })
     }
 
+    fn tags_text(&self, _alloc: Global) -> Result<String, AllocError> {
+        self.tags.text()
+    }
+
+    fn put<S: Alter>(&self, tags: &str, tx: &mut Transaction<'_, S>) -> Result<usize, Error> {
+        tx.execute(PUT, &board_columns(self, tags))
+    }
+
     ghost wide = { λ _ x. refl };
+
+    ghost is_place = { record { own = λ T rows. refl; over = λ T rows more. refl; same = λ T. refl } };
 }

@@ -16,33 +16,25 @@ ghost use Rattle.farm_store.specs.Schema.{jobs_table};
 ghost use Rattle.farm_store.specs.declared.edition.Edition.{Edition};
 
 use crate::queries::rows::{
-    Reader, Stored, body_at, checking_at, job_state_at, name_at, name_if_any_at, number_at,
-    outcome_at, priority_at, tags_at,
+    Reader, body_at, checking_at, job_state_at, name_at, name_if_any_at, number_at, outcome_at,
+    priority_at, tags_at,
 };
+use crate::stored::Stored;
 use crate::tables::{are_columns, is_numbered};
-use crate::upserts::{Tagged, Upsert, name, name_if_any, number, text};
+use crate::upserts::{name, name_if_any, number, text};
 use farm_types::{JobRow, Want, WordFault};
 use sqlite::types::ValueRef;
 use sqlite::{Alter, Error, Row, Transaction};
 use sqlite_schema::schema::Table;
+use std::alloc::{AllocError, Global};
 
 /// Its columns, in this order, and what `statement` makes of them.
 macro_rules! columns {
     ($statement:ident) => {
         crate::statements::$statement!("jobs" ["number"]
-            "number" "INTEGER",
-            "grp" "INTEGER",
-            "checking" "INTEGER",
-            "owner" "TEXT",
-            "priority" "INTEGER",
-            "kind" "TEXT",
-            "tags" "TEXT",
-            "role" "TEXT",
-            "state" "INTEGER",
-            "outcome" "INTEGER",
-            "board" "TEXT",
-            "body" "TEXT"
-        )
+            "number" "INTEGER", "grp" "INTEGER", "checking" "INTEGER", "owner" "TEXT",
+            "priority" "INTEGER", "kind" "TEXT", "tags" "TEXT", "role" "TEXT", "state" "INTEGER",
+            "outcome" "INTEGER", "board" "TEXT", "body" "TEXT")
     };
 }
 
@@ -142,27 +134,10 @@ pub(crate) fn raise_jobs<S: Alter>(
     raise_window(tx, from, END)
 }
 
-impl Upsert for Tagged<'_, JobRow> {
-    ghost use Rattle.std.specs.Prelude.{refl};
-    ghost use Rattle.farm_types.specs.Small.{IsSmallJob};
-    ghost use Rattle.farm_store.specs.Columns.{job_columns};
-    ghost use Rattle.farm_store.specs.Places.{of_jobs};
-
-    ghost place = { of_jobs };
-
-    ghost columns = { λ row. job_columns row.row.now };
-
-    ghost IsSmall = { λ row. IsSmallJob row.row.now };
-
-    fn put<S: Alter>(&self, tx: &mut Transaction<'_, S>) -> Result<usize, Error> {
-        tx.execute(PUT, &job_columns(self.row, self.text.as_str()))
-    }
-
-    ghost is_place = { record { own = λ T rows. refl; over = λ T rows more. refl; same = λ T. refl } };
-}
-
 impl Stored for JobRow {
     ghost use Rattle.std.specs.Prelude.{refl};
+    ghost use Rattle.farm_types.specs.Small.{IsSmallJob};
+    ghost use Rattle.farm_types.specs.Tags.{tags_text};
     ghost use Rattle.farm_store.specs.Editions.{IsReadableJobIn, job_columns_in};
     ghost use Rattle.farm_store.specs.Places.{of_jobs};
 
@@ -170,7 +145,11 @@ impl Stored for JobRow {
 
     ghost columns = { job_columns_in };
 
+    ghost tags_text_of = { λ row. tags_text row.want.tags };
+
     ghost IsGood = { IsReadableJobIn };
+
+    ghost IsSmall = { IsSmallJob };
 
     #[tactic(auto, using(crate::proofs::RowSelects::asks_jobs))]
     fn query() -> &'static str {
@@ -196,5 +175,15 @@ impl Stored for JobRow {
         })
     }
 
+    fn tags_text(&self, _alloc: Global) -> Result<String, AllocError> {
+        self.want.tags.text()
+    }
+
+    fn put<S: Alter>(&self, tags: &str, tx: &mut Transaction<'_, S>) -> Result<usize, Error> {
+        tx.execute(PUT, &job_columns(self, tags))
+    }
+
     ghost wide = { λ _ x. refl };
+
+    ghost is_place = { record { own = λ T rows. refl; over = λ T rows more. refl; same = λ T. refl } };
 }

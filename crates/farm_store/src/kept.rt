@@ -5,25 +5,22 @@ ghost use Rattle.farm_types.specs.Small.{IsSmallKept};
 ghost use Rattle.farm_store.specs.Columns.{kept_columns};
 ghost use Rattle.farm_store.specs.Schema.{kept_table};
 
-use crate::queries::rows::{Reader, Stored, key_at, name_at, number_at};
+use crate::queries::rows::{Reader, key_at, name_at, number_at};
+use crate::stored::Stored;
 use crate::tables::{are_columns, is_keyed};
-use crate::upserts::{Upsert, name, number, text};
+use crate::upserts::{name, number, text};
 use farm_types::{KeptRow, Reply, WordFault};
 use sqlite::types::ValueRef;
 use sqlite::{Alter, Error, Row, Transaction};
 use sqlite_schema::schema::Table;
+use std::alloc::{AllocError, Global};
 
 /// Its columns, in this order, and what `statement` makes of them.
 macro_rules! columns {
     ($statement:ident) => {
         crate::statements::$statement!("kept" ["caller", "ckey"]
-            "caller" "TEXT",
-            "ckey" "TEXT",
-            "kind" "INTEGER",
-            "a" "INTEGER",
-            "b" "INTEGER",
-            "c" "INTEGER"
-        )
+            "caller" "TEXT", "ckey" "TEXT", "kind" "INTEGER", "a" "INTEGER", "b" "INTEGER",
+            "c" "INTEGER")
     };
 }
 
@@ -55,27 +52,9 @@ fn kept_columns(row: &KeptRow) -> [ValueRef<'_>; 6]
     ]
 }
 
-impl Upsert for KeptRow {
-    ghost use Rattle.std.specs.Prelude.{refl};
-    ghost use Rattle.farm_types.specs.Small.{IsSmallKept};
-    ghost use Rattle.farm_store.specs.Columns.{kept_columns};
-    ghost use Rattle.farm_store.specs.Places.{of_kept};
-
-    ghost place = { of_kept };
-
-    ghost columns = { kept_columns };
-
-    ghost IsSmall = { IsSmallKept };
-
-    fn put<S: Alter>(&self, tx: &mut Transaction<'_, S>) -> Result<usize, Error> {
-        tx.execute(PUT, &kept_columns(self))
-    }
-
-    ghost is_place = { record { own = λ T rows. refl; over = λ T rows more. refl; same = λ T. refl } };
-}
-
 impl Stored for KeptRow {
-    ghost use Rattle.std.specs.Prelude.{refl};
+    ghost use Rattle.std.specs.Prelude.{refl, []};
+    ghost use Rattle.farm_types.specs.Small.{IsSmallKept};
     ghost use Rattle.farm_store.specs.Columns.{kept_columns};
     ghost use Rattle.farm_store.specs.Places.{of_kept};
     ghost use Rattle.farm_store.specs.Readable.{IsReadableKept};
@@ -84,7 +63,11 @@ impl Stored for KeptRow {
 
     ghost columns = { λ _. kept_columns };
 
+    ghost tags_text_of = { λ _. [] };
+
     ghost IsGood = { λ _. IsReadableKept };
+
+    ghost IsSmall = { IsSmallKept };
 
     #[tactic(auto, using(crate::proofs::RowSelects::asks_kept))]
     fn query() -> &'static str {
@@ -100,5 +83,15 @@ impl Stored for KeptRow {
         })
     }
 
+    fn tags_text(&self, alloc: Global) -> Result<String, AllocError> {
+        Ok(String::new(alloc))
+    }
+
+    fn put<S: Alter>(&self, _tags: &str, tx: &mut Transaction<'_, S>) -> Result<usize, Error> {
+        tx.execute(PUT, &kept_columns(self))
+    }
+
     ghost wide = { λ _ x. refl };
+
+    ghost is_place = { record { own = λ T rows. refl; over = λ T rows more. refl; same = λ T. refl } };
 }

@@ -20,6 +20,7 @@ mod raising;
 mod reservations;
 mod schema;
 mod statements;
+mod stored;
 mod tables;
 mod types;
 mod upserts;

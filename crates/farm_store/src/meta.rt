@@ -30,9 +30,7 @@ use sqlite_schema::schema::Table;
 macro_rules! columns {
     ($statement:ident) => {
         crate::statements::$statement!("meta" ["name"]
-            "name" "TEXT",
-            "value" "INTEGER"
-        )
+            "name" "TEXT", "value" "INTEGER")
     };
 }
 

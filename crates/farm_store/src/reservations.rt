@@ -7,27 +7,23 @@ ghost use Rattle.farm_store.specs.Columns.{res_columns};
 ghost use Rattle.farm_store.specs.Schema.{reservations_table};
 
 use crate::queries::rows::{
-    Reader, Stored, name_at, name_if_any_at, number_at, priority_at, res_state_at, tags_at,
+    Reader, name_at, name_if_any_at, number_at, priority_at, res_state_at, tags_at,
 };
+use crate::stored::Stored;
 use crate::tables::{are_columns, is_numbered};
-use crate::upserts::{Tagged, Upsert, name, name_if_any, number, text};
+use crate::upserts::{name, name_if_any, number, text};
 use farm_types::{ResRow, Want, WordFault};
 use sqlite::types::ValueRef;
 use sqlite::{Alter, Error, Row, Transaction};
 use sqlite_schema::schema::Table;
+use std::alloc::{AllocError, Global};
 
 /// Its columns, in this order, and what `statement` makes of them.
 macro_rules! columns {
     ($statement:ident) => {
         crate::statements::$statement!("reservations" ["number"]
-            "number" "INTEGER",
-            "owner" "TEXT",
-            "priority" "INTEGER",
-            "tags" "TEXT",
-            "state" "INTEGER",
-            "deadline" "INTEGER",
-            "board" "TEXT"
-        )
+            "number" "INTEGER", "owner" "TEXT", "priority" "INTEGER", "tags" "TEXT",
+            "state" "INTEGER", "deadline" "INTEGER", "board" "TEXT")
     };
 }
 
@@ -62,27 +58,10 @@ fn res_columns<'a>(row: &'a ResRow, tags: &'a str) -> [ValueRef<'a>; 7]
     ]
 }
 
-impl Upsert for Tagged<'_, ResRow> {
-    ghost use Rattle.std.specs.Prelude.{refl};
-    ghost use Rattle.farm_types.specs.Small.{IsSmallRes};
-    ghost use Rattle.farm_store.specs.Columns.{res_columns};
-    ghost use Rattle.farm_store.specs.Places.{of_reservations};
-
-    ghost place = { of_reservations };
-
-    ghost columns = { λ row. res_columns row.row.now };
-
-    ghost IsSmall = { λ row. IsSmallRes row.row.now };
-
-    fn put<S: Alter>(&self, tx: &mut Transaction<'_, S>) -> Result<usize, Error> {
-        tx.execute(PUT, &res_columns(self.row, self.text.as_str()))
-    }
-
-    ghost is_place = { record { own = λ T rows. refl; over = λ T rows more. refl; same = λ T. refl } };
-}
-
 impl Stored for ResRow {
     ghost use Rattle.std.specs.Prelude.{refl};
+    ghost use Rattle.farm_types.specs.Small.{IsSmallRes};
+    ghost use Rattle.farm_types.specs.Tags.{tags_text};
     ghost use Rattle.farm_store.specs.Columns.{res_columns};
     ghost use Rattle.farm_store.specs.Places.{of_reservations};
     ghost use Rattle.farm_store.specs.Readable.{IsReadableRes};
@@ -91,7 +70,11 @@ impl Stored for ResRow {
 
     ghost columns = { λ _. res_columns };
 
+    ghost tags_text_of = { λ row. tags_text row.want.tags };
+
     ghost IsGood = { λ _. IsReadableRes };
+
+    ghost IsSmall = { IsSmallRes };
 
     #[tactic(auto, using(crate::proofs::RowSelects::asks_reservations))]
     fn query() -> &'static str {
@@ -113,5 +96,15 @@ impl Stored for ResRow {
         })
     }
 
+    fn tags_text(&self, _alloc: Global) -> Result<String, AllocError> {
+        self.want.tags.text()
+    }
+
+    fn put<S: Alter>(&self, tags: &str, tx: &mut Transaction<'_, S>) -> Result<usize, Error> {
+        tx.execute(PUT, &res_columns(self, tags))
+    }
+
     ghost wide = { λ _ x. refl };
+
+    ghost is_place = { record { own = λ T rows. refl; over = λ T rows more. refl; same = λ T. refl } };
 }

@@ -6,22 +6,21 @@ ghost use Rattle.farm_types.specs.declared.rows.Check.{Check};
 ghost use Rattle.farm_store.specs.Columns.{type_columns, unit_code};
 ghost use Rattle.farm_store.specs.Schema.{types_table};
 
-use crate::queries::rows::{BAD, Reader, Stored, name_at, number_at};
+use crate::queries::rows::{BAD, Reader, name_at, number_at};
+use crate::stored::Stored;
 use crate::tables::{are_columns, is_keyed};
-use crate::upserts::{Upsert, name, number};
+use crate::upserts::{name, number};
 use farm_types::{Check, TypeRow, WordFault};
 use sqlite::types::ValueRef;
 use sqlite::{Alter, Error, Row, Transaction};
 use sqlite_schema::schema::Table;
+use std::alloc::{AllocError, Global};
 
 /// Its columns, in this order, and what `statement` makes of them.
 macro_rules! columns {
     ($statement:ident) => {
         crate::statements::$statement!("types" ["name"]
-            "name" "TEXT",
-            "unit" "INTEGER",
-            "every" "INTEGER"
-        )
+            "name" "TEXT", "unit" "INTEGER", "every" "INTEGER")
     };
 }
 
@@ -73,27 +72,9 @@ fn type_columns(row: &TypeRow) -> [ValueRef<'_>; 3]
     [name(&row.name), number(unit), number(every)]
 }
 
-impl Upsert for TypeRow {
-    ghost use Rattle.std.specs.Prelude.{refl};
-    ghost use Rattle.farm_types.specs.Small.{IsSmallType};
-    ghost use Rattle.farm_store.specs.Columns.{type_columns};
-    ghost use Rattle.farm_store.specs.Places.{of_types};
-
-    ghost place = { of_types };
-
-    ghost columns = { type_columns };
-
-    ghost IsSmall = { IsSmallType };
-
-    fn put<S: Alter>(&self, tx: &mut Transaction<'_, S>) -> Result<usize, Error> {
-        tx.execute(PUT, &type_columns(self))
-    }
-
-    ghost is_place = { record { own = λ T rows. refl; over = λ T rows more. refl; same = λ T. refl } };
-}
-
 impl Stored for TypeRow {
-    ghost use Rattle.std.specs.Prelude.{refl};
+    ghost use Rattle.std.specs.Prelude.{refl, []};
+    ghost use Rattle.farm_types.specs.Small.{IsSmallType};
     ghost use Rattle.farm_store.specs.Columns.{type_columns};
     ghost use Rattle.farm_store.specs.Places.{of_types};
     ghost use Rattle.farm_store.specs.Readable.{IsReadableType};
@@ -102,7 +83,11 @@ impl Stored for TypeRow {
 
     ghost columns = { λ _. type_columns };
 
+    ghost tags_text_of = { λ _. [] };
+
     ghost IsGood = { λ _. IsReadableType };
+
+    ghost IsSmall = { IsSmallType };
 
     #[tactic(auto, using(crate::proofs::RowSelects::asks_types))]
     fn query() -> &'static str {
@@ -115,5 +100,15 @@ impl Stored for TypeRow {
         Ok(TypeRow { name, check })
     }
 
+    fn tags_text(&self, alloc: Global) -> Result<String, AllocError> {
+        Ok(String::new(alloc))
+    }
+
+    fn put<S: Alter>(&self, _tags: &str, tx: &mut Transaction<'_, S>) -> Result<usize, Error> {
+        tx.execute(PUT, &type_columns(self))
+    }
+
     ghost wide = { λ _ x. refl };
+
+    ghost is_place = { record { own = λ T rows. refl; over = λ T rows more. refl; same = λ T. refl } };
 }

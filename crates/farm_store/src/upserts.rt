@@ -1,6 +1,4 @@
 //! Rows put into the tables.
-pub(crate) mod tagged;
-
 ghost use Rattle.std.specs.Prelude.{◌≡◌, ◌⊎◌, false, IsTrue, Err, IfErr, IfOk, OnOk, map, pos};
 ghost use Rattle.std.specs.Prelude.{unwrap_or, []};
 ghost use Rattle.std.specs.List.{AllByRecursion};
@@ -14,15 +12,16 @@ ghost use Rattle.farm_store.specs.Columns.{rows_of};
 ghost use Rattle.farm_store.specs.Edits.{ChangesTables, GoesOn};
 ghost use Rattle.farm_store.specs.Holds.{IsInside, KeepsDoubt, Stands, LeavesEither};
 ghost use Rattle.farm_store.specs.Places.{put_at};
-ghost use Rattle.farm_store.specs.Texts.{AreBeside};
+ghost use Rattle.farm_store.specs.Texts.{untagged};
+ghost use Rattle.farm_store.specs.declared.edition.Edition.{Edition};
 
 use crate::fault::StoreFault;
 use crate::meta::change_numbers;
-use farm_types::{BoardRow, Changes, JobRow, Name, ResRow};
+use crate::stored::{Stored, Tagged};
+use farm_types::{BoardRow, Changes, JobRow, KeptRow, Name, ResRow, TypeRow};
 use sqlite::types::ValueRef;
 use sqlite::{Alter, Connection, Error, Transaction};
 use std::alloc::{AllocError, Global};
-pub(crate) use tagged::{HasTags, Tagged};
 
 pub(crate) fn number<'a>(n: u64) -> ValueRef<'a>
     requires { IsSmall n }
@@ -50,87 +49,62 @@ pub(crate) fn name_if_any(name: &Option<Name>) -> ValueRef<'_>
     text(name.as_ref().map_or("", |name| name.as_str()))
 }
 
-/// A row that its table's statement puts, with all that its columns are made of.
-pub(crate) trait Upsert {
-    ghost use Rattle.std.specs.Prelude.{[], ◌∷◌};
-    ghost use Rattle.sqlite.specs.Held.{state};
-    ghost use Rattle.sqlite.specs.Order.{Row};
-    ghost use Rattle.farm_store.specs.Edits.{ChangesTables, GoesOn};
-    ghost use Rattle.farm_store.specs.Places.{IsTableSlot, TableSlot, put_at};
-
-    ghost place: { TableSlot };
-
-    ghost columns: { Self → Row };
-
-    ghost IsSmall: { Self → Type 0 };
-
-    /// Puts it in the place of the row with its key, or adds it. The store tells how many rows it
-    /// wrote.
-    fn put<S: Alter>(&self, tx: &mut Transaction<'_, S>) -> Result<usize, Error>
-        requires small { IsSmall self.now }
-        ensures goes_on { GoesOn S.Store tx.old tx.new }
-        ensures put { ChangesTables result (state S.Store tx.old.conn.now)
-            (state S.Store tx.new.conn.now) (λ T. put_at place T (columns self.now ∷ [])) };
-
-    /// It is one of the tables' places.
-    ghost is_place: { IsTableSlot place };
-}
-
 /// Puts each row, in this order.
-pub(crate) fn put_rows<S: Alter, R: Upsert>(
+fn put_rows<S: Alter, R: Stored>(
     tx: &mut Transaction<'_, S>,
-    rows: &[R],
+    rows: &[Tagged<'_, R>],
 ) -> Result<(), Error>
-    requires small { AllByRecursion R.IsSmall rows.now }
+    requires small { AllByRecursion R.IsSmall (untagged rows.now) }
     ensures goes_on { GoesOn S.Store tx.old tx.new }
     ensures put { ChangesTables result (state S.Store tx.old.conn.now)
-        (state S.Store tx.new.conn.now) (λ T. put_at R.place T (map R.columns rows.now)) }
+        (state S.Store tx.new.conn.now)
+        (λ T. put_at R.place T (map (R.columns Edition.Second) (untagged rows.now))) }
 {
-    for row in rows {
-        row.put(tx)?;
+    for tagged in rows {
+        tagged.row.put(tagged.text.as_str(), tx)?;
     }
     Ok(())
 }
 
 /// Each row beside the text of its tags.
-pub(crate) fn tagged_rows<R: HasTags>(
-    alloc: Global,
-    rows: &[R],
-) -> Result<Vec<Tagged<'_, R>>, AllocError>
-    ensures { IfOk result (λ tagged. AreBeside tagged.items rows.now) }
+fn tagged_rows<R: Stored>(alloc: Global, rows: &[R]) -> Result<Vec<Tagged<'_, R>>, AllocError>
+    ensures { IfOk result (λ tagged. untagged tagged.items ≡ rows.now) }
 {
     let mut tagged = Vec::new(alloc);
     for row in rows {
-        let text = row.tags().text()?;
+        let text = row.tags_text(alloc)?;
         tagged.push(Tagged { row, text })?;
     }
     Ok(tagged)
 }
 
-/// Each changed row by its table's upsert, those with tags beside their texts, and the numbers that
-/// changed.
+/// Each changed row by its table's upsert, and the numbers that changed.
 fn put_all<S: Alter>(
     tx: &mut Transaction<'_, S>,
     changes: &Changes,
+    types: &[Tagged<'_, TypeRow>],
     boards: &[Tagged<'_, BoardRow>],
     jobs: &[Tagged<'_, JobRow>],
     reservations: &[Tagged<'_, ResRow>],
+    kept: &[Tagged<'_, KeptRow>],
 ) -> Result<(), Error>
     requires small { AreSmall changes.now }
-    requires boards { AreBeside boards.now changes.now.boards.items }
-    requires jobs { AreBeside jobs.now changes.now.jobs.items }
-    requires reservations { AreBeside reservations.now changes.now.reservations.items }
+    requires types { untagged types.now ≡ changes.now.types.items }
+    requires boards { untagged boards.now ≡ changes.now.boards.items }
+    requires jobs { untagged jobs.now ≡ changes.now.jobs.items }
+    requires reservations { untagged reservations.now ≡ changes.now.reservations.items }
+    requires kept { untagged kept.now ≡ changes.now.kept.items }
     ensures goes_on { GoesOn S.Store tx.old tx.new }
     ensures put { HasCleanDisk (state S.Store tx.new.conn.now)
         → OnOk result ((F : Farm) → IsInside (state S.Store tx.old.conn.now) (rows_of F)
         → IsInside (state S.Store tx.new.conn.now) (rows_of (put_rows F changes.now))
         × IsTrue (state S.Store tx.new.conn.now).is_open) }
 {
-    put_rows(tx, &changes.types)?;
+    put_rows(tx, types)?;
     put_rows(tx, boards)?;
     put_rows(tx, jobs)?;
     put_rows(tx, reservations)?;
-    put_rows(tx, &changes.kept)?;
+    put_rows(tx, kept)?;
     change_numbers(tx, changes.meta)
 }
 
@@ -160,10 +134,20 @@ pub fn put<S: Alter>(
     ensures fault { IfErr result (λ fault. (fault ≡ StoreFault.NoMemory)
         ⊎ (fault ≡ StoreFault.Store)) }
 {
+    let types = tagged_rows(alloc, &changes.types)?;
     let boards = tagged_rows(alloc, &changes.boards)?;
     let jobs = tagged_rows(alloc, &changes.jobs)?;
     let reservations = tagged_rows(alloc, &changes.reservations)?;
+    let kept = tagged_rows(alloc, &changes.kept)?;
     let mut tx = conn.transaction();
-    put_all(&mut tx, changes, &boards, &jobs, &reservations)?;
+    put_all(
+        &mut tx,
+        changes,
+        &types,
+        &boards,
+        &jobs,
+        &reservations,
+        &kept,
+    )?;
     Ok(tx.commit()?)
 }

@@ -17,6 +17,7 @@ ghost use Rattle.farm_store.specs.Reading.{ReadsAll, ReadsAs, ReadsWord, IsNoVer
 
 use crate::edition::Edition;
 use crate::fault::StoreFault;
+use crate::stored::Stored;
 use farm_types::{
     BAD_STORE, Body, Health, JobState, Key, Name, Outcome, Priority, Refusal, ResState, State,
     Tags, WordFault,
@@ -52,38 +53,6 @@ impl Reader {
         }
         Ok(tags)
     }
-}
-
-/// What the rows of one of the tables stand for.
-pub(crate) trait Stored: Drop + Sized {
-    ghost use Rattle.std.specs.Prelude.{◌≡◌};
-    ghost use Rattle.farm_store.specs.Queries.{AsksFor};
-    ghost use Rattle.farm_store.specs.Reading.{ReadsRow};
-    ghost use Rattle.sqlite.specs.Order.{Row as Values};
-    ghost use Rattle.farm_store.specs.Places.{TableSlot};
-    ghost use Rattle.farm_store.specs.Stored.{IsWide};
-    ghost use Rattle.farm_store.specs.declared.edition.Edition.{Edition};
-
-    ghost place: { TableSlot };
-
-    ghost columns: { Edition → Self → Values };
-
-    ghost IsGood: { Edition → Self → Type 0 };
-
-    /// The query of all rows of the table, in order of their keys.
-    fn query() -> &'static str
-        ensures { AsksFor place result.now };
-
-    /// What a row of the table stands for in the reader's edition. It shares the tags that were seen.
-    /// Numbers are read before texts, whatever the columns' order: a fault of theirs leaves nothing to
-    /// drop.
-    fn of(row: &Row, reader: &mut Reader) -> Result<Self, WordFault>
-        ensures reads { ReadsRow result (IsGood reader.old.edition) (columns reader.old.edition)
-            row.now }
-        ensures edition { reader.new.edition ≡ reader.old.edition };
-
-    /// It has as many columns as the table.
-    ghost wide: { (edition : Edition) (x : Self) → IsWide place.width (columns edition x) };
 }
 
 /// What all rows of the table stand for in an edition, in order of their keys. It holds one row of

@@ -5,10 +5,12 @@ use Rattle.farm_store.specs.Columns.{TableRows}
 use Rattle.farm_store.specs.Places.{put_at}
 use Rattle.farm_store.specs.Edits.{GoesOn}
 use Rattle.farm_store.specs.Holds.{IsInside}
+use Rattle.farm_store.specs.Texts.{untagged}
+use Rattle.farm_store.specs.declared.edition.Edition.{Edition}
 use Rattle.farm_store.proofs.upserts.put_rows.Given as goal
 
-abbrev pub invariant-loop-row : goal.invariant-loop-row
-invariant-loop-row g l = record {
+abbrev pub invariant-loop-tagged : goal.invariant-loop-tagged
+invariant-loop-tagged g l = record {
   goes_on : GoesOn g.S.Store l.fn.tx l.tx;
-  put : HasCleanDisk (state g.S.Store l.tx.conn.now) → (T : TableRows) → IsInside (state g.S.Store l.fn.tx.conn.now) T → IsInside (state g.S.Store l.tx.conn.now) (put_at g.R.Upsert.place T (map g.R.Upsert.columns (take l.row-index l.rows)));
+  put : HasCleanDisk (state g.S.Store l.tx.conn.now) → (T : TableRows) → IsInside (state g.S.Store l.fn.tx.conn.now) T → IsInside (state g.S.Store l.tx.conn.now) (put_at g.R.Stored.place T (map (g.R.Stored.columns Edition.Second) (take l.tagged-index (untagged l.rows))));
 }

@@ -1,9 +1,9 @@
 use Rattle.sqlite.specs.Held.{state}
 use Rattle.farm_store.proofs.Executed.{on_executed}
 use Rattle.farm_store.proofs.RowPuts.{puts_board}
-use Rattle.farm_store.proofs.boards.TaggedBoardRowUpsert.put.Goals as goal
+use Rattle.farm_store.proofs.boards.BoardRowStored.put.Goals as goal
 
 pub returns-clause-put : goal.returns-clause-put
 returns-clause-put g c clean =
     on_executed _ _ (state g.S.Store c.args.tx.now.conn.now) (state g.S.Store c.execute.new.self.conn.now) c.execute.result (c.execute.ensures.runs clean)
-    (λ count ran T at. puts_board c.args.self.now.row.now _ _ count T at (rw c.board_columns.ensures at (ran at.inside)))
+    (λ count ran T at. puts_board c.args.self.now _ _ count T at (rw c.board_columns.ensures at (ran at.inside)))
