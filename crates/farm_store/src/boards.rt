@@ -9,10 +9,10 @@ ghost use Rattle.farm_types.specs.declared.rows.Holder.{Holder};
 ghost use Rattle.farm_store.specs.Columns.{board_columns, holder_of};
 ghost use Rattle.farm_store.specs.Schema.{boards_table};
 
-use crate::queries::rows::{BAD, Reader, health_at, name_at, number_at, state_at, tags_at};
+use crate::queries::rows::{BAD, Reader, health_at, number_at, state_at, tags_at, word_at};
 use crate::stored::Stored;
 use crate::tables::{are_columns, is_keyed};
-use crate::upserts::{name, number, text};
+use crate::upserts::{number, text, word};
 use farm_types::{BoardRow, Holder, Refusal, WordFault};
 use sqlite::types::ValueRef;
 use sqlite::{Alter, Error, Row, Transaction};
@@ -87,8 +87,8 @@ fn board_columns<'a>(row: &'a BoardRow, tags: &'a str) -> [ValueRef<'a>; 9]
 {
     let (holder, held_by) = holder_and_number(row.holder);
     [
-        name(&row.name),
-        name(&row.kind),
+        word(&row.name),
+        word(&row.kind),
         text(tags),
         number(row.health.code()),
         number(row.state.code()),
@@ -129,8 +129,8 @@ impl Stored for BoardRow {
             holder: holder_at(row, 5, 6)?,
             jobs_since: number_at(row, 7)?,
             last_check: number_at(row, 8)?,
-            name: name_at(row, 0)?,
-            kind: name_at(row, 1)?,
+            name: word_at(row, 0)?,
+            kind: word_at(row, 1)?,
             tags: tags_at(row, 2, reader)?,
         })
     }

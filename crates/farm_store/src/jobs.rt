@@ -16,12 +16,12 @@ ghost use Rattle.farm_store.specs.Schema.{jobs_table};
 ghost use Rattle.farm_store.specs.declared.edition.Edition.{Edition};
 
 use crate::queries::rows::{
-    Reader, body_at, checking_at, job_state_at, name_at, name_if_any_at, number_at, outcome_at,
-    priority_at, tags_at,
+    Reader, body_at, checking_at, job_state_at, number_at, outcome_at, priority_at, tags_at,
+    word_at, word_if_any_at,
 };
 use crate::stored::Stored;
 use crate::tables::{are_columns, is_numbered};
-use crate::upserts::{name, name_if_any, number, text};
+use crate::upserts::{number, text, word, word_if_any};
 use farm_types::{JobRow, Want, WordFault};
 use sqlite::types::ValueRef;
 use sqlite::{Alter, Error, Row, Transaction};
@@ -75,14 +75,14 @@ fn job_columns<'a>(row: &'a JobRow, tags: &'a str) -> [ValueRef<'a>; 12]
         number(row.number),
         number(row.group),
         number(if row.checking { 1 } else { 0 }),
-        name(&row.owner),
+        word(&row.owner),
         number(row.priority.get()),
-        name_if_any(&row.want.kind),
+        word_if_any(&row.want.kind),
         text(tags),
-        name_if_any(&row.role),
+        word_if_any(&row.role),
         number(row.state.code()),
         number(row.outcome.map_or(0, |outcome| outcome.code())),
-        name_if_any(&row.board),
+        word_if_any(&row.board),
         text(row.body.as_str()),
     ]
 }
@@ -164,13 +164,13 @@ impl Stored for JobRow {
             priority: priority_at(row, 4)?,
             state: job_state_at(row, 8, reader.edition)?,
             outcome: outcome_at(row, 9)?,
-            owner: name_at(row, 3)?,
+            owner: word_at(row, 3)?,
             want: Want {
-                kind: name_if_any_at(row, 5)?,
+                kind: word_if_any_at(row, 5)?,
                 tags: tags_at(row, 6, reader)?,
             },
-            role: name_if_any_at(row, 7)?,
-            board: name_if_any_at(row, 10)?,
+            role: word_if_any_at(row, 7)?,
+            board: word_if_any_at(row, 10)?,
             body: body_at(row, 11, reader)?,
         })
     }

@@ -5,10 +5,10 @@ ghost use Rattle.farm_types.specs.Small.{IsSmallKept};
 ghost use Rattle.farm_store.specs.Columns.{kept_columns};
 ghost use Rattle.farm_store.specs.Schema.{kept_table};
 
-use crate::queries::rows::{Reader, key_at, name_at, number_at};
+use crate::queries::rows::{Reader, number_at, word_at};
 use crate::stored::Stored;
 use crate::tables::{are_columns, is_keyed};
-use crate::upserts::{name, number, text};
+use crate::upserts::{number, word};
 use farm_types::{KeptRow, Reply, WordFault};
 use sqlite::types::ValueRef;
 use sqlite::{Alter, Error, Row, Transaction};
@@ -43,8 +43,8 @@ fn kept_columns(row: &KeptRow) -> [ValueRef<'_>; 6]
     ensures { bound result ≡ kept_columns row.now }
 {
     [
-        name(&row.caller),
-        text(row.key.as_str()),
+        word(&row.caller),
+        word(&row.key),
         number(row.kind),
         number(row.reply.0),
         number(row.reply.1),
@@ -78,8 +78,8 @@ impl Stored for KeptRow {
         Ok(KeptRow {
             kind: number_at(row, 2)?,
             reply: Reply(number_at(row, 3)?, number_at(row, 4)?, number_at(row, 5)?),
-            caller: name_at(row, 0)?,
-            key: key_at(row, 1)?,
+            caller: word_at(row, 0)?,
+            key: word_at(row, 1)?,
         })
     }
 

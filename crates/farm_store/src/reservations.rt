@@ -7,11 +7,11 @@ ghost use Rattle.farm_store.specs.Columns.{res_columns};
 ghost use Rattle.farm_store.specs.Schema.{reservations_table};
 
 use crate::queries::rows::{
-    Reader, name_at, name_if_any_at, number_at, priority_at, res_state_at, tags_at,
+    Reader, number_at, priority_at, res_state_at, tags_at, word_at, word_if_any_at,
 };
 use crate::stored::Stored;
 use crate::tables::{are_columns, is_numbered};
-use crate::upserts::{name, name_if_any, number, text};
+use crate::upserts::{number, text, word, word_if_any};
 use farm_types::{ResRow, Want, WordFault};
 use sqlite::types::ValueRef;
 use sqlite::{Alter, Error, Row, Transaction};
@@ -49,12 +49,12 @@ fn res_columns<'a>(row: &'a ResRow, tags: &'a str) -> [ValueRef<'a>; 7]
 {
     [
         number(row.number),
-        name(&row.owner),
+        word(&row.owner),
         number(row.priority.get()),
         text(tags),
         number(row.state.code()),
         number(row.deadline),
-        name_if_any(&row.board),
+        word_if_any(&row.board),
     ]
 }
 
@@ -87,12 +87,12 @@ impl Stored for ResRow {
             priority: priority_at(row, 2)?,
             state: res_state_at(row, 4)?,
             deadline: number_at(row, 5)?,
-            owner: name_at(row, 1)?,
+            owner: word_at(row, 1)?,
             want: Want {
                 kind: None,
                 tags: tags_at(row, 3, reader)?,
             },
-            board: name_if_any_at(row, 6)?,
+            board: word_if_any_at(row, 6)?,
         })
     }
 

@@ -6,10 +6,10 @@ ghost use Rattle.farm_types.specs.declared.rows.Check.{Check};
 ghost use Rattle.farm_store.specs.Columns.{type_columns, unit_code};
 ghost use Rattle.farm_store.specs.Schema.{types_table};
 
-use crate::queries::rows::{BAD, Reader, name_at, number_at};
+use crate::queries::rows::{BAD, Reader, number_at, word_at};
 use crate::stored::Stored;
 use crate::tables::{are_columns, is_keyed};
-use crate::upserts::{name, number};
+use crate::upserts::{number, word};
 use farm_types::{Check, TypeRow, WordFault};
 use sqlite::types::ValueRef;
 use sqlite::{Alter, Error, Row, Transaction};
@@ -69,7 +69,7 @@ fn type_columns(row: &TypeRow) -> [ValueRef<'_>; 3]
     ensures { bound result ≡ type_columns row.now }
 {
     let (unit, every) = unit_and_every(row.check);
-    [name(&row.name), number(unit), number(every)]
+    [word(&row.name), number(unit), number(every)]
 }
 
 impl Stored for TypeRow {
@@ -96,7 +96,7 @@ impl Stored for TypeRow {
 
     fn of(row: &Row, _reader: &mut Reader) -> Result<TypeRow, WordFault> {
         let check = check_of(number_at(row, 1)?, number_at(row, 2)?).ok_or(BAD)?;
-        let name = name_at(row, 0)?;
+        let name = word_at(row, 0)?;
         Ok(TypeRow { name, check })
     }
 

@@ -18,7 +18,7 @@ ghost use Rattle.farm_store.specs.declared.edition.Edition.{Edition};
 use crate::fault::StoreFault;
 use crate::meta::change_numbers;
 use crate::stored::{Stored, Tagged};
-use farm_types::{BoardRow, Changes, JobRow, KeptRow, Name, ResRow, TypeRow};
+use farm_types::{BoardRow, Changes, JobRow, KeptRow, ResRow, TypeRow, Word};
 use sqlite::types::ValueRef;
 use sqlite::{Alter, Connection, Error, Transaction};
 use std::alloc::{AllocError, Global};
@@ -36,17 +36,22 @@ pub(crate) fn text(text: &str) -> ValueRef<'_>
     ValueRef::Text(text.as_bytes())
 }
 
-pub(crate) fn name(name: &Name) -> ValueRef<'_>
-    ensures { owned result ≡ Text name.now }
+pub(crate) fn word<const MOST: usize, const CODE: u16>(word: &Word<MOST, CODE>) -> ValueRef<'_>
+    ensures { owned result ≡ Text word.now }
 {
-    text(name.as_str())
+    text(word.as_str())
 }
 
-/// The empty text stands for no name.
-pub(crate) fn name_if_any(name: &Option<Name>) -> ValueRef<'_>
-    ensures { owned result ≡ Text (unwrap_or name.now []) }
+/// The empty text stands for no word.
+pub(crate) fn word_if_any<const MOST: usize, const CODE: u16>(
+    word: &Option<Word<MOST, CODE>>,
+) -> ValueRef<'_>
+    ensures { owned result ≡ Text (unwrap_or word.now []) }
 {
-    text(name.as_ref().map_or("", |name| name.as_str()))
+    text(match word {
+        Some(word) => word.as_str(),
+        None => "",
+    })
 }
 
 /// Puts each row, in this order.

@@ -6,7 +6,7 @@ ghost use Rattle.sqlite.specs.Held.{state};
 ghost use Rattle.sqlite.specs.State.{HasCleanDisk};
 ghost use Rattle.sqlite.specs.declared.types.Value.TheVariants.{Int, Text};
 ghost use Rattle.sqlite_value.specs.Order.{column};
-ghost use Rattle.farm_types.specs.Words.{IsName, IsKey, IsTags, IsText};
+ghost use Rattle.farm_types.specs.Words.{IsTags, IsText, is_word};
 ghost use Rattle.farm_types.specs.Limits.{is_priority};
 ghost use Rattle.farm_types.specs.Tags.{tags_text};
 ghost use Rattle.farm_types.specs.Codes.{health_code, state_code, outcome_code, res_state_code};
@@ -19,8 +19,8 @@ use crate::edition::Edition;
 use crate::fault::StoreFault;
 use crate::stored::Stored;
 use farm_types::{
-    BAD_STORE, Body, Health, JobState, Key, Name, Outcome, Priority, Refusal, ResState, State,
-    Tags, WordFault,
+    BAD_STORE, Body, Health, JobState, Outcome, Priority, Refusal, ResState, State, Tags, Word,
+    WordFault,
 };
 use sqlite::types::ValueRef;
 use sqlite::{Alter, Connection, Row};
@@ -114,28 +114,28 @@ pub(crate) fn number_at(row: &Row, at: usize) -> Result<u64, Refusal>
     }
 }
 
-pub(crate) fn name_at(row: &Row, at: usize) -> Result<Name, Refusal>
-    ensures { ReadsAs result IsName Text (column row.now at) }
+pub(crate) fn word_at<const MOST: usize, const CODE: u16>(
+    row: &Row,
+    at: usize,
+) -> Result<Word<MOST, CODE>, Refusal>
+    ensures { ReadsAs result (λ word. IsTrue (is_word MOST word)) Text (column row.now at) }
 {
-    Name::parse(text_at(row, at)?)
+    Word::parse(text_at(row, at)?)
 }
 
-/// No name where the text is empty.
-pub(crate) fn name_if_any_at(row: &Row, at: usize) -> Result<Option<Name>, Refusal>
-    ensures { ReadsAs result (λ name. IfSome name IsName) (λ name. Text (unwrap_or name []))
-        (column row.now at) }
+/// No word where the text is empty.
+pub(crate) fn word_if_any_at<const MOST: usize, const CODE: u16>(
+    row: &Row,
+    at: usize,
+) -> Result<Option<Word<MOST, CODE>>, Refusal>
+    ensures { ReadsAs result (λ word. IfSome word (λ w. IsTrue (is_word MOST w)))
+        (λ word. Text (unwrap_or word [])) (column row.now at) }
 {
     let text = text_at(row, at)?;
     if text.is_empty() {
         return Ok(None);
     }
-    Ok(Some(Name::parse(text)?))
-}
-
-pub(crate) fn key_at(row: &Row, at: usize) -> Result<Key, Refusal>
-    ensures { ReadsAs result IsKey Text (column row.now at) }
-{
-    Key::parse(text_at(row, at)?)
+    Ok(Some(Word::parse(text)?))
 }
 
 pub(crate) fn tags_at(row: &Row, at: usize, reader: &mut Reader) -> Result<Tags, WordFault>
