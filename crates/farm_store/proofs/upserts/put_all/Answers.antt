@@ -1,28 +1,11 @@
 use Rattle.std.proofs.Common.{sym, subst}
-use Rattle.std.specs.List.{AllByRecursion}
 use Rattle.sqlite.specs.Held.{state}
 use Rattle.sqlite_rules.proofs.ViewLemmas.{on_ok_both}
-use Rattle.farm_types.specs.Small.{IsSmallBoard, IsSmallJob, IsSmallKept, IsSmallRes, IsSmallType}
 use Rattle.farm_store.specs.Columns.{numbers_of, rows_of}
 use Rattle.farm_store.specs.Holds.{IsInside}
 use Rattle.farm_store.proofs.Commute.{commutes, numbers_there}
 use Rattle.farm_store.proofs.GoingOn.{was_clean}
 use Rattle.farm_store.proofs.upserts.put_all.Goals as goal
-
-pub put_rows-requires : goal.put_rows-requires
-put_rows-requires g c = record { small = subst (AllByRecursion IsSmallType) (sym c.requires.types) c.requires.small.types }
-
-pub put_rows-requires-2 : goal.put_rows-requires-2
-put_rows-requires-2 g c = record { small = subst (AllByRecursion IsSmallBoard) (sym c.requires.boards) c.requires.small.boards }
-
-pub put_rows-requires-3 : goal.put_rows-requires-3
-put_rows-requires-3 g c = record { small = subst (AllByRecursion IsSmallJob) (sym c.requires.jobs) c.requires.small.jobs }
-
-pub put_rows-requires-4 : goal.put_rows-requires-4
-put_rows-requires-4 g c = record { small = subst (AllByRecursion IsSmallRes) (sym c.requires.reservations) c.requires.small.reservations }
-
-pub put_rows-requires-5 : goal.put_rows-requires-5
-put_rows-requires-5 g c = record { small = subst (AllByRecursion IsSmallKept) (sym c.requires.kept) c.requires.small.kept }
 
 pub returns-clause-put : goal.returns-clause-put
 returns-clause-put g c clean = on_ok_both c.change_numbers.result (λ put opened F at.
