@@ -43,7 +43,7 @@ const META: &str = "CREATE TABLE meta(name TEXT PRIMARY KEY NOT NULL, \
     value INTEGER NOT NULL) STRICT";
 
 /// Puts a number into the row with its name, or adds it.
-const PUT: &str = "INSERT INTO meta VALUES (?1, ?2) ON CONFLICT (name) DO \
+const PUT: &str = "INSERT INTO meta VALUES (:name, :value) ON CONFLICT (name) DO \
     UPDATE SET value = excluded.value";
 
 /// The tables of the empty farm as the first edition kept them: the premises of `upgrade` and of
