@@ -171,7 +171,7 @@ impl Context {
     /// Converses as `converse_counted` does, and ends as the answer that was due ends it, also
     /// where that answer was lost: so a keeper's fault is known in each case.
     pub(crate) fn converse<R: Input, W: Output, S: Alter>(
-        &self,
+        &mut self,
         keeper: &mut Keeper<S>,
         reader: &mut CountedReader<'_, R>,
         writer: &mut CountedWriter<'_, W>,
@@ -209,7 +209,7 @@ impl Context {
 
     /// The answer that is due, unless the reader returned no request.
     fn response<R: Input, S: Alter>(
-        &self,
+        &mut self,
         keeper: &mut Keeper<S>,
         reader: &mut CountedReader<'_, R>,
         now: u64,
@@ -234,7 +234,7 @@ impl Context {
 
     /// Reads one request and returns what it asks at a moment.
     pub(crate) fn receive<R: Input>(
-        &self,
+        &mut self,
         reader: &mut CountedReader<'_, R>,
         now: u64,
     ) -> Result<Ask, ReceiveError>
@@ -253,11 +253,11 @@ impl Context {
     }
 
     /// What a request asks at a moment.
-    fn ask_of(&self, taken: &Taken, now: u64) -> Result<Ask, AskFault>
+    fn ask_of(&mut self, taken: &Taken, now: u64) -> Result<Ask, AskFault>
         ensures { (request : Request) → ParsesTo taken.now.bytes.items taken.now.head request
             → OrNoMemory denial_of shown_ask result (ask request now) }
     {
-        match &self.routes {
+        match &mut self.routes {
             Some(routes) => routes.ask(self.alloc, taken, now),
             None => Ask::of(self.alloc, taken, now),
         }

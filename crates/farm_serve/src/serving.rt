@@ -50,7 +50,7 @@ pub fn serve<S: Alter, K: Clients>(
     if keeper.farm().is_none() {
         return Err(DeskFault::Keep(KeepFault::Closed));
     }
-    let context = Context::new(alloc, Routes::new(alloc).ok());
+    let mut context = Context::new(alloc, Routes::new(alloc).ok());
     for _ in 0..max {
         if clients.is_over() {
             return Ok(());
@@ -63,7 +63,7 @@ pub fn serve<S: Alter, K: Clients>(
 impl Context {
     /// Serves the next client, if there is one.
     fn serve_next<S: Alter, K: Clients>(
-        &self,
+        &mut self,
         keeper: &mut Keeper<S>,
         clients: &mut K,
     ) -> Result<(), DeskFault>
@@ -85,7 +85,7 @@ impl Context {
     /// Answers one request as `converse` does, and returns the keeper's fault where that closed it,
     /// also where the answer was lost.
     fn serve_one<R: Input, W: Output, S: Alter>(
-        &self,
+        &mut self,
         keeper: &mut Keeper<S>,
         reader: &mut R,
         writer: &mut W,

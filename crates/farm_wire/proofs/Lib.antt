@@ -4,4 +4,5 @@ pub mod PathLaws
 pub mod PathLemmas
 pub mod PlainLemmas
 pub mod RouteLemmas
+pub mod ValueLemmas
 pub mod WrittenLemmas

@@ -1,6 +1,6 @@
 -- A body that is read, and one that is not.
-use Rattle.std.proofs.Common.{◌≡◌, ℕ, List, Bool, true, false, refl, sym, ap, ◌∙◌, Ok, Err}
-use Rattle.std.specs.Prelude.{Option, Some, None, is_some, option_map, IsUtf8, if◌then◌else◌}
+use Rattle.std.proofs.Common.{◌≡◌, ℕ, List, Bool, true, false, refl, ap, ◌∙◌, Ok, Err}
+use Rattle.std.specs.Prelude.{Some, None, is_some, IsUtf8, if◌then◌else◌}
 use Rattle.std.specs.Str.{is_utf8}
 use Rattle.std.proofs.lemmas.Str.{IsUtf8-from_is_utf8, is_utf8-from_IsUtf8}
 use Rattle.serde_json.specs.Data.{Data}
@@ -8,10 +8,6 @@ use Rattle.serde_json.specs.Read.{read}
 use Rattle.serde_json.specs.Find.{as_object}
 use Rattle.farm_types.specs.Refusals.{bad_request}
 use Rattle.farm_wire.specs.Fields.{object_in, object_or}
-
-pub some_object : {X Y : Type 0} (f : X → Y) (r : Option X) (o : Option Y) → option_map f r ≡ o → is_some r ≡ true → is_some o ≡ true
-some_object f None o e n = cc
-some_object f (Some x) o e n = ap is_some (sym e)
 
 pub body_ok : (body : List ℕ) (d : Data) → IsUtf8 body → read body ≡ Some d → is_some (as_object d) ≡ true → object_in body ≡ Ok d
 unfolding object_in

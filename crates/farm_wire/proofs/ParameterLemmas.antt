@@ -1,5 +1,5 @@
 -- The first segment behind the front of a path.
-use Rattle.std.proofs.Common.{◌≡◌, ℕ, List, [], ◌∷◌, ◌++◌, length, take, drop, Bool, true, false, cond, not, refl, ap, ◌∙◌, ◌==◌, nat_eq, ◌+◌, suc, arith}
+use Rattle.std.proofs.Common.{◌≡◌, ℕ, List, [], ◌∷◌, ◌++◌, take, Bool, true, false, cond, not, refl, ap, ◌∙◌, ◌==◌, nat_eq, ◌+◌, suc, arith}
 use Rattle.std.proofs.Math.Seq.{drop-append_seam}
 use Rattle.std.specs.List.{before_first, prefix_len}
 use Rattle.matchit.specs.Seek.{has_slash}

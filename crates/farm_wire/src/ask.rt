@@ -17,6 +17,7 @@ use crate::head::{caller_of, job_of, key_of, reservation_of};
 use crate::router::{CommandKind, Endpoint, Route, ViewKind, all_paths};
 use farm_http::{Parts, Taken, parts_of};
 use farm_types::{Call, Cmd, NO_ROUTE, Refusal};
+use json::Scratch;
 use matchit::Router;
 use std::alloc::{AllocError, Global};
 
@@ -38,10 +39,13 @@ pub enum View {
     Job(u64),
 }
 
-/// The router of the paths, built once and lent to each request.
+/// The router of the paths, and the workspace that bodies are read with: built once and lent to each
+/// request.
 #[derive(Drop)]
 pub struct Routes {
     router: Router<Route>,
+    /// It keeps as much memory as the longest body had bytes.
+    scratch: Scratch,
     ghost table: { ∥ router ≡ rows ∥₁ },
 }
 
@@ -49,12 +53,13 @@ impl Routes {
     /// Builds the router of the paths: seventeen routes, each compared with those before it.
     pub fn new(alloc: Global) -> Result<Routes, AllocError> {
         let router = all_paths(alloc)?;
-        Ok(Routes { router })
+        let scratch = Scratch::new(alloc);
+        Ok(Routes { router, scratch })
     }
 
     /// What a request asks at a moment, or the first refusal. A POST costs what its body is long, a
     /// GET what its path is; memory is taken for the body alone, its JSON and its words.
-    pub fn ask(&self, alloc: Global, taken: &Taken, now: u64) -> Result<Ask, AskFault>
+    pub fn ask(&mut self, alloc: Global, taken: &Taken, now: u64) -> Result<Ask, AskFault>
         ensures { (request : Request) → ParsesTo taken.now.bytes.items taken.now.head request
             → OrNoMemory denial_of shown_ask result (ask request now) }
     {
@@ -63,7 +68,7 @@ impl Routes {
 
     /// What the parts of a request ask.
     #[tactic(auto, unfolding(crate::specs::Asked::ask, crate::specs::Asked::endpoint_in))]
-    fn meaning(&self, alloc: Global, parts: &Parts<'_>, now: u64) -> Result<Ask, AskFault>
+    fn meaning(&mut self, alloc: Global, parts: &Parts<'_>, now: u64) -> Result<Ask, AskFault>
         ensures { OrNoMemory denial_of shown_ask result (ask parts.now now) }
     {
         let path = path_of(parts.target()).map_err(AskFault::Refused)?;
@@ -71,7 +76,7 @@ impl Routes {
         let Some(endpoint) = route.endpoint(parts.method()) else {
             return Err(AskFault::Method(route.allowed()));
         };
-        Ok(asked_at(alloc, endpoint, path, parts, now)?)
+        Ok(asked_at(alloc, &mut self.scratch, endpoint, path, parts, now)?)
     }
 
     /// Where a path leads.
@@ -93,7 +98,7 @@ impl Ask {
         ensures { (request : Request) → ParsesTo taken.now.bytes.items taken.now.head request
             → OrNoMemory denial_of shown_ask result (ask request now) }
     {
-        let routes = Routes::new(alloc).map_err(|_| AskFault::NoMemory)?;
+        let mut routes = Routes::new(alloc).map_err(|_| AskFault::NoMemory)?;
         routes.ask(alloc, taken, now)
     }
 }
@@ -117,12 +122,19 @@ fn before_query(target: &str) -> &str
 
 /// What a request asks of a path whose method leads there.
 #[tactic(auto, unfolding(crate::specs::Asked::asked_at))]
-fn asked_at(alloc: Global, endpoint: Endpoint, path: &str, parts: &Parts<'_>, now: u64) -> Read<Ask>
+fn asked_at(
+    alloc: Global,
+    scratch: &mut Scratch,
+    endpoint: Endpoint,
+    path: &str,
+    parts: &Parts<'_>,
+    now: u64,
+) -> Read<Ask>
     ensures { OrNoMemory refused_code shown_ask result (asked_at endpoint path.now parts.now now) }
 {
     match endpoint {
         Endpoint::View(kind) => Ok(Ask::View(view_of(kind, path)?)),
-        Endpoint::Command(kind) => call_of(alloc, kind, path, parts, now),
+        Endpoint::Command(kind) => call_of(alloc, scratch, kind, path, parts, now),
     }
 }
 
@@ -143,32 +155,45 @@ fn view_of(kind: ViewKind, path: &str) -> Result<View, Refusal>
 
 /// The call of a request, its caller looked at first and its body last.
 #[tactic(auto, unfolding(crate::specs::Asked::call_in))]
-fn call_of(alloc: Global, kind: CommandKind, path: &str, parts: &Parts<'_>, now: u64) -> Read<Ask>
+fn call_of(
+    alloc: Global,
+    scratch: &mut Scratch,
+    kind: CommandKind,
+    path: &str,
+    parts: &Parts<'_>,
+    now: u64,
+) -> Read<Ask>
     ensures { OrNoMemory refused_code shown_ask result (call_in kind path.now parts.now now) }
 {
     let caller = caller_of(parts)?;
     let key = key_of(parts)?;
-    let cmd = command_of(alloc, kind, path, parts.body())?;
+    let cmd = command_of(alloc, scratch, kind, path, parts.body())?;
     Ok(Ask::Call(Call::new(caller, key, now, cmd)))
 }
 
 /// The command of a kind that a path and a body spell.
 #[tactic(auto, unfolding(crate::specs::Commands::command_in, farm_types::specs::Proper::is_proper_cmd))]
-fn command_of(alloc: Global, kind: CommandKind, path: &str, body: &[u8]) -> Read<Cmd>
+fn command_of(
+    alloc: Global,
+    scratch: &mut Scratch,
+    kind: CommandKind,
+    path: &str,
+    body: &[u8],
+) -> Read<Cmd>
     ensures meaning { OrNoMemory refused_code (λ cmd. cmd) result
         (command_in kind path.now body.now) }
     ensures proper { IfOk result (λ cmd. IsTrue (is_proper_cmd cmd)) }
 {
     match kind {
-        CommandKind::AddType => bodies::add_type_of(alloc, body),
-        CommandKind::AddBoard => bodies::add_board_of(alloc, body),
-        CommandKind::SetTags => bodies::set_tags_of(alloc, path, body),
-        CommandKind::SetHealth => bodies::set_health_of(alloc, path, body),
+        CommandKind::AddType => bodies::add_type_of(alloc, scratch, body),
+        CommandKind::AddBoard => bodies::add_board_of(alloc, scratch, body),
+        CommandKind::SetTags => bodies::set_tags_of(alloc, scratch, path, body),
+        CommandKind::SetHealth => bodies::set_health_of(alloc, scratch, path, body),
         CommandKind::Submit => bodies::submit_of(alloc, body),
         CommandKind::Cancel => Ok(Cmd::Cancel(job_of(path)?)),
         CommandKind::Start => Ok(Cmd::Start(job_of(path)?)),
-        CommandKind::Finish => bodies::finish_of(alloc, path, body),
-        CommandKind::Reserve => bodies::reserve_of(alloc, body),
+        CommandKind::Finish => bodies::finish_of(alloc, scratch, path, body),
+        CommandKind::Reserve => bodies::reserve_of(alloc, scratch, body),
         CommandKind::Acquire => Ok(Cmd::Acquire(reservation_of(path)?)),
         CommandKind::Release => Ok(Cmd::Release(reservation_of(path)?)),
         CommandKind::Refresh => Ok(Cmd::Refresh(reservation_of(path)?)),

@@ -16,6 +16,7 @@ use farm_types::{
     BAD_PRIORITY, Check, CheckUnit, Cmd, Health, Outcome, Priority, Refusal, Tags, WordFault,
     is_every,
 };
+use json::Scratch;
 use serde_json::Value;
 use std::alloc::Global;
 
@@ -55,11 +56,11 @@ fn check_of(value: &Value) -> Result<Check, Refusal>
 
 /// The type that a body adds.
 #[tactic(auto, unfolding(crate::specs::Commands::add_type))]
-pub(crate) fn add_type_of(alloc: Global, body: &[u8]) -> Read<Cmd>
+pub(crate) fn add_type_of(alloc: Global, scratch: &mut Scratch, body: &[u8]) -> Read<Cmd>
     ensures meaning { OrNoMemory refused_code (λ cmd. cmd) result (add_type body.now) }
     ensures proper { IfOk result (λ cmd. IsTrue (is_proper_cmd cmd)) }
 {
-    let value = object_of(alloc, body)?;
+    let value = object_of(alloc, scratch, body)?;
     let name = name_of(&value, "name")?;
     let check = check_of(&value)?;
     Ok(Cmd::add_type(name, check))
@@ -76,11 +77,11 @@ fn new_tags_of(alloc: Global, value: &Value) -> Read<Tags>
 
 /// The board that a body adds.
 #[tactic(auto, unfolding(crate::specs::Commands::add_board))]
-pub(crate) fn add_board_of(alloc: Global, body: &[u8]) -> Read<Cmd>
+pub(crate) fn add_board_of(alloc: Global, scratch: &mut Scratch, body: &[u8]) -> Read<Cmd>
     ensures meaning { OrNoMemory refused_code (λ cmd. cmd) result (add_board body.now) }
     ensures proper { IfOk result (λ cmd. IsTrue (is_proper_cmd cmd)) }
 {
-    let value = object_of(alloc, body)?;
+    let value = object_of(alloc, scratch, body)?;
     let name = name_of(&value, "name")?;
     let kind = name_of(&value, "type")?;
     let tags = board_tags(new_tags_of(alloc, &value)?)?;
@@ -89,24 +90,34 @@ pub(crate) fn add_board_of(alloc: Global, body: &[u8]) -> Read<Cmd>
 
 /// The tags that the board of a path gets.
 #[tactic(auto, unfolding(crate::specs::Commands::set_tags))]
-pub(crate) fn set_tags_of(alloc: Global, path: &str, body: &[u8]) -> Read<Cmd>
+pub(crate) fn set_tags_of(
+    alloc: Global,
+    scratch: &mut Scratch,
+    path: &str,
+    body: &[u8],
+) -> Read<Cmd>
     ensures meaning { OrNoMemory refused_code (λ cmd. cmd) result (set_tags path.now body.now) }
     ensures proper { IfOk result (λ cmd. IsTrue (is_proper_cmd cmd)) }
 {
     let name = board_of(path)?;
-    let value = object_of(alloc, body)?;
+    let value = object_of(alloc, scratch, body)?;
     let tags = board_tags(tags_of(alloc, &value)?)?;
     Ok(Cmd::set_tags(name, tags))
 }
 
 /// The health that the board of a path gets.
 #[tactic(auto, unfolding(crate::specs::Commands::set_health))]
-pub(crate) fn set_health_of(alloc: Global, path: &str, body: &[u8]) -> Read<Cmd>
+pub(crate) fn set_health_of(
+    alloc: Global,
+    scratch: &mut Scratch,
+    path: &str,
+    body: &[u8],
+) -> Read<Cmd>
     ensures meaning { OrNoMemory refused_code (λ cmd. cmd) result (set_health path.now body.now) }
     ensures proper { IfOk result (λ cmd. IsTrue (is_proper_cmd cmd)) }
 {
     let name = board_of(path)?;
-    let value = object_of(alloc, body)?;
+    let value = object_of(alloc, scratch, body)?;
     let health = Health::called(text_of(&value, "health")?).ok_or(BAD)?;
     Ok(Cmd::set_health(name, health))
 }
@@ -134,12 +145,12 @@ fn word_fault(fault: FileFault) -> WordFault
 
 /// The end of the job that a path names.
 #[tactic(auto, unfolding(crate::specs::Commands::finish, farm_types::specs::Proper::is_proper_cmd))]
-pub(crate) fn finish_of(alloc: Global, path: &str, body: &[u8]) -> Read<Cmd>
+pub(crate) fn finish_of(alloc: Global, scratch: &mut Scratch, path: &str, body: &[u8]) -> Read<Cmd>
     ensures meaning { OrNoMemory refused_code (λ cmd. cmd) result (finish path.now body.now) }
     ensures proper { IfOk result (λ cmd. IsTrue (is_proper_cmd cmd)) }
 {
     let number = job_of(path)?;
-    let value = object_of(alloc, body)?;
+    let value = object_of(alloc, scratch, body)?;
     let outcome = Outcome::called(text_of(&value, "outcome")?).ok_or(BAD)?;
     Ok(Cmd::Finish(number, outcome))
 }
@@ -170,11 +181,11 @@ fn priority_in(value: &Value) -> Result<Priority, Refusal>
 
 /// The reservation that a body asks for.
 #[tactic(auto, unfolding(crate::specs::Commands::reserve))]
-pub(crate) fn reserve_of(alloc: Global, body: &[u8]) -> Read<Cmd>
+pub(crate) fn reserve_of(alloc: Global, scratch: &mut Scratch, body: &[u8]) -> Read<Cmd>
     ensures meaning { OrNoMemory refused_code (λ cmd. cmd) result (reserve body.now) }
     ensures proper { IfOk result (λ cmd. IsTrue (is_proper_cmd cmd)) }
 {
-    let value = object_of(alloc, body)?;
+    let value = object_of(alloc, scratch, body)?;
     let tags = tags_of(alloc, &value)?;
     let priority = priority_in(&value)?;
     Ok(Cmd::reserve(priority, tags))

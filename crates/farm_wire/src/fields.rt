@@ -6,7 +6,9 @@ ghost use Rattle.farm_types.specs.Reads.{OrNoMemory, by_code, refused_code, view
 ghost use Rattle.farm_wire.specs.Fields.{text_in, name_in, texts_in, tags_from, tags_in};
 ghost use Rattle.farm_wire.specs.Fields.{board_tags, object_in};
 
+use crate::value::value_of;
 use farm_types::{BAD_REQUEST, BAD_TAG, Name, Refusal, Tags, WordFault};
+use json::Scratch;
 use serde_json::Value;
 use std::alloc::Global;
 
@@ -19,14 +21,17 @@ pub(crate) const BAD: Refusal = Refusal { code: BAD_REQUEST };
 /// The object that a body spells; refused where the body is no JSON (RFC 8259), nests deeper than
 /// 127 or is no object.
 #[tactic(auto, unfolding(crate::specs::Fields::object_in))]
-pub(crate) fn object_of(alloc: Global, body: &[u8]) -> Read<Value>
+pub(crate) fn object_of(alloc: Global, scratch: &mut Scratch, body: &[u8]) -> Read<Value>
     ensures { OrNoMemory refused_code (λ v. view v) result (object_in body.now) }
 {
-    match Value::from_slice(alloc, body) {
-        Ok(value) if value.as_object().is_some() => Ok(value),
-        Ok(_) => Err(WordFault::Refused(BAD)),
-        Err(e) if e.is_memory() => Err(WordFault::NoMemory),
-        Err(_) => Err(WordFault::Refused(BAD)),
+    let Ok(text) = std::str::from_utf8(body) else {
+        return Err(WordFault::Refused(BAD));
+    };
+    let value = value_of(alloc, scratch, text)?;
+    if value.is_object() {
+        Ok(value)
+    } else {
+        Err(WordFault::Refused(BAD))
     }
 }
 

@@ -19,6 +19,7 @@ mod router;
 mod rows_shown;
 mod shown;
 mod text;
+mod value;
 
 // One request, read from an input; and bytes written whole to an output.
 pub use farm_http::{

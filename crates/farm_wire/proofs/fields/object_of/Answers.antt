@@ -1,13 +1,14 @@
 -- What the reader of JSON ensures, as the definition says it.
-use Rattle.std.proofs.Common.{◌≡◌, ◌∙◌, true, false, sym}
-use Rattle.farm_wire.proofs.ObjectLemmas.{some_object, body_ok, body_err}
+use Rattle.std.proofs.Common.{sym, ap, ◌∙◌}
+use Rattle.serde_json.specs.Read.{read}
+use Rattle.farm_wire.proofs.ObjectLemmas.{body_ok, body_err}
+use Rattle.farm_wire.proofs.ValueLemmas.{there_is}
 use Rattle.farm_wire.proofs.fields.object_of.Goals as goal
 
-pub returns-in-Ok : goal.returns-in-Ok
-returns-in-Ok c =
-    let ok = c.in-Ok.ensures.ok in
-    body_ok c.args.body.now _ ok.0 ok.1 (some_object _ c.as_object.result _ c.as_object.ensures (sym c.is_some.ensures ∙ c.if-is_some.true))
+pub returns-in_default : goal.returns-in_default
+returns-in_default c = body_err c.args.body.now (λ utf8. absurd (c.in_default.ensures.cases.0 utf8))
 
-pub returns-in-Err-2 : goal.returns-in-Err-2
-returns-in-Err-2 c =
-    body_err c.args.body.now (c.in-Err.ensures.err (λ m. let bad : false ≡ true = c.if-is_memory.ensures.1 m in cc))
+pub returns-then-is_object : goal.returns-then-is_object
+returns-then-is_object c =
+    body_ok c.args.body.now _ c.in-Ok.ensures.cases.1 (ap read (sym c.in-Ok.ensures.cases.0) ∙ there_is _ _ c.in_ok-value.ensures)
+    (sym c.is_object.ensures ∙ c.if-is_object.true)
