@@ -117,9 +117,9 @@ class Board(threading.Thread):
         return number
 
     def session(self, party: str, hold: str, mark: str) -> "subprocess.Popen[bytes]":
-        nasty = [PYTHON, f"{HERE}/access_nasty.py", self.lab.path("b2.tty"), mark * 4, "0.01"]
+        nasty = [PYTHON, f"{HERE}/access_nasty.py", self.lab.path("b2.tty"), mark * 4, "0.03"]
         writer = [PYTHON, f"{HERE}/access_writer.py", self.lab.console, mark * 4]
-        ways = {"b1": ["console"], "b2": ["nasty", mark * 4, "0.01"]}
+        ways = {"b1": ["console"], "b2": ["nasty", mark * 4, "0.03"]}
         runs = [*self.lab.access.split(), "run", hold, self.board, "--", *(writer if self.board == "b1" else nasty)]
         words = runs if party == "job" else self.lab.ssh(party, self.board, *ways[self.board])
         begun = subprocess.Popen(

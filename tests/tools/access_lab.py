@@ -15,7 +15,7 @@ import socket
 import subprocess
 import tempfile
 import time
-from typing import Any, Callable, Dict, List, NamedTuple, Optional, Sequence
+from typing import Any, Callable, Dict, List, NamedTuple, Optional, Sequence, Tuple
 
 import counting
 from served import LASTING, PATIENCE, STARTED, TOOLS, TOP, Farm, free_port, wait_until
@@ -121,6 +121,7 @@ class Lab:
                  cgroup: str = "", slow: bool = False, tcp: bool = False, ways: str = ""):
         self.farm, self.place, self.cgroup = farm, place, cgroup
         self.parts: Dict[str, "subprocess.Popen[bytes]"] = {}
+        self.seen: Dict[str, Tuple[int, List[Byte]]] = {}  # what boards received, and up to where it was read
         self.port, self.pdu, self.echo = free_port(), free_port(), free_port()
         self.is_root = os.geteuid() == 0
         self.console = f"127.0.0.1:{free_port()}" if tcp else self.path("b1.socket")
@@ -243,14 +244,17 @@ class Lab:
         wait_until("the boards", lambda: all(os.path.lexists(self.path(f"{it}.tty")) for it in BOARDS))
         self.start("ser2net", "ser2net", "-n", "-u", "-c", self.path("ser2net.yaml"))
         self.start("sshd", "/usr/sbin/sshd", "-D", "-e", "-f", self.path("sshd.conf"))
-        self.start("pdudaemon", "pdudaemon", "--conf", self.path("pdudaemon.conf"))
+        self.serve_power()
         self.start("echo", PYTHON, f"{HERE}/access_echo.py", str(self.echo))
         if guard:
             self.guard()
         wait_until("ser2net", lambda: os.path.exists(self.console) or ":" in self.console and answers(self.console))
         wait_until("sshd", lambda: b"listening" in self.said("sshd"))
-        wait_until("pdudaemon", lambda: answers(f"127.0.0.1:{self.pdu}"))
         wait_until("what echoes", lambda: answers(f"127.0.0.1:{self.echo}"))
+
+    def serve_power(self) -> None:
+        self.start("pdudaemon", "pdudaemon", "--conf", self.path("pdudaemon.conf"))
+        wait_until("pdudaemon", lambda: answers(f"127.0.0.1:{self.pdu}"))
 
     def said(self, name: str) -> bytes:
         with open(self.path(f"{name}.said"), "rb") as file:
@@ -420,12 +424,17 @@ class Lab:
 
     def got(self, board: str) -> List[Byte]:
         """What a board received."""
+        place, found = self.seen.get(board, (0, []))
         try:
-            with open(self.path("got", board), encoding="ascii") as file:
-                rows = [it.split() for it in file.read().split("\n")[:-1]]
+            with open(self.path("got", board), "rb") as file:
+                file.seek(place)
+                whole = file.read().rpartition(b"\n")[0]
         except FileNotFoundError:
             return []
-        return [Byte(float(it[0]), bytes.fromhex(it[1])) for it in rows if len(it) == 2]
+        rows = [it.split() for it in whole.split(b"\n")]
+        found = found + [Byte(float(it[0]), bytes.fromhex(it[1].decode())) for it in rows if len(it) == 2]
+        self.seen[board] = (place + len(whole) + bool(whole), found)
+        return found
 
     def text(self, board: str) -> bytes:
         return b"".join(it.said for it in self.got(board))
@@ -449,7 +458,8 @@ def kill(pid: int, number: int = signal.SIGKILL) -> None:
 
 def until(true: Callable[[], Any], seconds: float = PATIENCE) -> float:
     """Waits until something is true, and says for how long it wasn't."""
-    since = time.monotonic()
+    since, pause = time.monotonic(), 0.02
     while not true() and time.monotonic() < since + seconds:
-        time.sleep(0.02)
+        time.sleep(pause)
+        pause = min(pause * 1.2, 0.2)
     return time.monotonic() - since

@@ -14,7 +14,7 @@ from typing import Any, Callable, Iterator, List, Sequence, Tuple
 import access_lab
 import pytest
 from access_lab import Lab, kill, until
-from served import Farm, free_port, wait_until
+from served import Farm, free_port, read, wait_until
 
 pytestmark = [pytest.mark.xdist_group("access"), pytest.mark.slow(120)]
 BAD_WORDS, FAULT, NOT_YOURS, LOST, NO_SSH = 2, 4, 5, 6, 255
@@ -330,13 +330,60 @@ def test_check_says_which_way_answers(lab: Lab) -> None:
     assert "b1 power: answers" in stopped
 
 
+def test_check_says_what_doesnt_answer(lab: Lab, held: Callable[..., int]) -> None:
+    """Each part of the site, each way of a board, and a board that there isn't."""
+    text = read(lab.path("access.toml"))
+    for was, now in ((f":{lab.pdu}", ":1"), (f"[{lab.echo}]", "[1]"), (lab.path("b2.tty"), lab.path("ser2net.yaml"))):
+        text = text.replace(was, now)
+    lab.write("other.toml", text.replace('say = ["/bin/echo"]', 'say = ["/no/such/command"]'))
+    lab.write("nobody.toml", text.replace(lab.farm.server, "http://127.0.0.1:1").replace(lab.path("keys"), "/no/keys"))
+    lab.write("keys/mallory", 'command="sh" ssh-ed25519 AAAA\n')
+    other, nobody = (lab.access.replace("access.toml", f"{it}.toml").split() for it in ("other", "nobody"))
+    wait_until("that no board is used", lab.is_at_rest)
+    tried = lab.try_words([*other, "check", "b1", "b2", "b9"])
+    said = dict(it.split(": ", 1) for it in tried.output.decode().splitlines())
+    assert tried.status == 1
+    assert said["b9"] == "there is no such board" and said["keys of mallory"].startswith("a line isn't TYPE KEY")
+    assert (said["b1 console"], said["b1 after"]) == ("answers", "can be run")
+    for way, why in (
+        ("b1 power", "pdudaemon: .*refused"), ("b1 tcp", "127.0.0.1:1: .*refused"), ("b2 console", f"{lab.path('ser2net.yaml')}: .*ioctl"),
+        ("b1 say", "/no/such/command: "),
+    ):
+        assert re.match(why, said[way]), (way, said)
+    os.unlink(lab.path("keys", "mallory"))
+    number = held()
+    lab.begin("ann", "b1", "sleep")
+    running(lab, "sleep")
+    assert f"b1: in use by reservation {number}, so it isn't tried" in lab.try_words([*other, "check", "b1"]).output.decode()
+    tried = lab.try_words([*nobody, "check"])
+    said = dict(it.split(": ", 1) for it in tried.output.decode().splitlines())
+    assert tried.status == 1
+    assert said["keys"] == "/no/keys has nobody's keys" and said["desk"].startswith("no answer from the desk at http://127.0.0.1:1")
+
+
+def test_a_way_that_doesnt_answer_says_so(lab: Lab, held: Callable[..., int]) -> None:
+    held("ann", "b2")
+    os.rename(lab.path("b2.tty"), lab.path("b2.gone"))
+    console = lab.session("ann", "b2", "console")
+    os.rename(lab.path("b2.gone"), lab.path("b2.tty"))
+    assert (console.status, console.output) == (FAULT, b"")
+    assert console.errors.startswith("farm-access: ") and "No such file" in console.errors, console
+    lab.parts["pdudaemon"].kill()
+    lab.parts["pdudaemon"].wait()
+    power = lab.session("ann", "b2", "power", "on")
+    lab.serve_power()
+    assert power.status == FAULT and power.errors.startswith("farm-access: pdudaemon: "), power
+    assert lab.session("ann", "b2", "tcp", "1").status == BAD_WORDS, "no port of the board's"
+    assert lab.session("ann", "b2", "power", "status").status == BAD_WORDS, "pdudaemon has none"
+
+
 # ---- odd moments
 
 
 def writer(lab: Lab, person: str = "ann") -> "subprocess.Popen[bytes]":
     """A session whose processes went away from it and write to b2 without end."""
     before = len(lab.got("b2"))
-    line = lab.begin(person, "b2", "nasty", "mark", "0.01")
+    line = lab.begin(person, "b2", "nasty", "mark", "0.03")
     until(lambda: len(lab.got("b2")) > before + 3)
     assert len(lab.got("b2")) > before + 3, lab.said("sshd")[-800:]
     return line
@@ -522,10 +569,11 @@ def paste(line: "subprocess.Popen[bytes]", text: bytes) -> None:
 @pytest.mark.slow(60)
 @pytest.mark.parametrize("without", ["", "lock"])
 def test_handovers_under_kills_mix_no_bytes_and_without_the_lock_they_do(program: str, without: str) -> None:
-    """A few, by the script that makes hundreds; on a busy machine ends take longer than on an idle one."""
+    """A few, by the script that makes hundreds; on a busy machine ends take longer than on an idle one. (Without the
+    lock what a hold left writes on for so long.)"""
     script = os.path.join(os.path.dirname(os.path.abspath(__file__)), "access_handovers.py")
     more = ["--without", without, "--kills", "stop"] if without else []
-    words = [access_lab.PYTHON, script, "--farm", program, "--within", str(OUT), *more, "10"]
+    words = [access_lab.PYTHON, script, "--farm", program, "--within", "10" if without else str(OUT), *more, "10"]
     ran = subprocess.run(words, capture_output=True, text=True, check=False)
     assert ran.returncode == (1 if without else 0), ran.stdout + ran.stderr
     if without:

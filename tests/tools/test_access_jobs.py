@@ -187,6 +187,8 @@ def test_without_a_job_or_with_bad_words_nothing_runs(lab: Lab) -> None:
     for words in (["--", "touch", mark], ["job 1", "--", "touch", mark], ["job 1", "b1"], ["job 999", "b1", "--", "touch", mark]):
         assert lab.try_words([*lab.access.split(), "run", *words]).status in (2, 6)
     assert not os.path.exists(mark)
+    gone = lab.try_words([*lab.access.split(), "run", "job 1", "b1", "--", "/no/such/command"])
+    assert gone.status == 127 and gone.errors.startswith("farm-access: /no/such/command: "), gone
 
 
 # ---- the ways within a job

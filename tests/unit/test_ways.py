@@ -1,12 +1,16 @@
 """The words by which ssh(1) goes to boards, and what a console says to who waits for it."""
 from __future__ import annotations
 
+import os
+import pathlib
 import re
+import signal
+from typing import Callable
 
 import pytest
 
 from fizgruk import ways
-from fizgruk.errors import HoldLost, TimedOut
+from fizgruk.errors import FizgrukError, HoldLost, TimedOut
 
 
 @pytest.fixture(autouse=True)
@@ -71,3 +75,81 @@ def test_what_farm_access_says_is_a_loss_or_no_way() -> None:
     assert isinstance(ways.fault_of(6, "b1: reservation 1 has ended"), HoldLost)
     fault = ways.fault_of(5, "b1\x1b[2J isn't yours\r\n")
     assert isinstance(fault, ways.NoWay) and str(fault) == "b1 [2J isn't yours"
+
+
+# ---- an ssh that says and does what a test tells it
+
+
+@pytest.fixture
+def ssh(tmp_path: pathlib.Path, monkeypatch: pytest.MonkeyPatch) -> Callable[[str], ways.Ways]:
+    """A board's ways by an ssh that is this script."""
+
+    def made(script: str) -> ways.Ways:
+        file = tmp_path / "ssh"
+        file.write_text(f"#!/bin/sh\n{script}\n")
+        file.chmod(0o755)
+        monkeypatch.setenv("PATH", str(tmp_path), prepend=os.pathsep)
+        board = ways.Ways()
+        board.name, board.to = "b1", "lab"
+        return board
+
+    return made
+
+
+def test_power_is_switched_by_words_of_its_own(ssh: Callable[[str], ways.Ways]) -> None:
+    power = ssh('echo "$*"').power
+    assert power.status() == "-T -n -- lab b1 power status"
+    power.on()
+    power.off()
+
+
+@pytest.mark.parametrize("script, kind, said", [
+    ("echo 'b1: reservation 1 has ended' >&2; exit 6", HoldLost, "b1: reservation 1 has ended"),
+    ("echo \"b1 isn't yours now\" >&2; exit 5", ways.NoWay, "b1 isn't yours now"),
+    ("exit 255", ways.NoWay, "status 255"),
+])
+def test_what_ssh_ends_with_is_told(ssh: Callable[[str], ways.Ways], script: str, kind: type, said: str) -> None:
+    """By power, and by a console to who waits for it and then to who types."""
+    board = ssh(script)
+    with pytest.raises(kind, match=f"^{said}$"):
+        board.power.cycle()
+    with board.console() as it:
+        with pytest.raises(kind, match=f"^{said}$"):
+            it.expect("login: ", timeout=100)
+        with pytest.raises(kind, match=f"^{said}$"):
+            it.send_line("root")
+
+
+def test_without_ssh_there_is_no_way(monkeypatch: pytest.MonkeyPatch) -> None:
+    monkeypatch.setenv("PATH", "/nowhere")
+    with pytest.raises(ways.NoWay, match="^ssh: "):
+        ways.Power("b1", "lab").on()
+
+
+def test_a_command_on_the_board_has_a_time(ssh: Callable[[str], ways.Ways]) -> None:
+    ran = ssh('shift 11; echo "$*"; exit 3').ssh("uname", "-a")
+    assert (ran.returncode, ran.stdout) == (3, "root@b1 uname -a\n")
+    with pytest.raises(TimedOut, match="^uname: not within 0.1 s$"):
+        ssh("exec sleep 60").ssh("uname", timeout=0.1)
+
+
+def test_a_console_is_used_within_a_with(ssh: Callable[[str], ways.Ways]) -> None:
+    it = ssh("exec cat").console()
+    with pytest.raises(FizgrukError, match="within a with"):
+        it.send("x")
+    with pytest.raises(FizgrukError, match="within a with"):
+        it.expect("x")
+    with it:
+        it.send(b"x")
+        assert it.expect("x", timeout=100) == 0
+    it.close()
+
+
+def test_a_console_that_doesnt_end_is_killed(ssh: Callable[[str], ways.Ways], monkeypatch: pytest.MonkeyPatch) -> None:
+    """Also one that says nothing any more, and goes on."""
+    monkeypatch.setattr(ways, "ENDS_WITHIN", 0.1)
+    with ssh("trap '' TERM; exec 1>&-; while :; do sleep 0.05; done").console() as it:
+        with pytest.raises(ways.NoWay, match="^the console of b1 doesn't answer$"):
+            it.expect("x", timeout=100)
+        process = it._process
+    assert process is not None and process.returncode == -signal.SIGKILL

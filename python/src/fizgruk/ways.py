@@ -116,6 +116,7 @@ class Console:
         self._process: Optional["subprocess.Popen[bytes]"] = None
         self._came = threading.Condition()
         self._said = b""
+        self._told = b""  # why it ended
         self._is_over = False
 
     def __enter__(self) -> "Console":
@@ -217,10 +218,10 @@ class Console:
         process = self._began()
         try:
             status = process.wait(ENDS_WITHIN)
-            told = process.stderr.read(BLOCK) if process.stderr else b""
+            self._told = self._told or (process.stderr.read(BLOCK) if process.stderr else b"")
         except subprocess.TimeoutExpired:
             return NoWay(f"the console of {self.board} doesn't answer")
-        return fault_of(status, told.decode(errors="replace"))
+        return fault_of(status, self._told.decode(errors="replace"))
 
 
 def fault_of(status: int, told: str) -> FizgrukError:
