@@ -479,7 +479,8 @@ def main(farm: str, recorder: str, number: int, seed: int) -> int:
     global FARM, RECORDER
     FARM, RECORDER = farm, recorder
     chance = random.Random(seed)
-    with tempfile.TemporaryDirectory() as folder:
+    # (in memory, where there is room: what a disk keeps is told by the record)
+    with tempfile.TemporaryDirectory(dir="/dev/shm" if os.access("/dev/shm", os.W_OK) else None) as folder:
         empty = life_of_init(folder)
         lab = life_of_import(folder, empty.db)
         busy = life_of_serving("a day", folder, lab.db, day())

@@ -183,12 +183,12 @@ def has_each_kind(name: str, sums: Sums) -> bool:
 
 
 def try_row(file: str, name: str, player: str, library: str, folder: str, every: int) -> None:
-    """Refuses every so manyth growth of a row's commands, and all of them where these were of too few kinds."""
+    """Refuses every so manyth growth of a row's commands, and the others where these were of too few kinds."""
     row = Row(file, name, player, library, folder)
-    growths = row.growths()
-    first = random.randrange(every)
+    growths, begins = row.growths(), list(range(every))
+    random.shuffle(begins)
+    sums: Sums = collections.Counter()
     with concurrent.futures.ThreadPoolExecutor(os.cpu_count()) as pool:
-        sums = row.tried(pool, growths[first::every])
-        if not has_each_kind(name, sums):
-            sums += row.tried(pool, [it for place, it in enumerate(growths) if place % every != first])
+        while begins and not has_each_kind(name, sums):
+            sums += row.tried(pool, growths[begins.pop()::every])
     assert has_each_kind(name, sums), f"{name}: no growth of the machine or of the store was refused: {sums}"

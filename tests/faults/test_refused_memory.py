@@ -58,17 +58,21 @@ class Refuser:
     def run(self, number: int, words: str, given: bytes = b"") -> Refused:
         """The run of an order in which this growth is refused."""
         flag = self.orders.path(f"refused.{number}")
-        around = [f"REFUSE={number}", f"REFUSED={flag}", f"LD_PRELOAD={self.library}"]
-        ran = self.orders.run(*words.split(), given=given, wrapper=["env", *around])
+        around = {"REFUSE": str(number), "REFUSED": flag, "LD_PRELOAD": self.library}
+        ran = self.orders.run(*words.split(), given=given, around=around)
         return Refused(number, os.path.exists(flag), ran)
 
     def runs(self, words: str, given: bytes, judge: Callable[[Refused], None], anew: Callable[[], None]) -> int:
         """Judges a run for each so manyth growth, over files that are made anew. How many growths there were."""
-        number = random.randrange(EVERY) + 1
+        number, judged = random.randrange(EVERY) + 1, set()
         while True:
             anew()
             run = self.run(number, words, given)
-            judge(run)
+            # (the same end over the same files comes to the same)
+            state = (run.ran, *kept(self.orders))
+            if state not in judged:
+                judge(run)
+            judged.add(state)
             if not run.is_refused:
                 assert number > EVERY, "no growth was refused"
                 return number
@@ -95,11 +99,12 @@ def demand_answer(run: Refused) -> None:
 
 
 def kept(orders: Orders) -> List[Tuple[str, bytes]]:
-    """The files of a farm."""
+    """The files of a farm, if it is in files."""
     found = []
     for end in ("", "-wal"):
-        with open(orders.path(orders.db + end), "rb") as file:
-            found.append((end, file.read()))
+        if os.path.exists(orders.path(orders.db + end)):
+            with open(orders.path(orders.db + end), "rb") as file:
+                found.append((end, file.read()))
     return found
 
 

@@ -6,7 +6,7 @@ import json
 import os
 import sqlite3
 import subprocess
-from typing import Any, Dict, List, NamedTuple, Optional, Union
+from typing import Any, Dict, NamedTuple, Optional, Union
 
 STORE_FAULT = "farm: 60 store fault\n"
 Body = Union[bytes, str, Dict[str, Any], None]
@@ -50,11 +50,11 @@ class Orders:
     def path(self, name: str) -> str:
         return os.path.join(self.folder, name)
 
-    def run(self, *words: str, given: bytes = b"", wrapper: Optional[List[str]] = None) -> Ran:
-        """Runs the program with these words, behind those of a program that starts it, if any."""
+    def run(self, *words: str, given: bytes = b"", around: Optional[Dict[str, str]] = None) -> Ran:
+        """Runs the program with these words, and more in its environment, if any."""
         ran = subprocess.run(
-            [*(wrapper or []), self.program, *words], cwd=self.folder, input=given, capture_output=True,
-            check=False, timeout=120,
+            [self.program, *words], cwd=self.folder, input=given, capture_output=True, check=False, timeout=120,
+            env={**os.environ, **(around or {})},
         )
         return Ran(ran.returncode, ran.stdout.decode(), ran.stderr.decode())
 
