@@ -10,17 +10,16 @@ from served import TOP
 from wants import wants, wants_python_with
 
 SHELLS = ("#!/bin/sh", "#!/bin/bash", "#!/usr/bin/env bash")
-# What mypy reads at once, by the folder that it is called in. (Of tests/gate these are what the others import.)
-TYPED = {
-    "tools": ["farm_access", "farm_backup", "farm_dispatch", "farm_door", "farm_import", "farm_metrics", "farm_page", "farm_watch"],
-    "python/src": ["fizgruk"],
-    "tests/unit": ["."],
-    "tests/tools": ["."],
-    "tests/security": ["."],
-    "tests/gate": ["counted.py", "functions.py", "toolchain.py", "waves.py", "waves_test.py"],
-}
-# Where the tests find what they import, as pytest.ini says.
-IMPORTED = ("tools", "python/src", "bench", "tests/shared", "tests/tools", "tests/security", "tests/gate")
+# What mypy reads, all at once. (Of tests/gate these are what the others import.)
+TYPED = (
+    "tools/farm_access", "tools/farm_backup", "tools/farm_dispatch", "tools/farm_door", "tools/farm_import",
+    "tools/farm_metrics", "tools/farm_page", "tools/farm_watch", "python/src/fizgruk", "tests/unit", "tests/tools",
+    "tests/security", "tests/gate/counted.py", "tests/gate/functions.py", "tests/gate/toolchain.py", "tests/gate/waves.py",
+    "tests/gate/waves_test.py",
+)
+# Where the tests find what they import, as pytest.ini says. (Modules of other folders are named by these, so that two may
+# have one name.)
+IMPORTED = ("tools", "python/src", "bench", "tests/shared", "tests/tools", "tests/gate")
 
 
 def files_of_the_project() -> list[pathlib.Path]:
@@ -38,10 +37,10 @@ def first_line(file: pathlib.Path) -> str:
         return opened.readline(200).decode(errors="replace").rstrip("\n")
 
 
-def said(*words: object, where: str = ".", **more: str) -> str:
+def said(*words: object, **more: str) -> str:
     """What a linter prints, with more in its environment, where it ends with another status than 0."""
     ran = subprocess.run(
-        [str(it) for it in words], cwd=pathlib.Path(TOP, where), stdin=subprocess.DEVNULL, stdout=subprocess.PIPE,
+        [str(it) for it in words], cwd=TOP, stdin=subprocess.DEVNULL, stdout=subprocess.PIPE,
         stderr=subprocess.STDOUT, text=True, check=False, env={**os.environ, **more},
     )
     return ran.stdout if ran.returncode else ""
@@ -61,19 +60,9 @@ def test_shellcheck_finds_nothing_in_shell_scripts() -> None:
     assert said("shellcheck", "--severity=warning", *files) == ""
 
 
-@pytest.fixture(scope="module")
-def mypy_cache(tmp_path_factory: pytest.TempPathFactory) -> pathlib.Path:
-    """Where mypy keeps what it read, which the next one takes."""
-    return tmp_path_factory.mktemp("mypy")
-
-
 @pytest.mark.slow(40)
-@pytest.mark.xdist_group("mypy")
-@pytest.mark.parametrize("folder", TYPED)
-def test_mypy_finds_no_wrong_type(folder: str, mypy_cache: pathlib.Path) -> None:
+def test_mypy_finds_no_wrong_type() -> None:
     python = wants_python_with("mypy")
-    imported = IMPORTED if folder.startswith("tests/") else ["python/src"] if folder == "tools" else []
-    path = ":".join(os.path.join(TOP, it) for it in imported)
-    words = ["--strict", "--cache-dir", mypy_cache, *TYPED[folder]]
-    found = said(python, "-m", "mypy", *words, where=folder, MYPYPATH=path)
-    assert found == ""
+    path = ":".join(os.path.join(TOP, it) for it in IMPORTED)
+    words = ["--strict", "--namespace-packages", "--explicit-package-bases", "--cache-dir", os.devnull]
+    assert said(python, "-m", "mypy", *words, *TYPED, MYPYPATH=path) == ""

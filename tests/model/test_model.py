@@ -19,6 +19,7 @@ from wants import wants
 MODEL = pathlib.Path(__file__).resolve().parent / "dispatch.pml"
 DEPTH = 200_000  # steps of one way; a search that would go deeper fails
 MEMORY = 4_000  # MB
+TABLE = ("-w22",)  # what finds states has room for so many, by powers of two; more are found, too, but later
 CALM = "-DKILLS=0 -DLOST_ANSWERS=0 -DCANCELS=0"
 TWO = "-DDISPATCHERS=2 -DSHAPE=GROUP"
 
@@ -155,7 +156,7 @@ def broken(switches: str, folder: pathlib.Path) -> FrozenSet[str]:
     ends = "-DENDS" in switches.split()
     ran(["spin", "-a", *switches.split(), MODEL.name], folder)
     ran(compiling(switches), folder)
-    said = ran(["./pan", f"-m{DEPTH}", *(["-a", "-f", "-N", "all_end"] if ends else [])], folder)
+    said = ran(["./pan", f"-m{DEPTH}", *TABLE, *(["-a", "-f", "-N", "all_end"] if ends else [])], folder)
     errors = re.search(r"errors: (\d+)", said)
     stopped = re.search(r"too small|out of memory|max\. search depth|Search not completed", said)
     assert errors is not None, said

@@ -43,6 +43,12 @@ class Debian(Machine):
         self.run("sh", "-c", script)
         return self.run("systemctl", "is-failed", *UNITS, check=False).stdout
 
+    def has_packages(self) -> None:
+        """Installs the packages, unless they are installed."""
+        words = ["dpkg-query", "-W", "-f", "${db:Status-Status}", "fizgruk-farm"]
+        if self.run(*words, check=False).stdout != "installed":
+            self.install()
+
     def units(self) -> Dict[str, str]:
         """Whether each unit is enabled, and whether it is active."""
         found = {}
@@ -84,7 +90,7 @@ def test_an_upgrade_leaves_running_what_ran(debian: Debian) -> None:
 
 def test_purging_leaves_a_configuration_that_nginx_takes(debian: Debian) -> None:
     """And an admin's own link of another name, whatever it leads to."""
-    debian.install()
+    debian.has_packages()
     links = "/etc/nginx/sites-enabled"
     debian.run("sh", "-c", f"rm -f {links}/*; ln -s ../sites-available/farm {links}/farm")
     debian.run("ln", "-s", "/srv/ours", f"{links}/ours")
@@ -98,7 +104,7 @@ def test_purging_leaves_a_configuration_that_nginx_takes(debian: Debian) -> None
 
 
 def test_another_site_of_the_same_name_stays(debian: Debian) -> None:
-    debian.install()
+    debian.has_packages()
     link = "/etc/nginx/sites-enabled/farm"
     debian.run("sh", "-c", f"echo 'server {{ listen 127.0.0.1:8099; }}' > /srv/mine && ln -sf /srv/mine {link}")
     debian.run("sh", "-c", "DEBIAN_FRONTEND=noninteractive dpkg --purge fizgruk-access fizgruk-farm")

@@ -7,7 +7,7 @@ import subprocess
 import sys
 from typing import Any
 
-from served import MODULES, STARTED
+from served import LASTING, MODULES, STARTED, environment
 
 # Behind the text of a program that has `main(words)`. It gets a line of JSON for each run, and answers with one.
 READ_ONCE = """
@@ -45,10 +45,13 @@ for _line in sys.stdin:
 class ReadOnce:
     """The process of a program's text, in which `main(words)` is what it does."""
 
-    def __init__(self, program: str):
+    def __init__(self, program: str, lasts: bool = False):
+        """`lasts` says that it is for all tests of a process."""
         words = [sys.executable, "-c", f"import sys\nsys.path[:0] = {MODULES!r}\n{program}{READ_ONCE}"]
-        self.process = subprocess.Popen(words, stdin=subprocess.PIPE, stdout=subprocess.PIPE, text=True)
-        STARTED.append(self.process)
+        self.process = subprocess.Popen(
+            words, stdin=subprocess.PIPE, stdout=subprocess.PIPE, text=True, env=environment()
+        )
+        (LASTING if lasts else STARTED).append(self.process)
 
     def run(self, *words: Any) -> "subprocess.CompletedProcess[str]":
         """A run to its end, with these words."""

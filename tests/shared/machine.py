@@ -149,13 +149,14 @@ class Machine:
 
     def wait(self, what: str, *words: str, limit: float = PATIENCE) -> str:
         """What a command says once it ends well and says something."""
-        until = time.monotonic() + limit
+        until, pause = time.monotonic() + limit, 0.1
         while True:
             ran = self.run(*words, check=False)
             if ran.returncode == 0 and ran.stdout.strip():
                 return ran.stdout
             assert time.monotonic() < until, f"{what}: not within {limit} s: {ran.stdout}{ran.stderr}"
-            time.sleep(0.1)
+            time.sleep(pause)
+            pause = min(pause * 1.2, 0.5)
 
     def serve(self) -> None:
         """Starts the desk, and waits until it answers."""

@@ -50,13 +50,14 @@ class MachineLab:
         return int(self.tell("ann", "/jobs", text)["number"])
 
     def finished(self, number: int, limit: float = PATIENCE) -> str:
-        until = time.monotonic() + limit
+        until, pause = time.monotonic() + limit, 0.1
         while True:
             view = self.look(f"/jobs/{number}")
             if view["state"] == "Finished":
                 return str(view["result"])
             assert time.monotonic() < until, f"job {number} is {view['state']}: {self.machine.journal('farm-dispatch')}"
-            time.sleep(0.1)
+            time.sleep(pause)
+            pause = min(pause * 1.2, 0.5)
 
     def log(self, number: int) -> str:
         return self.machine.run("cat", f"{PLACE}/logs/{number}").stdout

@@ -3,19 +3,18 @@ from __future__ import annotations
 
 import contextlib
 import datetime
+import functools
 import http.client
-import os
 import random
 import shutil
 import sqlite3
-import subprocess
-import sys
 import tempfile
 import threading
 import time
 from typing import Any, Dict, List, Set, Tuple
 
-from served import TOOLS, Farm, environment, read, wait_until
+from forks import ReadOnce
+from served import Farm, read, wait_until
 
 FIRST = 3  # commands that make the farm: a type, a board, its health
 
@@ -165,13 +164,14 @@ def words_of(farm: Farm, *words: str) -> List[str]:
     return ["farm-backup", "--program", farm.program, "--db", farm.db, *words]
 
 
+@functools.lru_cache(None)
+def farm_backup() -> ReadOnce:
+    return ReadOnce("from farm_backup.main import main\n", lasts=True)
+
+
 def backup(farm: Farm, *words: str) -> Tuple[int, str, str]:
     """What farm-backup comes to: its status, output and errors."""
-    tool, *rest = words_of(farm, *words)
-    ran = subprocess.run(
-        [sys.executable, os.path.join(TOOLS, tool), *rest],
-        capture_output=True, text=True, timeout=300, check=False, env=environment(),
-    )
+    ran = farm_backup().run(*words_of(farm, *words)[1:])
     return ran.returncode, ran.stdout, ran.stderr
 
 

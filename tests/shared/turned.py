@@ -7,6 +7,7 @@ start, and the turn again. It prints a line of JSON for each."""
 from __future__ import annotations
 
 import functools
+import importlib
 import json
 import os
 import shutil
@@ -122,7 +123,7 @@ def forked(words: List[str], folder: str, last: int) -> Tuple[int, int, List[str
 
 
 def _turned(words: List[str], notes: str, last: int) -> int:
-    from farm_import.from_desk import main  # (in the child: it is patched there)
+    from farm_import.from_desk import main  # (which was read before)
 
     seen = open(notes, "w", buffering=1, encoding="utf-8")  # pylint: disable=consider-using-with
     count = [0]
@@ -164,6 +165,7 @@ def tried(home: Home, kept: str, lab: str, step: int) -> Dict[str, Any]:
 
 def program(modules: str, folder: str, farm: str, lab: str, port: str) -> None:
     sys.path[:0] = modules.split(":")
+    importlib.import_module("farm_import.from_desk")
     home = Home(folder, farm, int(port))
     kept = os.path.join(folder, "kept")
     shutil.copytree(os.path.dirname(home.db), kept)

@@ -1,6 +1,7 @@
 """What a test wants of the machine: it skips, and says why, where that is missing."""
 from __future__ import annotations
 
+import functools
 import importlib.util
 import shutil
 import subprocess
@@ -36,6 +37,7 @@ def wants_modules(*modules: str) -> None:
         pytest.skip(f"this Python has no {', no '.join(missing)}")
 
 
+@functools.lru_cache(None)
 def python_with(*modules: str) -> Optional[str]:
     """An interpreter that has these modules, this one or Debian's, or None."""
     for it in (sys.executable, DEBIANS):
