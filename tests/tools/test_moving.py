@@ -176,9 +176,24 @@ def test_what_is_lost_is_told_once(folder: str) -> None:
     assert read_by_run_job_lava(folder, text) == LOST
 
 
-def role(count: int) -> str:
-    roles = f"roles: {{a: {{device_type: q, count: {count}}}}}"
-    return SIMPLE.replace("device_type: qemu", f"protocols: {{lava-multinode: {{{roles}}}}}")
+def multinode(roles: str, more: str = "") -> str:
+    return SIMPLE.replace("device_type: qemu", f"protocols: {{lava-multinode: {{roles: {roles}{more}}}}}")
+
+
+def role(count: object) -> str:
+    return multinode(f"{{a: {{device_type: q, count: {count}}}}}")
+
+
+def test_what_roles_lose_is_told(folder: str) -> None:
+    wants_modules("yaml", "tomllib")
+    roles = "{a: {device_type: q, count: 2}, b: {count: 1}, c: {device_type: q, count: 0}}"
+    status, text, told = converted(folder, multinode(roles, ", timeout: {minutes: 1}").replace("actions", "priority: 7\nactions"))
+    tree = toml_text.tree_of(text)
+    assert (status, tree["priority"], tree["roles"]) == (1, 7, {"a": {"device_type": "q", "count": 2, "tags": []}})
+    assert [it.partition(" isn't carried over: ")[::2] for it in told if "carried" in it] == [
+        ("role b", "it is a connection to another role's board, and wants none"), ("role c", "it wants no board"),
+        ("lava-multinode.timeout", "a group starts with all its boards"),
+    ]
 
 
 @pytest.mark.parametrize("definition, told", [
@@ -192,6 +207,8 @@ def role(count: int) -> str:
     (SIMPLE + "tags: [" + ",".join(f"t{it}" for it in range(17)) + "]\n", "becomes no job file: there are 17 tags"),
     (role(5), "wants 5 boards, and a job has 1 to 4"),
     (role(0), "wants 0 boards"),
+    (role("two"), "the count of role a is no number"),
+    (multinode("3"), "protocols.lava-multinode has no roles"),
     (SIMPLE + "#" * 65_536, "is too long: a job file has 65,536 bytes at most"),
     ("x" * 1_048_577, "has more than 1,048,576 bytes"),
     ("job_name: \"\\ud800\"\ndevice_type: q\nactions: []\n", "letters"),

@@ -5,8 +5,7 @@ import http.client
 import json
 import os
 import re
-import subprocess
-import sys
+import socket
 from typing import Any, Callable, Dict, Optional, Tuple
 
 import pytest
@@ -14,7 +13,7 @@ import pytest
 from browser import Browser
 from nginx_site import write
 from pages import BOARDS, click, seen, until
-from served import TOOLS, Farm, Tool, environment, read, wait_until
+from served import TOOLS, Farm, Tool, calls_in_one, read, wait_until
 
 pytestmark = pytest.mark.xdist_group("page1")
 
@@ -124,14 +123,22 @@ def test_it_asks_in_its_user_s_name_alone(farm: Farm, port: int) -> None:
     assert ask(port, "GET", "/queue", host="lab.example")[0] == 403, "led here by a foreign name"
 
 
-def test_it_takes_no_desk_of_another_machine() -> None:
-    words = [sys.executable, os.path.join(TOOLS, "farm-page"), "--server", "https://farm.lab.example"]
-    ran = subprocess.run(words, capture_output=True, text=True, check=False, env=environment())
-    wanted = "farm-page: https://farm.lab.example isn't a desk of this machine\n"
-    assert (ran.returncode, ran.stderr) == (4, wanted)
-
-
 def test_a_desk_that_is_down_is_told(farm: Farm, port: int) -> None:
     farm.kill()
     assert ask(port, "GET", "/queue")[::2] == (502, b'{"code": 502, "text": "Bad Gateway"}')
     assert read(os.path.join(TOOLS, "page", "farm.html")).encode() == ask(port, "GET", "/")[2]
+
+
+def test_what_cant_be_served_is_told() -> None:
+    """Bad words, a desk of another machine, and a port that somebody has."""
+    with socket.create_server(("127.0.0.1", 0)) as taken:
+        port = str(taken.getsockname()[1])
+        rows = [
+            (["--port", "70000"], 2, "70000 is no port"), (["--port", "http"], 2, "http"),
+            (["--server", "https://farm.lab.example"], 4, "https://farm.lab.example isn't a desk of this machine"),
+            (["--server", "https://127.0.0.1"], 4, "https://127.0.0.1 isn't a desk of this machine"),
+            (["--server", "http://127.0.0.1:1", "--user", "ann", "--port", port], 4, "Address already in use"),
+        ]
+        ran = calls_in_one("farm-page", [({}, words) for words, _, _ in rows])
+    for (words, status, why), (ended, said, errors) in zip(rows, ran):
+        assert (ended, said) == (status, "") and why in errors, (words, errors)
