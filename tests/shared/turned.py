@@ -64,7 +64,11 @@ class Home:
     def serves(self) -> bool:
         """Starts the desk as a machine does, and says whether it serves."""
         self.call("start")
-        until = time.monotonic() + 30
+        return self.listens()
+
+    def listens(self) -> bool:
+        """Whether the desk that was started serves, once it says so or ends."""
+        until = time.monotonic() + 240
         while time.monotonic() < until:
             with open(os.path.join(self.folder, "said"), encoding="utf-8") as said:
                 text = said.read()

@@ -73,6 +73,7 @@ class Lab(Home, Asks):
 
     def demand_untouched(self) -> None:
         """Demands that the desk serves the old farm, alone in its folder."""
+        assert self.listens()
         assert [it["name"] for it in self.ask("ann", "GET", "/boards")[1]["boards"]] == ["b1", "b2", "r1"]
         assert self.listed() == ["lab.db", "lab.db-wal"]
 
