@@ -56,6 +56,15 @@ def killed(lab: MachineLab, step: str) -> None:
     assert ran.returncode == 137 or ran.returncode == -9, ran.stderr
 
 
+def test_the_desk_and_the_dispatcher_begin_again_however_soon(lab: MachineLab) -> None:
+    """So do the rule of the desk's port and the socket of jobs, which they require: systemd refuses what begins too often."""
+    for _ in range(8):
+        lab.machine.run("systemctl", "stop", "farm", "farm-dispatch")
+        lab.machine.run("systemctl", "start", "farm", "farm-dispatch")
+    assert units(lab) == ["active"] * 4
+    lab.machine.wait("the desk", *lab.machine.curl("root", "/status"))
+
+
 def test_the_turn_in_a_lab_whose_units_run(lab: MachineLab) -> None:
     """Job 1 of the next farm is another than job 1 of the old one: history has both."""
     assert "first" in lab.ran("echo first")
