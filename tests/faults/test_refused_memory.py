@@ -8,6 +8,7 @@ library's functions for memory, which a preloaded library may stand before."""
 from __future__ import annotations
 
 import gzip
+import hashlib
 import os
 import random
 import tempfile
@@ -69,7 +70,7 @@ class Refuser:
             anew()
             run = self.run(number, words, given)
             # (the same end over the same files comes to the same)
-            state = (run.ran, *kept(self.orders))
+            state = (run.ran, *((end, hashlib.sha256(held).digest()) for end, held in kept(self.orders)))
             if state not in judged:
                 judge(run)
             judged.add(state)

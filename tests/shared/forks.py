@@ -56,7 +56,11 @@ class ReadOnce:
     def run(self, *words: Any) -> "subprocess.CompletedProcess[str]":
         """A run to its end, with these words."""
         assert self.process.stdin and self.process.stdout
-        self.process.stdin.write(json.dumps([str(it) for it in words]) + "\n")
-        self.process.stdin.flush()
-        status, output, errors = json.loads(self.process.stdout.readline())
+        try:
+            self.process.stdin.write(json.dumps([str(it) for it in words]) + "\n")
+            self.process.stdin.flush()
+            status, output, errors = json.loads(self.process.stdout.readline())
+        except BaseException:
+            self.process.kill()  # (what it answers later would be taken for what another run came to)
+            raise
         return subprocess.CompletedProcess(words, status, output, errors)

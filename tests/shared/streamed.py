@@ -3,7 +3,6 @@ from __future__ import annotations
 
 import contextlib
 import datetime
-import functools
 import http.client
 import random
 import shutil
@@ -158,15 +157,19 @@ def still_farm(farm: Farm) -> int:
 
 # ---- farm-backup
 
+READ: List[ReadOnce] = []
+
 
 def words_of(farm: Farm, *words: str) -> List[str]:
     """The words of farm-backup for a farm, whose file later words may name anew."""
     return ["farm-backup", "--program", farm.program, "--db", farm.db, *words]
 
 
-@functools.lru_cache(None)
 def farm_backup() -> ReadOnce:
-    return ReadOnce("from farm_backup.main import main\n", lasts=True)
+    """The tool, read once in a process of the tests."""
+    if not READ or READ[-1].process.poll() is not None:
+        READ.append(ReadOnce("from farm_backup.main import main\n", lasts=True))
+    return READ[-1]
 
 
 def backup(farm: Farm, *words: str) -> Tuple[int, str, str]:
