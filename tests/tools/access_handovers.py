@@ -241,7 +241,7 @@ def judged(board: Board) -> Dict[str, Any]:
 
 def told(lab: Lab, trial: Trial, boards: List[Board]) -> bool:
     """Prints what came out. Returns whether all is well."""
-    until = time.monotonic() + 15
+    until = time.monotonic() + (15 if "guard" in lab.parts else 0)  # (else nobody cleans up)
     while (lab.locked() or lab.nasty() or lab.sessions()) and time.monotonic() < until:
         time.sleep(0.1)
     rows = [judged(it) for it in boards]
