@@ -2,6 +2,7 @@
 No command that either side answered is ever deleted, whatever is started in whatever order."""
 from __future__ import annotations
 
+import contextlib
 import hashlib
 import os
 import re
@@ -23,6 +24,7 @@ from two_machines import Machine, aside
 Made = Callable[..., Farm]
 Starts = Callable[..., Tool]
 BOARDS: list[Board] = [("b1", "bbb", [])]
+HEADER = 32  # bytes of a log
 SENT = 6  # commands that the standby gets before anything happens
 
 
@@ -80,7 +82,7 @@ class Pair:
         for _ in range(2):
             status, said, errors = backup(self.farm, "--follow", self.to)
             assert (status, said, errors.count("\n")) == (4, "", 1)
-            assert [it for it in (self.farm.db, self.standby, *why) if it not in errors] == []
+            assert [it for it in (self.farm.db, self.standby, *why) if it not in errors] == [], errors
             assert contents(self.to) == before
         return errors
 
@@ -102,6 +104,12 @@ def contents(folder: str) -> Dict[str, str]:
 def count_in(db: str) -> int:
     """How many commands a farm's two files have."""
     return rows(os.path.realpath(db))[0] + 3
+
+
+def shipped(pair: Pair) -> None:
+    """Waits until the standby has all that was answered."""
+    since = time.time()
+    wait_until("the standby", lambda: moment_of(pair.to) > since)
 
 
 @pytest.fixture
@@ -180,6 +188,22 @@ def test_a_follower_goes_on_over_its_standby_without_a_new_copy(pair: Pair) -> N
     assert count_in(pair.standby) == pair.count + 3
 
 
+def test_a_farm_whose_log_has_no_commit_is_followed(pair: Pair) -> None:
+    """The program that proves the copy begins such a log anew: commits behind its header would count for nothing."""
+    pair.stop()
+    pair.farm.kill()
+    with contextlib.closing(sqlite3.connect(pair.farm.db)) as conn:
+        conn.execute("pragma wal_checkpoint(truncate)")
+    pair.farm.start()
+    pair.follow()
+    with open(f"{pair.farm.db}-wal", "rb") as log, open(f"{os.path.realpath(pair.standby)}-wal", "rb") as copied:
+        assert copied.read(HEADER) == log.read(HEADER)
+    pair.passes(3)
+    shipped(pair)
+    pair.stop()
+    assert count_in(pair.standby) == pair.count + 3
+
+
 # ---- a farm that lost commands
 
 
@@ -210,8 +234,7 @@ def submitted(pair: Pair, times: int) -> None:
     for _ in range(times):
         pair.farm.submit("x", more=f"# {'x' * 30000}")
     count = pair.status()["count"]
-    since = time.time()
-    wait_until("the standby", lambda: moment_of(pair.to) > since)
+    shipped(pair)
     pair.count = count
 
 

@@ -7,7 +7,7 @@ import struct
 from typing import List, Tuple
 
 import pytest
-from farm_backup import wal
+from farm_backup import replica, tail, wal
 
 SIZE = 4096
 FRAME = wal.FRAME + SIZE
@@ -161,3 +161,17 @@ def test_a_log_follows_where_its_first_salt_is_the_next(before: int, after: int,
 
 def test_a_log_of_another_page_size_doesnt_follow() -> None:
     assert not wal.follows(head_of(header(6, page_size=8192)), head_of(header(5)))
+
+
+def test_commits_of_another_log_arent_added_to_a_copy(tmp_path: pathlib.Path) -> None:
+    """They would stand behind a header with other salts, and count for nothing."""
+    log, ends, file = logs(tmp_path, 2)
+    head, (before, end) = head_of(log), ends
+    (tmp_path / "copy").write_bytes(file)
+    (tmp_path / "copy-wal").write_bytes(log[:before])
+    with open(tmp_path / "copy", "r+b") as opened, open(tmp_path / "copy-wal", "r+b") as opened_log:
+        made = replica.Replica(opened.fileno(), opened_log.fileno())
+        other = wal.Head(log[:16] + bytes(8) + log[24:32], head.page_size, head.order, head.sum)
+        with pytest.raises(tail.Anew):
+            made.add(tail.Commits(other, log[before:end], made.pages.place))
+        assert (tmp_path / "copy-wal").read_bytes() == log[:before]

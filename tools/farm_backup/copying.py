@@ -17,7 +17,7 @@ import tempfile
 import time
 from typing import Callable, List, Optional, Tuple
 
-from farm_backup import pages, replica, tail
+from farm_backup import pages, replica, tail, wal
 from farm_backup.tail import NoCopy as NoCopy
 from fizgruk._tools import disk
 
@@ -58,7 +58,24 @@ class Farm:
             raise NoCopy(f"{self.db} is no farm ({_line(ran.stderr)})") from fault
 
     def prove(self) -> None:
-        """Opens a copy by `farm report`, which reads and checks all of it."""
+        """Opens a copy by `farm report`, which reads and checks all of it. The copy's log keeps its
+        header: the program begins a log without a commit anew, with a header of its own."""
+        header = self._header()
+        self._report()
+        if header and self._header() != header:
+            with open(self.log, "wb", buffering=0) as log:
+                log.write(header)
+                os.fsync(log.fileno())
+
+    def _header(self) -> bytes:
+        """The header of the log; nothing where there is no log."""
+        try:
+            with open(self.log, "rb") as log:
+                return log.read(wal.HEADER)
+        except FileNotFoundError:
+            return b""
+
+    def _report(self) -> None:
         words = [self.program, "report", "--db", self.db, "boards"]
         try:
             ran = subprocess.run(

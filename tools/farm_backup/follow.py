@@ -40,12 +40,15 @@ class Follower:
     def run(self) -> None:
         """Follows until a signal comes, or somebody else has the standby."""
         self._look_at_former()
-        while True:
-            began = time.monotonic()
-            self._round(time.time())
-            interrupts.check()
-            wait = RETRY if self.trouble else self.every
-            time.sleep(max(0.0, began + wait - time.monotonic()))
+        try:
+            while True:
+                began = time.monotonic()
+                self._round(time.time())
+                interrupts.check()
+                wait = RETRY if self.trouble else self.every
+                time.sleep(max(0.0, began + wait - time.monotonic()))
+        finally:
+            self._drop()
 
     def _round(self, moment: float) -> None:
         try:

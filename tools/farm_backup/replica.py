@@ -23,6 +23,8 @@ class Replica:
         """Adds a part of the farm's log."""
         if isinstance(part, tail.Begun):
             return self._begin(part.head)
+        if part.head != self.head:
+            raise tail.Anew("the copy's log is another than the farm's")
         write_at(self.log, part.data, self.pages.place.offset)
         if self.log_name:
             os.fsync(self.log)

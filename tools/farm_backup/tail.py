@@ -68,7 +68,8 @@ class Tail:
         self.checked = place  # how far the reader has added up the sums
         self.parts: List[Part] = []
         self.fault: Optional[Exception] = None
-        self.looker: Optional[Connection] = None  # the process that looks
+        self.looker: Optional[Connection] = None  # to the process that looks
+        self.process: Optional[multiprocessing.process.BaseProcess] = None
 
     @classmethod
     def from_beginning(cls, log: str) -> "Tail":
@@ -81,13 +82,17 @@ class Tail:
         self._look()
         forking = multiprocessing.get_context("fork")
         mine, its = forking.Pipe()
-        forking.Process(target=self._run, args=(its, mine), daemon=True).start()
+        self.process = forking.Process(target=self._run, args=(its, mine), daemon=True)
+        self.process.start()
         its.close()
         self.looker = mine
 
     def close(self) -> None:
-        if self.looker:
+        """Ends the process that looks, which has the caller's locks as long as it is there."""
+        if self.looker and self.process:
             self.looker.close()
+            self.process.terminate()
+            self.process.join()
 
     def _run(self, asked: Connection, others: Connection) -> None:
         """Looks until the reader is gone, and gives it what it asks for."""
