@@ -13,7 +13,7 @@ from typing import Callable, Iterator, List, Tuple
 
 import lab_texts
 import pytest
-from served import MODULES, TOOLS, Asks, environment, free_port, read, wait_until
+from served import MODULES, TOOLS, Asks, environment, free_port
 from turned import Home
 
 RPI = {"type": "rpi"}
@@ -73,8 +73,6 @@ class Lab(Home, Asks):
 
     def demand_untouched(self) -> None:
         """Demands that the desk serves the old farm, alone in its folder."""
-        # (a desk that was started just now has said nothing yet)
-        wait_until("the desk listens", lambda: read(os.path.join(self.folder, "said")))
         assert self.listens()
         assert [it["name"] for it in self.ask("ann", "GET", "/boards")[1]["boards"]] == ["b1", "b2", "r1"]
         assert self.listed() == ["lab.db", "lab.db-wal"]
