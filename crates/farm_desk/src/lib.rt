@@ -35,7 +35,7 @@ mod waiting;
 pub use farm_serve::{
     Client, Clients, DeskFault, ImportEnd, Input, Output, ScriptedClient, ScriptedClients,
     ServedClient, answered_act_as_run, conversations_join, conversations_keep_a_prefix, converse,
-    converse_counted, converse_in_memory, converse_in_turn, desk_lives_keep_what_was_answered,
+    converse_in_memory, converse_in_turn, desk_lives_keep_what_was_answered,
     found_after_any_clients, found_after_import, found_after_serving, import,
     request_answered_again, serve, serve_in_memory,
 };

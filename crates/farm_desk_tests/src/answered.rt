@@ -1,8 +1,7 @@
 //! Conversations over readers and writers that give and take little, or fail.
-use farm_desk::{DeskFault, Input, Output, converse_counted};
+use farm_desk::{DeskFault, Input, Output, converse};
 use farm_fakes::{FIRST_TYPE, Interrupted, Narrow, Slow, Tally, made, request};
 use farm_keep::Keeper;
-use farm_wire::{CountedReader, CountedWriter};
 use sqlite::{Alter, Connection};
 use std::alloc::{AllocError, Global};
 use std::process::Abort;
@@ -18,7 +17,7 @@ const FIRST_NUMBER: &[u8] =
 
 /// How a conversation ends: with its status, or the number of its fault; how often the reader was
 /// called, and whether it failed.
-type End = (u16, u32, bool);
+type End = (u16, usize, bool);
 
 /// The status, or the number of the fault.
 fn code_of(end: Result<u16, DeskFault>) -> u16 {
@@ -28,21 +27,16 @@ fn code_of(end: Result<u16, DeskFault>) -> u16 {
     }
 }
 
-/// One conversation, at moment 10. The reader and the writer count their calls too.
+/// One conversation, at moment 10.
 fn talk<R: Input, W: Output, S: Alter>(
-    rt: &impl Abort,
     alloc: Global,
     keeper: &mut Keeper<S>,
     reader: &mut R,
     writer: &mut W,
 ) -> End {
     let (mut input, mut output) = (Tally::new(reader), Tally::new(writer));
-    let mut reader = CountedReader::new(&mut input);
-    let mut writer = CountedWriter::new(&mut output);
-    let end = converse_counted(alloc, keeper, &mut reader, &mut writer, 10);
-    let (reads, writes, failed) = (reader.calls(), writer.calls(), reader.has_failed());
-    assert_eq!(rt; (reads as usize, writes), (input.calls, output.calls));
-    (code_of(end), reads, failed)
+    let end = converse(alloc, keeper, &mut input, &mut output, 10);
+    (code_of(end), input.calls, input.failures > 0)
 }
 
 /// The farm's accepted commands and its jobs; none where the keeper is closed.
@@ -58,26 +52,24 @@ fn counts<S: Alter>(keeper: &Keeper<S>) -> Option<(u64, u64)> {
 
 /// What the request of a reader is answered, and how the conversation ends.
 fn heard<R: Input, S: Alter>(
-    rt: &impl Abort,
     alloc: Global,
     keeper: &mut Keeper<S>,
     reader: &mut R,
 ) -> (Vec<u8>, End) {
     let mut output = Vec::new(alloc);
-    let end = talk(rt, alloc, keeper, reader, &mut output);
+    let end = talk(alloc, keeper, reader, &mut output);
     (output, end)
 }
 
 /// The same by a writer that takes one byte a call and is interrupted after so many, so often.
 fn heard_in_part<R: Input, S: Alter>(
-    rt: &impl Abort,
     alloc: Global,
     keeper: &mut Keeper<S>,
     reader: &mut R,
     (room, stops): (usize, u32),
 ) -> (Vec<u8>, End) {
     let mut output = Narrow::stopping(alloc, room, stops, true);
-    let end = talk(rt, alloc, keeper, reader, &mut output);
+    let end = talk(alloc, keeper, reader, &mut output);
     (output.held, end)
 }
 
@@ -87,8 +79,8 @@ fn expect_unread<R: Input, S: Alter>(
     alloc: Global,
     keeper: &mut Keeper<S>,
     reader: &mut R,
-) -> (u32, bool) {
-    let (answer, (code, calls, failed)) = heard(rt, alloc, keeper, reader);
+) -> (usize, bool) {
+    let (answer, (code, calls, failed)) = heard(alloc, keeper, reader);
     assert_eq!(rt; code, 80);
     assert!(rt; answer.is_empty());
     assert_eq!(rt; counts(keeper), Some((0, 0)));
@@ -134,7 +126,7 @@ fn bytes_one_by_one<S: Alter + Drop>(
 ) -> Result<(), Fail> {
     let mut keeper = made(alloc, conn).ok_or("no farm")?;
     let mut input = Slow::whole(FIRST_TYPE, 1);
-    let (answer, end) = heard_in_part(rt, alloc, &mut keeper, &mut input, (0, 0));
+    let (answer, end) = heard_in_part(alloc, &mut keeper, &mut input, (0, 0));
     assert_eq!(rt; end, (200, 74, false));
     assert!(rt; answer.as_slice() == DONE);
     Ok(())
@@ -168,7 +160,7 @@ fn largest_body<S: Alter + Drop>(
 ) -> Result<(), Fail> {
     let mut keeper = made(alloc, conn).ok_or("no farm")?;
     let mut input = Slow::whole(request, 0);
-    let (answer, end) = heard(rt, alloc, &mut keeper, &mut input);
+    let (answer, end) = heard(alloc, &mut keeper, &mut input);
     assert_eq!(rt; end, (200, 65_597, false));
     assert!(rt; answer.as_slice() == PASSED);
     assert_eq!(rt; counts(&keeper), Some((1, 0)));
@@ -195,7 +187,7 @@ fn expect<R: Input, S: Alter>(
     reader: &mut R,
     wanted: &[u8],
 ) {
-    let (answer, end) = heard(rt, alloc, keeper, reader);
+    let (answer, end) = heard(alloc, keeper, reader);
     assert!(rt; answer.as_slice() == wanted);
     assert_eq!(rt; end.0, 200);
 }
@@ -257,7 +249,7 @@ fn expect_lost<S: Alter>(
     (room, stops): (usize, u32),
 ) -> Result<(), Fail> {
     prepare(rt, alloc, keeper)?;
-    let (answer, end) = heard_in_part(rt, alloc, keeper, &mut &KEYED_JOB[..], (room, stops));
+    let (answer, end) = heard_in_part(alloc, keeper, &mut &KEYED_JOB[..], (room, stops));
     assert_eq!(rt; end.0, 81);
     assert!(rt; answer.len() == room && FIRST_NUMBER.starts_with(answer.as_slice()));
     assert_eq!(rt; counts(keeper), Some((4, 1)));

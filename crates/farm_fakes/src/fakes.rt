@@ -6,39 +6,48 @@ use std::alloc::Global;
 use std::io;
 use std::io::{Error, ErrorKind, Read, Write};
 
-/// Counts the calls of a reader or a writer, for itself.
+/// Counts the calls of a reader or a writer, and those at which it failed, for itself.
 #[derive(Drop)]
 pub struct Tally<T> {
     pub of: T,
     pub calls: usize,
+    pub failures: usize,
 }
 
 impl<T> Tally<T> {
     pub fn new(of: T) -> Tally<T> {
-        Tally { of, calls: 0 }
+        Tally {
+            of,
+            calls: 0,
+            failures: 0,
+        }
     }
 }
 
 impl<R: Read> Read for Tally<R> {
     fn read(&mut self, buf: &mut [u8]) -> io::Result<usize> {
-        self.calls = self.calls.saturating_add(1);
-        self.of.read(buf)
+        self.read_once(buf)
     }
 }
 
 impl<R: Read> Input for Tally<R> {
-    ghost turns = { λ tally. Some tally.calls };
+    ghost turns = { λ tally. Some (record { taken = tally.calls; failed = tally.failures }) };
 
     fn read_once(&mut self, buf: &mut [u8]) -> io::Result<usize> {
         self.calls = self.calls.saturating_add(1);
-        self.of.read(buf)
+        match self.of.read(buf) {
+            Err(error) if error.kind() != ErrorKind::Interrupted => {
+                self.failures = self.failures.saturating_add(1);
+                Err(error)
+            }
+            result => result,
+        }
     }
 }
 
 impl<W: Write> Write for Tally<W> {
     fn write(&mut self, buf: &[u8]) -> io::Result<usize> {
-        self.calls = self.calls.saturating_add(1);
-        self.of.write(buf)
+        self.write_once(buf)
     }
 
     fn flush(&mut self) -> io::Result<()> {
@@ -47,11 +56,15 @@ impl<W: Write> Write for Tally<W> {
 }
 
 impl<W: Write> Output for Tally<W> {
-    ghost turns = { λ tally. Some tally.calls };
+    ghost turns = { λ tally. Some (record { taken = tally.calls; failed = tally.failures }) };
 
     fn write_once(&mut self, bytes: &[u8]) -> io::Result<usize> {
         self.calls = self.calls.saturating_add(1);
-        self.of.write(bytes)
+        let result = self.of.write(bytes);
+        if !result.as_ref().is_ok_and(|count| *count > 0) {
+            self.failures = self.failures.saturating_add(1);
+        }
+        result
     }
 }
 

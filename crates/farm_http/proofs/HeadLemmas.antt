@@ -104,8 +104,8 @@ pub read_more : (a b c : Option (List ℕ)) (old all run : List ℕ) → all ≡
 read_more a b c old all run is before read = subst (Consumes a c) (sym is) (Consumes-trans a b c old run before read)
 
 -- where no further byte came, no head did
-pub byte_fails : (old : List ℕ) (AtEnd Spent : Type 0) (e : WireFault) → length old < longest_head → IsOpenBelow (length old) old → BodyFails 1 [] AtEnd Spent e → HeadFails old AtEnd Spent e
-byte_fails old AtEnd Spent NoMemory short o f = f
-byte_fails old AtEnd Spent Read short o f = f
-byte_fails old AtEnd Spent Write short o f = f
-byte_fails old AtEnd Spent (Refused r) short o f = inl (record { refused = f.refused; end = f.end; short = short; open_lines = o })
+pub byte_fails : (old : List ℕ) (AtEnd : Type 0) (e : WireFault) → length old < longest_head → IsOpenBelow (length old) old → BodyFails 1 [] AtEnd e → HeadFails old AtEnd e
+byte_fails old AtEnd NoMemory short o f = f
+byte_fails old AtEnd Read short o f = f
+byte_fails old AtEnd Write short o f = f
+byte_fails old AtEnd (Refused r) short o f = inl (record { refused = f.refused; end = f.end; short = short; open_lines = o })

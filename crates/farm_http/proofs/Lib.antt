@@ -3,6 +3,7 @@ pub mod FrontLemmas
 pub mod SliceReads
 pub mod Held
 pub mod Room
+pub mod TurnLemmas
 pub mod Whole
 pub mod Known
 pub mod DigitLemmas

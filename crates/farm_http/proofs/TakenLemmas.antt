@@ -74,12 +74,12 @@ not_refused bytes rest used more head code (h, is) e (inr (inr cut)) =
     let request : length bytes ≡ length (print_request h) + length (drop head bytes) = ap length is.whole ∙ length-append (print_request h) (drop head bytes) in
     absurd (omega (arith, printed, declared, taken, given, request, cut.short))
 
-pub request_is_taken : (bytes rest used more : List ℕ) (head : ℕ) (Spent : Type 0) (r : Result Taken WireFault) → IsRequest bytes head → bytes ++ rest ≡ used ++ more
-    → TakesBytes (bytes ++ rest) used Spent r → IsTaken bytes head Spent r
-request_is_taken bytes rest used more head Spent (Ok taken) request e (all, is) =
+pub request_is_taken : (bytes rest used more : List ℕ) (head : ℕ) (r : Result Taken WireFault) → IsRequest bytes head → bytes ++ rest ≡ used ++ more
+    → TakesBytes (bytes ++ rest) used r → IsTaken bytes head r
+request_is_taken bytes rest used more head (Ok taken) request e (all, is) =
     let one = one_request bytes rest used more head taken.head request is e in
     (sym all ∙ one.0, one.1)
-request_is_taken bytes rest used more head Spent (Err NoMemory) request e gives = tt
-request_is_taken bytes rest used more head Spent (Err Read) request e gives = gives
-request_is_taken bytes rest used more head Spent (Err Write) request e gives = gives
-request_is_taken bytes rest used more head Spent (Err (Refused r)) request e gives = absurd (not_refused bytes rest used more head r.code request e gives)
+request_is_taken bytes rest used more head (Err NoMemory) request e gives = tt
+request_is_taken bytes rest used more head (Err Read) request e gives = tt
+request_is_taken bytes rest used more head (Err Write) request e gives = gives
+request_is_taken bytes rest used more head (Err (Refused r)) request e gives = absurd (not_refused bytes rest used more head r.code request e gives)

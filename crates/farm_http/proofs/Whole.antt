@@ -47,12 +47,12 @@ request_of bytes body head k j h within long is declared =
     }
 
 -- a body that fails makes its request fail
-pub body_fails : (front used : List ℕ) (AtEnd Spent : Type 0) (e : WireFault) (h : RequestHead) (k : ℕ) → IsHead front h → Ok k ≡ body_length h
-    → BodyFails k used AtEnd Spent e → Fails (front ++ used) AtEnd Spent e
-body_fails front used AtEnd Spent NoMemory h k is declared f = absurd f
-body_fails front used AtEnd Spent Read h k is declared f = f
-body_fails front used AtEnd Spent Write h k is declared f = absurd f
-body_fails front used AtEnd Spent (Refused r) h k is declared f =
+pub body_fails : (front used : List ℕ) (AtEnd : Type 0) (e : WireFault) (h : RequestHead) (k : ℕ) → IsHead front h → Ok k ≡ body_length h
+    → BodyFails k used AtEnd e → Fails (front ++ used) AtEnd e
+body_fails front used AtEnd NoMemory h k is declared f = absurd f
+body_fails front used AtEnd Read h k is declared f = f
+body_fails front used AtEnd Write h k is declared f = absurd f
+body_fails front used AtEnd (Refused r) h k is declared f =
     let text = head_text front h is in
     inr (inr (record {
       head = h;
@@ -77,8 +77,8 @@ pub front_same : (bytes front : List ℕ) (head : ℕ) (h : RequestHead) → IsH
 front_same bytes front head h is whole = head_text front h is ∙ sym (head_text (take head bytes) h (front_is_head bytes head h whole))
 
 -- a head that fails makes its request fail
-pub head_fails : (used : List ℕ) (AtEnd Spent : Type 0) (e : WireFault) → HeadFails used AtEnd Spent e → Fails used AtEnd Spent e
-head_fails used AtEnd Spent NoMemory f = absurd f
-head_fails used AtEnd Spent Read f = f
-head_fails used AtEnd Spent Write f = f
-head_fails used AtEnd Spent (Refused r) f = inl f
+pub head_fails : (used : List ℕ) (AtEnd : Type 0) (e : WireFault) → HeadFails used AtEnd e → Fails used AtEnd e
+head_fails used AtEnd NoMemory f = absurd f
+head_fails used AtEnd Read f = f
+head_fails used AtEnd Write f = f
+head_fails used AtEnd (Refused r) f = inl f

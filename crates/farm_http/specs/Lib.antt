@@ -3,7 +3,6 @@ pub mod Fronts
 pub mod Request
 pub mod Heads
 pub mod Requests
-pub mod Counts
 pub mod Turns
 pub mod Room
 pub mod Faults

@@ -1,21 +1,21 @@
 //! What requests are read from.
-ghost use Rattle.std.specs.Prelude.{◌≢◌, ℕ, ◌-◌, ◌<◌, ◌≤◌, ⊤, length, take, None, Option, All, IfOk, IsOk};
+ghost use Rattle.std.specs.Prelude.{◌≢◌, ◌-◌, ◌<◌, ◌≤◌, ⊤, length, take, None, Option, All, IfOk, IsOk};
 ghost use Rattle.std.specs.Io.{ReadsAtMost, StopsAt};
 ghost use Rattle.std.specs.Io.KnownBytes.{ReadConsumes};
 ghost use Rattle.httparse.specs.Ascii.{line_feed};
-ghost use Rattle.farm_http.specs.Turns.{IsOneMore};
+ghost use Rattle.farm_http.specs.Turns.{CountsRead, Turns};
 
 use std::alloc::Allocator;
 use std::io::{self, BufRead, BufReader, Read, Stdin};
 
 /// A reader, and what `Read` does not say of it: that it never fails, where that is so, and how
-/// often it was called, where it counts that.
+/// often it was called and failed, where it counts that.
 pub trait Input: Read {
     /// It never fails and is never interrupted.
     ghost never_fails: { Type 0 } = { ⊥ };
 
-    /// How often it was called, where it counts that.
-    ghost turns: { Self → Option ℕ } = { λ _. None };
+    /// How often it was called and how often it failed, where it counts that.
+    ghost turns: { Self → Option Turns } = { λ _. None };
 
     /// Calls `read` once.
     fn read_once(&mut self, buf: &mut [u8]) -> io::Result<usize>
@@ -23,7 +23,7 @@ pub trait Input: Read {
         ensures bytes { ReadConsumes (Self.remaining self.old) (Self.remaining self.new)
             result buf.new }
         ensures sure { never_fails → IsOk result }
-        ensures once { IsOneMore (turns self.old) (turns self.new) };
+        ensures once { CountsRead (turns self.old) (turns self.new) result };
 
     /// Reads what is at hand of a line, as by one call of `read`: no byte before the last is a line
     /// feed. A reader that can't tell gives one byte.
@@ -34,7 +34,7 @@ pub trait Input: Read {
             result buf.new }
         ensures line { IfOk result (λ n. StopsAt (take n buf.new) line_feed) }
         ensures sure { never_fails → IsOk result }
-        ensures once { IsOneMore (turns self.old) (turns self.new) }
+        ensures once { CountsRead (turns self.old) (turns self.new) result }
     {
         self.read_once(&mut buf[..1])
     }

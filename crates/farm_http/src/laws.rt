@@ -1,19 +1,18 @@
 //! Laws over what is taken of an input and written to an output.
-ghost use Rattle.std.specs.Prelude.{◌≡◌, ℕ, ◌+◌, ◌≤◌, ◌++◌, List, IfErr, IsOk, OnErr, OnOk, Result};
+ghost use Rattle.std.specs.Prelude.{◌≡◌, ◌≢◌, ℕ, ◌+◌, ◌≤◌, ◌++◌, List, IfErr, IsOk, OnErr, OnOk, Result};
 ghost use Rattle.std.specs.Prelude.{Some, length, vec_capacity};
 ghost use Rattle.httparse.specs.Grammar.{RequestHead, ReadsRequest, print_request};
 ghost use Rattle.farm_types.specs.Limits.{longest_head, most_fields};
 ghost use Rattle.farm_http.specs.declared.fault.WireFault.{WireFault};
 ghost use Rattle.farm_http.specs.declared.taken.Taken.{Taken};
 ghost use Rattle.farm_http.specs.Heads.{HasNoHead};
-ghost use Rattle.farm_http.specs.Counts.{Reading, IsSpent};
 ghost use Rattle.farm_http.specs.Requests.{IsRequest};
 ghost use Rattle.farm_http.specs.Faults.{TakesBytes, IsTaken, TakesFrom, WritesPrefix};
 
-use crate::counted_writer::write_whole;
 use crate::fault::WireFault;
 use crate::request::read_request;
 use crate::taken::Taken;
+use crate::writing::write_whole;
 use std::alloc::Global;
 
 /// Where a head stands at the front of the input, nothing is refused for want of a head.
@@ -27,17 +26,16 @@ pub fn head_is_found()
 /// Where a request stands at the front of the input, it is what reading takes, whatever follows:
 /// `used` left the reader, `more` is still in it.
 pub fn request_is_taken()
-    ensures { (request rest used more : List ℕ) (head : ℕ) (count : Reading)
-        → (taken : Result Taken WireFault)
+    ensures { (request rest used more : List ℕ) (head : ℕ) (taken : Result Taken WireFault)
         → IsRequest request head → request ++ rest ≡ used ++ more
-        → TakesBytes (request ++ rest) used (IsSpent count) taken
-        → IsTaken request head (IsSpent count) taken }
+        → TakesBytes (request ++ rest) used taken → IsTaken request head taken }
 {}
 
 /// Reads a request of bytes in memory as `read_request` does. They never fail, so the fault is never
 /// Read: it is a refusal of these bytes, or want of memory before the first.
 pub fn read_from_memory(alloc: Global, input: &mut &[u8]) -> Result<Taken, WireFault>
-    ensures { TakesFrom input.old.now (Some input.new.now) ⊥ result }
+    ensures takes { TakesFrom input.old.now (Some input.new.now) result }
+    ensures sure { IfErr result (λ e. e ≢ WireFault.Read) }
 {
     read_request(alloc, input)
 }

@@ -7,16 +7,14 @@
 //! of a line, and of any other one for each byte, so a caller buffers what is dear to call.
 //!
 //! A reader is an `Input` and a writer an `Output`, which say what `Read` and `Write` don't: that
-//! bytes in memory never fail, and that a vector takes what it has room for.
+//! bytes in memory never fail, that a vector takes what it has room for, and of any that counts its
+//! turns when it failed.
 //!
-//! Read `specs/` in the order Fields, Request, Heads, Requests, Fronts, Counts, Turns, Room, Faults: what a
-//! head says, when bytes are a request, when they are refused, what the first ones say, which room a
-//! writer keeps, and what a
-//! fault says of them and of the reader.
+//! Read `specs/` in the order Fields, Request, Heads, Requests, Fronts, Turns, Room, Faults: what a
+//! head says, when bytes are a request, when they are refused, what the first ones say, which turns
+//! a reader or a writer took, which room a writer keeps, and what a fault says of the bytes.
 #![tactic(auto)]
 
-mod counted_reader;
-mod counted_writer;
 mod digits;
 mod fault;
 mod fields;
@@ -24,12 +22,14 @@ mod front;
 mod input;
 mod laws;
 mod output;
+mod reading;
 mod request;
 mod taken;
+mod writing;
 
 // One request, read from an input, and what its first bytes say of it.
 pub use front::{Front, front_of};
-pub use request::{read_request, read_request_counted};
+pub use request::read_request;
 pub use taken::Taken;
 
 // The parts of a request: method, target, fields and body.
@@ -40,7 +40,7 @@ pub use taken::{Parts, parts_of};
 pub use digits::{is_digits, number_within};
 
 // Bytes written whole to an output.
-pub use counted_writer::{write_whole, write_whole_counted};
+pub use writing::write_whole;
 
 // What goes wrong between a desk and its client.
 pub use fault::WireFault;
@@ -48,10 +48,6 @@ pub use fault::WireFault;
 // Readers and writers.
 pub use input::Input;
 pub use output::Output;
-
-// A reader and a writer whose calls are counted, for proofs of what they saw.
-pub use counted_reader::CountedReader;
-pub use counted_writer::CountedWriter;
 
 // What is proved of reading and writing: functions that only proofs read.
 pub use laws::{head_is_found, read_from_memory, request_is_taken, write_to_memory};

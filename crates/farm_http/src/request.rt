@@ -1,7 +1,6 @@
 //! Reading one request.
 ghost use Rattle.std.specs.Prelude.{◌≡◌, ◌≢◌, ℕ, ◌+◌, ◌-◌, ◌<◌, ◌≤◌, ◌++◌, length, [], take, is_some};
-ghost use Rattle.std.specs.Prelude.{vec_capacity, false, ⊤, List, IsTrue, IfOk, IfErr, IfSome};
-ghost use Rattle.std.specs.Prelude.{OnOk, OnErr, IsErrOf};
+ghost use Rattle.std.specs.Prelude.{vec_capacity, List, IfOk, IfErr, IfSome, OnOk, OnErr};
 ghost use Rattle.std.specs.Io.{StopsAt};
 ghost use Rattle.std.specs.Io.KnownBytes.{Consumes, IsAtEnd, Keeps};
 ghost use Rattle.httparse.specs.Ascii.{line_feed};
@@ -10,13 +9,13 @@ ghost use Rattle.farm_types.specs.Limits.{longest_body, longest_head, most_field
 ghost use Rattle.farm_http.specs.Fields.{body_length, refusal_by_number};
 ghost use Rattle.farm_http.specs.Faults.{HeadFails, BodyFails, FailsAfter, TakesFrom};
 ghost use Rattle.farm_http.specs.Heads.{IsHead, IsHopeless, IsOpenBelow, FindsHead, AreSpansOf};
-ghost use Rattle.farm_http.specs.Counts.{nothing_read, reader_of, reading_of, IsSameReader, IsSpent};
 ghost use Rattle.farm_http.specs.Requests.{IsRequest};
+ghost use Rattle.farm_http.specs.Turns.{SpendsTurns};
 
-use crate::counted_reader::{CountedReader, Reach, read_some};
 use crate::fault::WireFault;
 use crate::fields::declared_among;
 use crate::input::Input;
+use crate::reading::{Reach, read_some};
 use crate::taken::Taken;
 use farm_types::{
     BAD_REQUEST, LONGEST_BODY, LONGEST_HEAD, MOST_FIELDS, MOST_READS, Refusal, TOO_LARGE,
@@ -41,40 +40,16 @@ const LONGEST_RUN: usize = 256;
 pub fn read_request<R: Input>(alloc: Global, reader: &mut R) -> Result<Taken, WireFault>
     ensures taken { IfOk result
         (λ taken. Consumes (R.remaining reader.old) (R.remaining reader.new) taken.bytes.items) }
-    ensures fault { IfErr result (FailsAfter (R.remaining reader.old) (R.remaining reader.new) ⊤) }
-
-    // Of a reader whose bytes are known, its end is the end of the input.
-    ensures known { IfSome (R.remaining reader.old)
-        (λ input. TakesFrom input (R.remaining reader.new) ⊤ result) }
-
-    // One that never fails, as bytes in memory, is never blamed.
-    ensures sure { R.never_fails → IfErr result (λ e. e ≢ WireFault.Read) }
-{
-    read_request_counted(alloc, &mut CountedReader::new(reader))
-}
-
-/// Reads one request as `read_request` does, and counts how often the reader was called and whether
-/// it failed.
-pub fn read_request_counted<R: Input>(
-    alloc: Global,
-    reader: &mut CountedReader<'_, R>,
-) -> Result<Taken, WireFault>
-    requires fresh { reading_of reader.old ≡ nothing_read }
-    ensures same { IsSameReader reader.old reader.new }
-    ensures taken { IfOk result
-        (λ taken. Consumes (R.remaining (reader_of reader.old)) (R.remaining (reader_of reader.new))
-        taken.bytes.items) }
+    ensures fault { IfErr result (FailsAfter (R.remaining reader.old) (R.remaining reader.new)) }
 
     // The fault Read comes only of a reader that failed or took all its turns, and of one that
     // failed nothing else comes.
-    ensures fault { IfErr result
-        (FailsAfter (R.remaining (reader_of reader.old)) (R.remaining (reader_of reader.new))
-        (IsSpent (reading_of reader.new))) }
-    ensures failed { IsTrue (reading_of reader.new).failed → IsErrOf result WireFault.Read }
-    ensures turns { (reading_of reader.new).calls ≤ most_reads }
-    ensures known { IfSome (R.remaining (reader_of reader.old))
-        (λ input. TakesFrom input (R.remaining (reader_of reader.new))
-        (IsSpent (reading_of reader.new)) result) }
+    ensures turns { (left : ℕ)
+        × SpendsTurns most_reads left (R.turns reader.old) (R.turns reader.new) result }
+
+    // Of a reader whose bytes are known, its end is the end of the input.
+    ensures known { IfSome (R.remaining reader.old)
+        (λ input. TakesFrom input (R.remaining reader.new) result) }
 
     // One that never fails, as bytes in memory, is never blamed.
     ensures sure { R.never_fails → IfErr result (λ e. e ≢ WireFault.Read) }
@@ -95,67 +70,61 @@ pub fn read_request_counted<R: Input>(
 /// Reads a request into bytes that have room for it, and gives the length of its head and where the
 /// head's parts are. Only as many bytes are cleared as the body has.
 fn fill<R: Input>(
-    reader: &mut CountedReader<'_, R>,
+    reader: &mut R,
     bytes: &mut Vec<u8>,
     headers: &mut [HeaderSpan],
 ) -> Result<(usize, RequestSpans), WireFault>
     requires empty { bytes.old.items ≡ [] }
     requires fields { length headers.old ≡ most_fields }
     requires room { longest_head + longest_body ≤ vec_capacity bytes.old }
-    requires fresh { reading_of reader.old ≡ nothing_read }
-    ensures same { IsSameReader reader.old reader.new }
     ensures request { IfOk result (λ found. IsRequest bytes.new.items found.0) }
     ensures spans { IfOk result
         (λ found. AreSpansOf (take found.0 bytes.new.items) headers.new found.1) }
     ensures taken { OnOk result
-        (Consumes (R.remaining (reader_of reader.old)) (R.remaining (reader_of reader.new))
-        bytes.new.items) }
-    ensures fault { IfErr result
-        (FailsAfter (R.remaining (reader_of reader.old)) (R.remaining (reader_of reader.new))
-        (IsSpent (reading_of reader.new))) }
-    ensures failed { IsTrue (reading_of reader.new).failed → IsErrOf result WireFault.Read }
-    ensures turns { (reading_of reader.new).calls ≤ most_reads }
+        (Consumes (R.remaining reader.old) (R.remaining reader.new) bytes.new.items) }
+    ensures fault { IfErr result (FailsAfter (R.remaining reader.old) (R.remaining reader.new)) }
+    ensures turns { (left : ℕ)
+        × SpendsTurns most_reads left (R.turns reader.old) (R.turns reader.new) result }
     ensures sure { R.never_fails → IfErr result (λ e. e ≢ WireFault.Read) }
 {
-    let spans = read_head(reader, bytes, headers)?;
+    let mut left = MOST_READS;
+    let spans = read_head(reader, &mut left, bytes, headers)?;
     let head = bytes.len();
     let body = length_after(bytes.as_slice(), headers, spans)?;
     let Ok(()) = bytes.resize(head + body, 0) else {
         return Err(WireFault::NoMemory);
     };
-    read_body(reader, &mut bytes[head..])?;
+    read_body(reader, &mut left, &mut bytes[head..])?;
     Ok((head, spans))
 }
 
 /// Reads a head into bytes that have room for it, and gives where its parts are.
+#[tactic(auto, using(crate::proofs::TurnLemmas::leaves_all))]
 fn read_head<R: Input>(
-    reader: &mut CountedReader<'_, R>,
+    reader: &mut R,
+    left: &mut u32,
     bytes: &mut Vec<u8>,
     headers: &mut [HeaderSpan],
 ) -> Result<RequestSpans, WireFault>
     requires empty { bytes.old.items ≡ [] }
     requires room { longest_head ≤ vec_capacity bytes.old }
     requires fields { length headers.old ≡ most_fields }
-    requires fresh { reading_of reader.old ≡ nothing_read }
-    ensures same { IsSameReader reader.old reader.new }
     ensures capacity { vec_capacity bytes.old ≤ vec_capacity bytes.new }
     ensures within { OnOk result (length bytes.new.items ≤ longest_head) }
     ensures head { OnOk result ((h : RequestHead) × IsHead bytes.new.items h) }
     ensures spans { IfOk result (AreSpansOf bytes.new.items headers.new) }
     ensures bytes { OnOk result
-        (Consumes (R.remaining (reader_of reader.old)) (R.remaining (reader_of reader.new))
-        bytes.new.items) }
+        (Consumes (R.remaining reader.old) (R.remaining reader.new) bytes.new.items) }
     ensures fault { IfErr result (λ e. (used : List ℕ)
-        × Consumes (R.remaining (reader_of reader.old)) (R.remaining (reader_of reader.new)) used
-        × HeadFails used (IsAtEnd (R.remaining (reader_of reader.new)))
-        (IsSpent (reading_of reader.new)) e) }
-    ensures failed { IsTrue (reading_of reader.new).failed → IsErrOf result WireFault.Read }
-    ensures turns { (reading_of reader.new).calls ≤ most_reads }
-    ensures sure { R.never_fails → IfErr result (λ e. e ≢ WireFault.Read) }
-    ensures quick { R.never_fails → (reading_of reader.new).calls ≤ longest_head }
+        × Consumes (R.remaining reader.old) (R.remaining reader.new) used
+        × HeadFails used (IsAtEnd (R.remaining reader.new)) e) }
+    ensures turns { SpendsTurns left.old left.new (R.turns reader.old) (R.turns reader.new) result }
+    ensures sure { R.never_fails → longest_head ≤ left.old
+        → IfErr result (λ e. e ≢ WireFault.Read) }
+    ensures quick { R.never_fails → left.old ≤ left.new + longest_head }
 {
     while bytes.len() < LONGEST_HEAD {
-        read_run(reader, bytes)?;
+        read_run(reader, left, bytes)?;
         if let Some(spans) = spans_of(bytes.as_slice(), headers)? {
             return Ok(spans);
         }
@@ -164,37 +133,23 @@ fn read_head<R: Input>(
 }
 
 /// Reads what is at hand of a line behind bytes that have room for a head.
-fn read_run<R: Input>(
-    reader: &mut CountedReader<'_, R>,
-    bytes: &mut Vec<u8>,
-) -> Result<(), WireFault>
-    requires turns { (reading_of reader.old).calls ≤ most_reads }
-    requires alive { (reading_of reader.old).failed ≡ false }
+fn read_run<R: Input>(reader: &mut R, left: &mut u32, bytes: &mut Vec<u8>) -> Result<(), WireFault>
     requires short { length bytes.old.items < longest_head }
     requires room { longest_head ≤ vec_capacity bytes.old }
-    ensures same { IsSameReader reader.old reader.new }
     ensures capacity { vec_capacity bytes.old ≤ vec_capacity bytes.new }
     ensures within { OnOk result (length bytes.new.items ≤ longest_head) }
     ensures some { OnOk result (length bytes.old.items < length bytes.new.items) }
     ensures run { OnOk result ((run : List ℕ) × (bytes.new.items ≡ bytes.old.items ++ run)
-        × StopsAt run line_feed
-        × Consumes (R.remaining (reader_of reader.old)) (R.remaining (reader_of reader.new)) run) }
-    ensures alive { OnOk result ((reading_of reader.new).failed ≡ false) }
-    ensures kept { OnErr result (Keeps (R.remaining (reader_of reader.old))
-        (R.remaining (reader_of reader.new))) }
-    ensures fault { IfErr result
-        (BodyFails 1 [] (IsAtEnd (R.remaining (reader_of reader.new)))
-        (IsSpent (reading_of reader.new))) }
-    ensures failed { IsTrue (reading_of reader.new).failed → IsErrOf result WireFault.Read }
-    ensures turns { (reading_of reader.new).calls ≤ most_reads }
-    ensures sure { R.never_fails → (reading_of reader.old).calls < most_reads
-        → IfErr result (λ e. e ≢ WireFault.Read) }
-    ensures once { R.never_fails
-        → (reading_of reader.new).calls ≤ (reading_of reader.old).calls + 1 }
+        × StopsAt run line_feed × Consumes (R.remaining reader.old) (R.remaining reader.new) run) }
+    ensures kept { OnErr result (Keeps (R.remaining reader.old) (R.remaining reader.new)) }
+    ensures fault { IfErr result (BodyFails 1 [] (IsAtEnd (R.remaining reader.new))) }
+    ensures turns { SpendsTurns left.old left.new (R.turns reader.old) (R.turns reader.new) result }
+    ensures sure { R.never_fails → 0 < left.old → IfErr result (λ e. e ≢ WireFault.Read) }
+    ensures once { R.never_fails → left.old ≤ left.new + 1 }
 {
     let mut run = [0u8; LONGEST_RUN];
     let room = LONGEST_RUN.min(LONGEST_HEAD - bytes.len());
-    let count = read_some(reader, &mut run[..room], Reach::Line)?;
+    let count = read_some(reader, left, &mut run[..room], Reach::Line)?;
     if count == 0 {
         return Err(WireFault::Refused(Refusal { code: BAD_REQUEST }));
     }
@@ -239,24 +194,20 @@ pub(crate) fn length_after(
 }
 
 /// Reads a body of a known length.
-fn read_body<R: Input>(reader: &mut CountedReader<'_, R>, body: &mut [u8]) -> Result<(), WireFault>
-    requires turns { (reading_of reader.old).calls ≤ most_reads }
-    requires alive { (reading_of reader.old).failed ≡ false }
-    ensures same { IsSameReader reader.old reader.new }
-    ensures ok { OnOk result (Consumes (R.remaining (reader_of reader.old))
-        (R.remaining (reader_of reader.new)) body.new) }
+#[tactic(auto, using(crate::proofs::TurnLemmas::leaves_all))]
+fn read_body<R: Input>(reader: &mut R, left: &mut u32, body: &mut [u8]) -> Result<(), WireFault>
+    ensures ok { OnOk result
+        (Consumes (R.remaining reader.old) (R.remaining reader.new) body.new) }
     ensures fault { IfErr result (λ e. (used : List ℕ)
-        × Consumes (R.remaining (reader_of reader.old)) (R.remaining (reader_of reader.new)) used
-        × BodyFails (length body.old) used (IsAtEnd (R.remaining (reader_of reader.new)))
-        (IsSpent (reading_of reader.new)) e) }
-    ensures failed { IsTrue (reading_of reader.new).failed → IsErrOf result WireFault.Read }
-    ensures turns { (reading_of reader.new).calls ≤ most_reads }
-    ensures sure { R.never_fails → (reading_of reader.old).calls + length body.old ≤ most_reads
+        × Consumes (R.remaining reader.old) (R.remaining reader.new) used
+        × BodyFails (length body.old) used (IsAtEnd (R.remaining reader.new)) e) }
+    ensures turns { SpendsTurns left.old left.new (R.turns reader.old) (R.turns reader.new) result }
+    ensures sure { R.never_fails → length body.old ≤ left.old
         → IfErr result (λ e. e ≢ WireFault.Read) }
 {
     let mut at = 0usize;
     while at < body.len() {
-        let count = read_some(reader, &mut body[at..], Reach::Room)?;
+        let count = read_some(reader, left, &mut body[at..], Reach::Room)?;
         if count == 0 {
             return Err(WireFault::Refused(Refusal { code: BAD_REQUEST }));
         }

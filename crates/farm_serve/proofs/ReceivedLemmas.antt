@@ -5,6 +5,8 @@ use Rattle.farm_types.specs.declared.refusal.Refusal.{Refusal}
 use Rattle.farm_http.specs.Request.{Request, request_of}
 use Rattle.farm_http.specs.Requests.{IsRequest, ParsesTo}
 use Rattle.farm_http.specs.Faults.{FailsAfter, TakesFrom}
+use Rattle.farm_http.specs.Turns.{Turns, IsSpent, IsSpentBy}
+use Rattle.farm_types.specs.Limits.{most_reads}
 use Rattle.farm_http.specs.declared.taken.Taken.{Taken}
 use Rattle.farm_http.specs.declared.fault.WireFault.{WireFault}
 use Rattle.farm_http.specs.declared.fault.WireFault.TheVariants.{NoMemory, Read, Write, Refused}
@@ -17,8 +19,8 @@ use Rattle.farm_serve.specs.Received.{plain_ask, receive_error, IsMeant, Asks, R
 use Rattle.farm_serve.specs.declared.conversation.ReceiveError.{ReceiveError}
 
 -- what was taken of a reader whose bytes are known
-abbrev pub Known : Option (List ℕ) → Option (List ℕ) → Type 0 → Result Taken WireFault → Type 0
-Known input rest Spent taken = IfSome input (λ bytes. TakesFrom bytes rest Spent taken)
+abbrev pub Known : Option (List ℕ) → Option (List ℕ) → Result Taken WireFault → Type 0
+Known input rest taken = IfSome input (λ bytes. TakesFrom bytes rest taken)
 
 -- what a request means is asked by its bytes
 pub asks_meant : (used : List ℕ) (AtEnd : Type 0) (now : ℕ) (what : Result Ask Denial) → IsMeant used now what → Asks used AtEnd now what
@@ -41,49 +43,50 @@ meant_of used taken now what same whole means =
       means = means request (subst (λ bytes. ParsesTo bytes taken.head request) same parsed);
     }
 
-pub receives_meant : (input rest : Option (List ℕ)) (now : ℕ) (Spent : Type 0) (taken : Taken) (what : Result Ask Denial)
-    → Known input rest Spent (Ok taken)
+pub receives_meant : (input rest : Option (List ℕ)) (now : ℕ) (taken : Taken) (what : Result Ask Denial)
+    → Known input rest (Ok taken)
     → ((request : Request) → ParsesTo taken.bytes.items taken.head request → ask request now ≡ plain_ask what)
     → Receives input rest now what
-receives_meant None rest now Spent taken what known means = tt
-receives_meant (Some bytes) rest now Spent taken what known means =
+receives_meant None rest now taken what known means = tt
+receives_meant (Some bytes) rest now taken what known means =
     record {
       used = known.0;
       taken = known.1;
       asks = asks_meant known.0 (known.0 ≡ bytes) now what (meant_of known.0 taken now what known.2.0 known.2.1 means);
     }
 
-pub receives_refused : (input rest : Option (List ℕ)) (now : ℕ) (Spent : Type 0) (refusal : Refusal)
-    → Known input rest Spent (Err (Refused refusal)) → Receives input rest now (Err (refused refusal.code))
-receives_refused None rest now Spent refusal known = tt
-receives_refused (Some bytes) rest now Spent refusal known = record { used = known.0; taken = known.1; asks = inl known.2 }
+pub receives_refused : (input rest : Option (List ℕ)) (now : ℕ) (refusal : Refusal)
+    → Known input rest (Err (Refused refusal)) → Receives input rest now (Err (refused refusal.code))
+receives_refused None rest now refusal known = tt
+receives_refused (Some bytes) rest now refusal known = record { used = known.0; taken = known.1; asks = inl known.2 }
 
-pub receives_whole : (input rest : Option (List ℕ)) (Spent : Type 0) (taken : Taken)
-    → Known input rest Spent (Ok taken) → ReceivesWhole input rest
-receives_whole None rest Spent taken known = tt
-receives_whole (Some bytes) rest Spent taken known =
+pub receives_whole : (input rest : Option (List ℕ)) (taken : Taken)
+    → Known input rest (Ok taken) → ReceivesWhole input rest
+receives_whole None rest taken known = tt
+receives_whole (Some bytes) rest taken known =
     record { used = known.0; taken = known.1; whole = inr (taken.head, known.2.1) }
 
-pub receives_nothing : (input rest : Option (List ℕ)) (Spent : Type 0)
-    → Known input rest Spent (Err NoMemory) → ReceivesWhole input rest
-receives_nothing None rest Spent known = tt
-receives_nothing (Some bytes) rest Spent known = record { used = known.0; taken = known.1; whole = inl known.2 }
+pub receives_nothing : (input rest : Option (List ℕ))
+    → Known input rest (Err NoMemory) → ReceivesWhole input rest
+receives_nothing None rest known = tt
+receives_nothing (Some bytes) rest known = record { used = known.0; taken = known.1; whole = inl known.2 }
 
 -- no request was read
-pub receive_fails : (input rest : Option (List ℕ)) (now : ℕ) (Spent : Type 0) (fault : WireFault)
-    → Known input rest Spent (Err fault) → FailsAfter input rest Spent fault → ReceivesResult input rest now Spent (Err (receive_error fault))
-receive_fails input rest now Spent NoMemory known fails = receives_nothing input rest Spent known
-receive_fails input rest now Spent Read known fails = fails.2
-receive_fails input rest now Spent Write known fails = absurd fails.2
-receive_fails input rest now Spent (Refused refusal) known fails = receives_refused input rest now Spent refusal known
+pub receive_fails : (input rest : Option (List ℕ)) (now left : ℕ) (old new : Option Turns) (fault : WireFault)
+    → Known input rest (Err fault) → FailsAfter input rest fault → IsSpentBy most_reads left old new fault
+    → ReceivesResult input rest now (IsSpent most_reads old new) (Err (receive_error fault))
+receive_fails input rest now left old new NoMemory known fails spent = receives_nothing input rest known
+receive_fails input rest now left old new Read known fails spent = spent
+receive_fails input rest now left old new Write known fails spent = absurd fails.2
+receive_fails input rest now left old new (Refused refusal) known fails spent = receives_refused input rest now refusal known
 
 -- one was read, and it asks nothing
 pub receives_bad_request : (input rest : Option (List ℕ)) (now : ℕ) (Spent : Type 0) (taken : Taken) (fault : AskFault)
-    → Known input rest Spent (Ok taken)
+    → Known input rest (Ok taken)
     → ((request : Request) → ParsesTo taken.bytes.items taken.head request → FaultOrNoMemory (denial_of fault) (ask request now))
     → ReceivesResult input rest now Spent (Err (ReceiveError.BadRequest fault))
-receives_bad_request input rest now Spent taken AskFault.NoMemory known means = receives_whole input rest Spent taken known
+receives_bad_request input rest now Spent taken AskFault.NoMemory known means = receives_whole input rest taken known
 receives_bad_request input rest now Spent taken (AskFault.Refused refusal) known means =
-    receives_meant input rest now Spent taken (Err (refused refusal.code)) known means
+    receives_meant input rest now taken (Err (refused refusal.code)) known means
 receives_bad_request input rest now Spent taken (AskFault.Method allowed) known means =
-    receives_meant input rest now Spent taken (Err (other_methods allowed)) known means
+    receives_meant input rest now taken (Err (other_methods allowed)) known means

@@ -2,6 +2,7 @@
 use Rattle.std.specs.Prelude.{◌≡◌, ℕ, Bool, true, false, List, length, Option, Result, Err}
 use Rattle.std.specs.Io.KnownBytes.{Appends, Keeps}
 use Rattle.farm_http.specs.Faults.{WritesPrefix}
+use Rattle.farm_http.specs.Turns.{Turns, FailsBehind, TakesTurns}
 use Rattle.farm_keep.specs.KeeperState.{KeeperState}
 use Rattle.farm_serve.specs.declared.fault.DeskFault.{DeskFault}
 
@@ -32,6 +33,11 @@ pub record WritesAnswer (Response : List ℕ → Result ℕ DeskFault → Type 0
   pub bytes : List ℕ
   pub response : Response bytes end
   pub written : Writes Room failed held holds bytes
+
+-- by the writer's own count it failed, or failed at none of its turns
+abbrev pub CountsLoss : Option Turns → Option Turns → Bool → Type 0
+CountsLoss old new true = (n : ℕ) × FailsBehind n old new
+CountsLoss old new false = (n : ℕ) × TakesTurns n old new
 
 -- the writer had no room for the answer that was due
 pub record HasNoRoom (Response : List ℕ → Result ℕ DeskFault → Type 0) (Room : ℕ → Type 0)

@@ -1,26 +1,26 @@
 //! A conversation: one request is received, parsed as what it asks, and one answer written.
-ghost use Rattle.std.specs.Prelude.{◌≡◌, ◌≢◌, ◌≤◌, ◌↔◌, false, Err, IsOk, IfOk, IfErr, IsTrue};
+ghost use Rattle.std.specs.Prelude.{◌≡◌, ◌≢◌, ◌≤◌, ℕ, false, Err, IsOk, IfOk, IfErr};
 ghost use Rattle.sqlite.specs.Held.{state};
 ghost use Rattle.sqlite_trees.specs.View.{doubt};
+ghost use Rattle.farm_types.specs.Limits.{most_reads};
 ghost use Rattle.farm_types.specs.Reads.{OrNoMemory};
-ghost use Rattle.farm_http.specs.Counts.{nothing_read, nothing_written, reader_of, reading_of, writer_of};
-ghost use Rattle.farm_http.specs.Counts.{writing_of, IsSameReader, IsSameWriter, IsSpent};
 ghost use Rattle.farm_http.specs.Request.{Request};
 ghost use Rattle.farm_http.specs.Requests.{ParsesTo};
 ghost use Rattle.farm_http.specs.Room.{KeepsRoom};
+ghost use Rattle.farm_http.specs.Turns.{IsSpent, FailsBehind, TakesTurns};
 ghost use Rattle.farm_wire.specs.Asked.{ask, shown_ask};
 ghost use Rattle.farm_wire.specs.Reading.{denial_of};
 ghost use Rattle.farm_serve.specs.Received.{ReceivesResult};
 ghost use Rattle.farm_serve.specs.Response.{IsResponse};
 ghost use Rattle.farm_serve.specs.Ends.{IsAnswered, IsUnwritten, IsUnread, WritesAnswer, EndsWritten};
-ghost use Rattle.farm_serve.specs.Ends.{HasNoRoom};
+ghost use Rattle.farm_serve.specs.Ends.{HasNoRoom, CountsLoss};
 ghost use Rattle.farm_serve.specs.Encoding.{bytes_in};
 
 use crate::answer::{Response, response_to};
 use crate::fault::DeskFault;
-use farm_http::{CountedReader, CountedWriter, Input, Output, Taken, WireFault};
+use farm_http::{Input, Output, Taken, WireFault, read_request, write_whole};
 use farm_keep::Keeper;
-use farm_wire::{Ask, AskFault, Routes, read_request_counted, write_whole_counted};
+use farm_wire::{Ask, AskFault, Routes};
 use sqlite::Alter;
 use std::alloc::Global;
 
@@ -100,64 +100,32 @@ pub fn converse<R: Input, W: Output, S: Alter>(
     // Then it has room for less by what it was written.
     ensures room { KeepsRoom (W.has_room writer.old) (W.has_room writer.new)
         (W.contents writer.old) (W.contents writer.new) }
+
+    // The faults Read and Write come only of a reader that failed or took all its turns, and of a
+    // writer that failed; and where the writer failed nothing else comes.
+    ensures spent { result ≡ Err DeskFault.Read
+        → IsSpent most_reads (R.turns reader.old) (R.turns reader.new) }
+    ensures failed { result ≡ Err DeskFault.Write
+        → (n : ℕ) × FailsBehind n (W.turns writer.old) (W.turns writer.new) }
+    ensures alive { result ≢ Err DeskFault.Write
+        → (n : ℕ) × TakesTurns n (W.turns writer.old) (W.turns writer.new) }
     ensures clean { doubt (state S.Store keeper.old.conn).is_clean ≤ doubt
         (state S.Store keeper.new.conn).is_clean }
 {
-    let mut reader = CountedReader::new(reader);
-    let mut writer = CountedWriter::new(writer);
-    converse_counted(alloc, keeper, &mut reader, &mut writer, now)
-}
-
-/// Converses as `converse` does, and counts how often the reader and the writer were called
-/// and whether they failed.
-pub fn converse_counted<R: Input, W: Output, S: Alter>(
-    alloc: Global,
-    keeper: &mut Keeper<S>,
-    reader: &mut CountedReader<'_, R>,
-    writer: &mut CountedWriter<'_, W>,
-    now: u64,
-) -> Result<u16, DeskFault>
-    requires unread { reading_of reader.old ≡ nothing_read }
-    requires unwritten { writing_of writer.old ≡ nothing_written }
-    ensures same_reader { IsSameReader reader.old reader.new }
-    ensures same_writer { IsSameWriter writer.old writer.new }
-
-    // The answer that is due was written whole.
-    ensures answered { EndsWritten result → IsAnswered
-        (IsResponse S.Store keeper.old keeper.new (R.remaining (reader_of reader.old))
-        (R.remaining (reader_of reader.new)) now)
-        (W.contents (writer_of writer.old)) (W.contents (writer_of writer.new)) result }
-
-    // The writer failed in the middle of it.
-    ensures unwritten { result ≡ Err DeskFault.Write → IsUnwritten
-        (IsResponse S.Store keeper.old keeper.new (R.remaining (reader_of reader.old))
-        (R.remaining (reader_of reader.new)) now)
-        (W.contents (writer_of writer.old)) (W.contents (writer_of writer.new)) }
-
-    // The reader returned no request.
-    ensures unread { result ≡ Err DeskFault.Read → IsUnread keeper.old keeper.new
-        (W.contents (writer_of writer.old)) (W.contents (writer_of writer.new)) }
-
-    // With a reader that never fails, and a writer with room, neither comes.
-    ensures received { R.never_fails → result ≢ Err DeskFault.Read }
-    ensures taken { result ≡ Err DeskFault.Write → HasNoRoom
-        (IsResponse S.Store keeper.old keeper.new (R.remaining (reader_of reader.old))
-        (R.remaining (reader_of reader.new)) now) (W.has_room (writer_of writer.old)) }
-    ensures room { KeepsRoom (W.has_room (writer_of writer.old)) (W.has_room (writer_of writer.new))
-        (W.contents (writer_of writer.old)) (W.contents (writer_of writer.new)) }
-
-    // The faults Write and Read come only of a writer that failed, and of a reader that failed or
-    // took all its turns.
-    ensures failed { (result ≡ Err DeskFault.Write) ↔ IsTrue (writing_of writer.new).failed }
-    ensures spent { result ≡ Err DeskFault.Read → IsSpent (reading_of reader.new) }
-    ensures clean { doubt (state S.Store keeper.old.conn).is_clean ≤ doubt
-        (state S.Store keeper.new.conn).is_clean }
-{
-    let end = Context::new(alloc, None).converse(keeper, reader, writer, now);
-    if writer.has_failed() {
+    let ending = Context::new(alloc, None).converse(keeper, reader, writer, now);
+    if ending.is_lost {
         return Err(DeskFault::Write);
     }
-    end
+    ending.due
+}
+
+/// How a conversation ended.
+#[derive(Clone, Copy)]
+pub(crate) struct Ending {
+    /// As the answer that was due ends it; Read where the reader returned no request.
+    pub(crate) due: Result<u16, DeskFault>,
+    /// Whether that answer was lost: the writer failed.
+    pub(crate) is_lost: bool,
 }
 
 impl Context {
@@ -168,59 +136,60 @@ impl Context {
         Context { alloc, routes }
     }
 
-    /// Converses as `converse_counted` does, and ends as the answer that was due ends it, also
-    /// where that answer was lost: so a keeper's fault is known in each case.
+    /// Converses as `converse` does, and returns how the answer that was due ends it also where
+    /// that answer was lost: so a keeper's fault is known in each case.
     pub(crate) fn converse<R: Input, W: Output, S: Alter>(
         &mut self,
         keeper: &mut Keeper<S>,
-        reader: &mut CountedReader<'_, R>,
-        writer: &mut CountedWriter<'_, W>,
+        reader: &mut R,
+        writer: &mut W,
         now: u64,
-    ) -> Result<u16, DeskFault>
-        requires unread { reading_of reader.old ≡ nothing_read }
-        requires unwritten { writing_of writer.old ≡ nothing_written }
-        ensures same_reader { IsSameReader reader.old reader.new }
-        ensures same_writer { IsSameWriter writer.old writer.new }
-
+    ) -> Ending
         // The answer that is due was written, or where the writer failed a part of it.
-        ensures writes { result ≢ Err DeskFault.Read → WritesAnswer
-            (IsResponse S.Store keeper.old keeper.new (R.remaining (reader_of reader.old))
-            (R.remaining (reader_of reader.new)) now) (W.has_room (writer_of writer.old))
-            (writing_of writer.new).failed (W.contents (writer_of writer.old))
-            (W.contents (writer_of writer.new)) result }
+        ensures writes { result.due ≢ Err DeskFault.Read → WritesAnswer
+            (IsResponse S.Store keeper.old keeper.new (R.remaining reader.old)
+            (R.remaining reader.new) now) (W.has_room writer.old) result.is_lost
+            (W.contents writer.old) (W.contents writer.new) result.due }
 
         // The reader returned no request.
-        ensures unread { result ≡ Err DeskFault.Read → IsUnread keeper.old keeper.new
-            (W.contents (writer_of writer.old)) (W.contents (writer_of writer.new))
-            × IsSpent (reading_of reader.new)
-            × ((writing_of writer.new).failed ≡ false) }
-        ensures received { R.never_fails → result ≢ Err DeskFault.Read }
-        ensures room { KeepsRoom (W.has_room (writer_of writer.old))
-            (W.has_room (writer_of writer.new)) (W.contents (writer_of writer.old))
-            (W.contents (writer_of writer.new)) }
+        ensures unread { result.due ≡ Err DeskFault.Read → IsUnread keeper.old keeper.new
+            (W.contents writer.old) (W.contents writer.new)
+            × IsSpent most_reads (R.turns reader.old) (R.turns reader.new)
+            × (result.is_lost ≡ false) }
+        ensures received { R.never_fails → result.due ≢ Err DeskFault.Read }
+        ensures lost { CountsLoss (W.turns writer.old) (W.turns writer.new) result.is_lost }
+        ensures room { KeepsRoom (W.has_room writer.old) (W.has_room writer.new)
+            (W.contents writer.old) (W.contents writer.new) }
         ensures clean { doubt (state S.Store keeper.old.conn).is_clean ≤ doubt
             (state S.Store keeper.new.conn).is_clean }
     {
-        let response = self.response(keeper, reader, now)?;
-        // Whether the writer failed, its count says.
-        let _ = write_whole_counted(writer, response.bytes());
-        response.end
+        let response = match self.response(keeper, reader, now) {
+            Ok(response) => response,
+            Err(fault) => return Ending {
+                due: Err(fault),
+                is_lost: false,
+            },
+        };
+        let is_lost = write_whole(writer, response.bytes()).is_err();
+        Ending {
+            due: response.end,
+            is_lost,
+        }
     }
 
     /// The answer that is due, unless the reader returned no request.
     fn response<R: Input, S: Alter>(
         &mut self,
         keeper: &mut Keeper<S>,
-        reader: &mut CountedReader<'_, R>,
+        reader: &mut R,
         now: u64,
     ) -> Result<Response, DeskFault>
-        requires { reading_of reader.old ≡ nothing_read }
-        ensures same { IsSameReader reader.old reader.new }
         ensures response { IfOk result (λ response. IsResponse S.Store keeper.old keeper.new
-            (R.remaining (reader_of reader.old)) (R.remaining (reader_of reader.new)) now
-            (bytes_in response.bytes) response.end) }
+            (R.remaining reader.old) (R.remaining reader.new) now (bytes_in response.bytes)
+            response.end) }
         ensures unread { IfErr result (λ fault. (fault ≡ DeskFault.Read)
-            × IsSpent (reading_of reader.new) × (keeper.new ≡ keeper.old)) }
+            × IsSpent most_reads (R.turns reader.old) (R.turns reader.new)
+            × (keeper.new ≡ keeper.old)) }
         ensures sure { R.never_fails → IsOk result }
         ensures clean { doubt (state S.Store keeper.old.conn).is_clean ≤ doubt
             (state S.Store keeper.new.conn).is_clean }
@@ -235,17 +204,14 @@ impl Context {
     /// Reads one request and returns what it asks at a moment.
     pub(crate) fn receive<R: Input>(
         &mut self,
-        reader: &mut CountedReader<'_, R>,
+        reader: &mut R,
         now: u64,
     ) -> Result<Ask, ReceiveError>
-        requires { reading_of reader.old ≡ nothing_read }
-        ensures same { IsSameReader reader.old reader.new }
-        ensures receives { ReceivesResult (R.remaining (reader_of reader.old))
-            (R.remaining (reader_of reader.new)) now
-            (IsSpent (reading_of reader.new)) result }
+        ensures receives { ReceivesResult (R.remaining reader.old) (R.remaining reader.new) now
+            (IsSpent most_reads (R.turns reader.old) (R.turns reader.new)) result }
         ensures sure { R.never_fails → result ≢ Err ReceiveError.Read }
     {
-        let taken = read_request_counted(self.alloc, reader)?;
+        let taken = read_request(self.alloc, reader)?;
         match self.ask_of(&taken, now) {
             Ok(ask) => Ok(ask),
             Err(fault) => Err(ReceiveError::BadRequest(fault)),

@@ -21,7 +21,7 @@ mod scripted_clients;
 mod serving;
 
 // One conversation: a request, what it asks, and its answer.
-pub use conversation::{converse, converse_counted};
+pub use conversation::converse;
 pub use farm_http::{Input, Output};
 
 // A lab file's commands, done by a keeper.

@@ -11,7 +11,7 @@ use crate::conversation::Context;
 use crate::fault::DeskFault;
 use farm_http::{Input, Output};
 use farm_keep::{KeepFault, Keeper};
-use farm_wire::{CountedReader, CountedWriter, Routes};
+use farm_wire::Routes;
 use sqlite::Alter;
 use std::alloc::Global;
 
@@ -100,9 +100,7 @@ impl Context {
         ensures clean { doubt (state S.Store keeper.old.conn).is_clean ≤ doubt
             (state S.Store keeper.new.conn).is_clean }
     {
-        let mut reader = CountedReader::new(reader);
-        let mut writer = CountedWriter::new(writer);
-        pass_on(self.converse(keeper, &mut reader, &mut writer, now))
+        pass_on(self.converse(keeper, reader, writer, now).due)
     }
 }
 

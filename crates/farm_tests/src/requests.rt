@@ -1,11 +1,10 @@
 //! Requests that are read whole or cut, from readers that are slow, fail or never end.
 use farm_fakes::{FIRST_TYPE, Interrupted, Slow, Tally};
-use farm_http::{CountedReader, Input, Taken, WireFault, read_request, read_request_counted};
+use farm_http::{Input, Taken, WireFault, read_request};
 use farm_types::{BAD_REQUEST, LONGEST_BODY, LONGEST_HEAD, Refusal};
 use std::alloc::{AllocError, Global};
 use std::io;
 use std::io::{BufReader, Read};
-use std::process::Abort;
 use std::test::Fail;
 
 /// What a reader gives.
@@ -14,31 +13,15 @@ pub(crate) fn read<R: Input>(alloc: Global, reader: &mut R) -> Result<Taken, Wir
 }
 
 /// What a reader gives, how often it was called, and whether it failed.
-fn taken_from<R: Input>(alloc: Global, reader: &mut R) -> (Result<Taken, WireFault>, usize, bool) {
-    let mut reader = CountedReader::new(reader);
-    let taken = read_request_counted(alloc, &mut reader);
-    (taken, reader.calls() as usize, reader.has_failed())
-}
-
-/// The same, by the reader's own count too.
-fn counted<R: Read>(
-    rt: &impl Abort,
-    alloc: Global,
-    reader: &mut R,
-) -> (Result<Taken, WireFault>, usize, bool) {
+fn counted<R: Read>(alloc: Global, reader: &mut R) -> (Result<Taken, WireFault>, usize, bool) {
     let mut input = Tally::new(reader);
-    let (taken, calls, failed) = taken_from(alloc, &mut input);
-    assert_eq!(rt; calls, input.calls);
-    (taken, calls, failed)
+    let taken = read(alloc, &mut input);
+    (taken, input.calls, input.failures > 0)
 }
 
 /// Why a reader gives no request, how often it was called, and whether it failed.
-fn fault_of<R: Read>(
-    rt: &impl Abort,
-    alloc: Global,
-    reader: &mut R,
-) -> (Option<WireFault>, usize, bool) {
-    let (taken, calls, failed) = counted(rt, alloc, reader);
+fn fault_of<R: Read>(alloc: Global, reader: &mut R) -> (Option<WireFault>, usize, bool) {
+    let (taken, calls, failed) = counted(alloc, reader);
     (taken.err(), calls, failed)
 }
 
@@ -70,13 +53,8 @@ fn first_type(rt: HostRuntime) {
 }
 
 /// Whether a reader gives these bytes; how often it was called, and whether it failed.
-fn gives<R: Read>(
-    rt: &impl Abort,
-    alloc: Global,
-    reader: &mut R,
-    wanted: &[u8],
-) -> (bool, usize, bool) {
-    let (taken, calls, failed) = counted(rt, alloc, reader);
+fn gives<R: Read>(alloc: Global, reader: &mut R, wanted: &[u8]) -> (bool, usize, bool) {
+    let (taken, calls, failed) = counted(alloc, reader);
     let is_wanted = match taken {
         Ok(taken) => taken.bytes.as_slice() == wanted,
         Err(_) => false,
@@ -88,7 +66,7 @@ fn gives<R: Read>(
 fn one_byte_a_call(rt: HostRuntime) {
     for (stalls, wanted) in [(0, 73), (1, 74), (73, 146)] {
         let mut input = Slow::whole(FIRST_TYPE, stalls);
-        let end = gives(&rt, rt.alloc(), &mut input, FIRST_TYPE);
+        let end = gives(rt.alloc(), &mut input, FIRST_TYPE);
         assert_eq!(rt; end, (true, wanted, false));
     }
 }
@@ -99,7 +77,7 @@ const REFUSED: WireFault = WireFault::Refused(Refusal { code: BAD_REQUEST });
 #[test]
 fn cut_at_each_byte(rt: HostRuntime) {
     for n in 0..FIRST_TYPE.len() {
-        let (fault, _, failed) = fault_of(&rt, rt.alloc(), &mut &FIRST_TYPE[..n]);
+        let (fault, _, failed) = fault_of(rt.alloc(), &mut &FIRST_TYPE[..n]);
         assert_eq!(rt; (fault, failed), (Some(REFUSED), false), "at {n}");
     }
 }
@@ -107,7 +85,7 @@ fn cut_at_each_byte(rt: HostRuntime) {
 #[test]
 fn fails_at_each_byte(rt: HostRuntime) {
     for n in 0..FIRST_TYPE.len() {
-        let (fault, _, failed) = fault_of(&rt, rt.alloc(), &mut Slow::failing(FIRST_TYPE, n, 1));
+        let (fault, _, failed) = fault_of(rt.alloc(), &mut Slow::failing(FIRST_TYPE, n, 1));
         assert_eq!(rt; (fault, failed), (Some(WireFault::Read), true), "at {n}");
     }
 }
@@ -125,10 +103,10 @@ fn gives_lines(alloc: Global, input: &mut Lines) -> Result<bool, Fail> {
 
 /// Why a buffered reader that fails behind these bytes gives no request, and whether it is blamed.
 fn fault_behind(alloc: Global, known: &[u8]) -> io::Result<(Option<WireFault>, bool)> {
-    let source = known.chain(Slow::failing(&[], 0, u32::MAX));
+    let source = Tally::new(known.chain(Slow::failing(&[], 0, u32::MAX)));
     let mut input = BufReader::new(alloc, source)?;
-    let (taken, _, failed) = taken_from(alloc, &mut input);
-    Ok((taken.err(), failed))
+    let taken = read(alloc, &mut input);
+    Ok((taken.err(), input.get_ref().failures > 0))
 }
 
 /// A buffered reader gives what it holds of a line at once, whatever it holds: the same bytes are
@@ -148,7 +126,7 @@ fn lines_at_once(rt: HostRuntime) -> Result<(), Fail> {
 
 #[test]
 fn interrupted_for_ever(rt: HostRuntime) {
-    let end = fault_of(&rt, rt.alloc(), &mut Interrupted);
+    let end = fault_of(rt.alloc(), &mut Interrupted);
     assert_eq!(rt; end, (Some(WireFault::Read), 80_000, false));
 }
 
@@ -168,10 +146,10 @@ fn all_turns(rt: HostRuntime) -> Result<(), Fail> {
     let bytes = longest(rt.alloc())?;
     for (stalls, wanted) in [(0, 73_728), (6_272, 80_000)] {
         let mut input = Slow::whole(bytes.as_slice(), stalls);
-        let end = gives(&rt, rt.alloc(), &mut input, bytes.as_slice());
+        let end = gives(rt.alloc(), &mut input, bytes.as_slice());
         assert_eq!(rt; end, (true, wanted, false));
     }
-    let end = fault_of(&rt, rt.alloc(), &mut Slow::whole(bytes.as_slice(), 6_273));
+    let end = fault_of(rt.alloc(), &mut Slow::whole(bytes.as_slice(), 6_273));
     assert_eq!(rt; end, (Some(WireFault::Read), 80_000, false));
     Ok(())
 }

@@ -1,37 +1,27 @@
 //! Answers that are written whole, or as far as the writer takes them.
 use farm_fakes::{Narrow, Tally};
-use farm_http::{CountedWriter, Output, WireFault, write_whole, write_whole_counted};
+use farm_http::{Output, WireFault, write_whole};
 use std::alloc::Global;
 use std::io::Write;
-use std::process::Abort;
 use std::test::Fail;
 
 const TEXT: &[u8] = b"HTTP/1.1 200 OK\r\n";
 
 /// Whether a text was written whole, how often the writer was called, and whether it failed.
-fn written_to<W: Output>(writer: &mut W, text: &[u8]) -> (bool, usize, bool) {
-    let mut writer = CountedWriter::new(writer);
-    let is_whole = write_whole_counted(&mut writer, text).is_ok();
-    (is_whole, writer.calls(), writer.has_failed())
-}
-
-/// The same, by the writer's own count too.
-fn written<W: Write>(rt: &impl Abort, writer: &mut W, text: &[u8]) -> (bool, usize, bool) {
+fn written<W: Write>(writer: &mut W, text: &[u8]) -> (bool, usize, bool) {
     let mut output = Tally::new(writer);
-    let end = written_to(&mut output, text);
-    assert_eq!(rt; end.1, output.calls);
-    end
+    let is_whole = write(&mut output, text).is_ok();
+    (is_whole, output.calls, output.failures > 0)
 }
 
 /// How the writing of the text ends where a writer stops so, and what it holds then.
 fn stopped_at(
-    rt: &impl Abort,
     alloc: Global,
     room: usize,
     (stops, fails): (u32, bool),
 ) -> ((bool, usize, bool), Vec<u8>) {
     let mut writer = Narrow::stopping(alloc, room, stops, fails);
-    let end = written(rt, &mut writer, TEXT);
+    let end = written(&mut writer, TEXT);
     (end, writer.held)
 }
 
@@ -40,11 +30,11 @@ fn stopped_at(
 fn a_prefix_stands(rt: HostRuntime) {
     for stop in [(1, false), (1, true), (u32::MAX, false), (u32::MAX, true)] {
         for room in 0..TEXT.len() {
-            let (end, held) = stopped_at(&rt, rt.alloc(), room, stop);
+            let (end, held) = stopped_at(rt.alloc(), room, stop);
             assert_eq!(rt; end, (false, room + 1, true), "at {room}");
             assert!(rt; held.as_slice() == &TEXT[..room], "at {room}");
         }
-        let (end, held) = stopped_at(&rt, rt.alloc(), TEXT.len(), stop);
+        let (end, held) = stopped_at(rt.alloc(), TEXT.len(), stop);
         assert_eq!(rt; end, (true, TEXT.len(), false));
         assert!(rt; held.as_slice() == TEXT);
     }
@@ -55,11 +45,11 @@ fn a_prefix_stands(rt: HostRuntime) {
 fn a_long_text(rt: HostRuntime) -> Result<(), Fail> {
     let text = vec![in rt.alloc(); b'a'; 1_100_000]?;
     let mut writer = Narrow::whole(rt.alloc());
-    let end = written(&rt, &mut writer, text.as_slice());
+    let end = written(&mut writer, text.as_slice());
     assert_eq!(rt; end, (true, text.len(), false));
     assert!(rt; writer.held == text);
     let mut held = Vec::new(rt.alloc());
-    assert_eq!(rt; written(&rt, &mut held, text.as_slice()), (true, 1, false));
+    assert_eq!(rt; written(&mut held, text.as_slice()), (true, 1, false));
     assert!(rt; held == text);
     Ok(())
 }

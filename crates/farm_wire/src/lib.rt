@@ -22,10 +22,7 @@ mod text;
 mod value;
 
 // One request, read from an input; and bytes written whole to an output.
-pub use farm_http::{
-    CountedReader, CountedWriter, Input, Output, Taken, WireFault, read_request,
-    read_request_counted, write_whole, write_whole_counted,
-};
+pub use farm_http::{Input, Output, Taken, WireFault, read_request, write_whole};
 
 // What a request asks: a call or a view, by the desk's routes.
 pub use ask::{Ask, Routes, View};

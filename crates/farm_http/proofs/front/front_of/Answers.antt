@@ -1,5 +1,5 @@
 -- What is known by the front up to a line.
-use Rattle.std.proofs.Common.{ℕ, ◌+◌, ◌<◌, length, arith}
+use Rattle.std.proofs.Common.{◌+◌, ◌<◌, length, arith}
 use Rattle.farm_http.proofs.FrontLemmas.{open_fewer, before_last, with_last, begins_more, refused_more, too_long}
 use Rattle.farm_http.proofs.front.front_of.Goals as goal
 

@@ -6,8 +6,8 @@ use Rattle.std.proofs.lemmas.Result.{err_from_is_err_and}
 use Rattle.std.specs.Io.KnownBytes.{IsAtEnd}
 use Rattle.farm_http.specs.Fields.{body_length}
 use Rattle.farm_http.specs.Heads.{IsHead, AreSpansOf}
-use Rattle.farm_http.specs.Counts.{reader_of, reading_of, IsSpent}
 use Rattle.farm_http.specs.Requests.{IsRequestOf}
+use Rattle.farm_http.proofs.TurnLemmas.{leaves_both, spends_behind}
 use Rattle.farm_http.proofs.Whole.{request_of, front_kept, front_same, head_fails, written, body_fails}
 use Rattle.farm_http.proofs.request.fill.Goals as goal
 
@@ -26,7 +26,7 @@ returns-in_err-read_body-clause-fault g c =
     rw (p.1, p.2) (
       old ++ f.0,
       Consumes-trans _ _ _ old f.0 c.in_ok-spans.ensures.bytes f.1,
-      body_fails _ f.0 (IsAtEnd (g.R.Read.remaining (reader_of c.read_body.new.reader))) (IsSpent (reading_of c.read_body.new.reader)) c.in_err-read_body.field-0.0 h.0 body h.1 declared (rw size at f.2),
+      body_fails _ f.0 (IsAtEnd (g.R.Read.remaining c.read_body.new.reader)) c.in_err-read_body.field-0.0 h.0 body h.1 declared (rw size at f.2),
     )
 
 -- the head and the body are a request
@@ -59,4 +59,27 @@ pub returns-in_err-spans-clause-fault : goal.returns-in_err-spans-clause-fault
 returns-in_err-spans-clause-fault g c =
     let p = err_from_is_err_and c.from_residual.result c.from_residual.ensures.1 in
     let f = c.in_err-spans.ensures.fault in
-    rw (p.1, p.2) (f.0, f.1, head_fails f.0 (IsAtEnd (g.R.Read.remaining (reader_of c.read_head.new.reader))) (IsSpent (reading_of c.read_head.new.reader)) c.in_err-spans.field-0.0 f.2)
+    rw (p.1, p.2) (f.0, f.1, head_fails f.0 (IsAtEnd (g.R.Read.remaining c.read_head.new.reader)) c.in_err-spans.field-0.0 f.2)
+
+-- ---- the turns that the head left, and the body
+
+pub returns-in_err-spans-clause-turns : goal.returns-in_err-spans-clause-turns
+returns-in_err-spans-clause-turns g c =
+    let p = err_from_is_err_and c.from_residual.result c.from_residual.ensures.1 in
+    (c.read_head.new.left, rw (p.1, p.2) c.in_err-spans.ensures.turns)
+
+pub returns-in_err-body-clause-turns : goal.returns-in_err-body-clause-turns
+returns-in_err-body-clause-turns g c =
+    let p = err_from_is_err_and c.from_residual-in_err-body.result c.from_residual-in_err-body.ensures.1 in
+    (c.read_head.new.left, rw (p.1, p.2) c.in_ok-spans.ensures.turns)
+
+pub returns-in_default-clause-turns : goal.returns-in_default-clause-turns
+returns-in_default-clause-turns g c = (c.read_head.new.left, c.in_ok-spans.ensures.turns)
+
+pub returns-in_err-read_body-clause-turns : goal.returns-in_err-read_body-clause-turns
+returns-in_err-read_body-clause-turns g c =
+    let p = err_from_is_err_and c.from_residual-in_err-read_body.result c.from_residual-in_err-read_body.ensures.1 in
+    (c.read_body.new.left, rw (p.1, p.2) (spends_behind _ _ _ _ _ _ c.in_err-read_body.field-0.0 c.in_ok-spans.ensures.turns c.in_err-read_body.ensures.turns))
+
+pub returns-clause-turns : goal.returns-clause-turns
+returns-clause-turns g c = (c.read_body.new.left, leaves_both _ _ _ _ _ _ c.in_ok-spans.ensures.turns c.in_ok-read_body.ensures.turns)

@@ -1,15 +1,25 @@
--- The counted call says it, and the count is let go.
-use Rattle.std.proofs.Common.{rules}
-use Rattle.farm_http.specs.Counts.{reading_of, IsSpent}
-use Rattle.farm_http.proofs.Known.{fails_after, known_without_count}
+-- What is said of any reader says it of one whose bytes are known.
+use Rattle.std.proofs.lemmas.Result.{err_from_is_err_and}
+use Rattle.farm_http.proofs.Known.{known_fails, known_taken}
+use Rattle.farm_http.proofs.TurnLemmas.{leaves_all}
 use Rattle.farm_http.proofs.request.read_request.Goals as goal
-
-pub returns-clause-fault : goal.returns-clause-fault
-returns-clause-fault g c =
-    let said = fails_after _ _ (IsSpent (reading_of c.read_request_counted.new.reader)) c.read_request_counted.result c.read_request_counted.ensures.fault in
-    search rules
 
 pub returns-clause-known : goal.returns-clause-known
 returns-clause-known g c =
-    let said = known_without_count _ _ (IsSpent (reading_of c.read_request_counted.new.reader)) c.read_request_counted.result c.read_request_counted.ensures.known in
-    search rules
+    known_taken _ _ c.fill.new.bytes.items c.in_ok-head.head c.in_ok-head.ensures.taken c.in_ok-head.ensures.request
+
+pub returns-in_err-head-clause-known : goal.returns-in_err-head-clause-known
+returns-in_err-head-clause-known g c =
+    let p = err_from_is_err_and c.from_residual.result c.from_residual.ensures.1 in
+    rw (p.1, p.2) (known_fails _ _ c.in_err-head.field-0.0 c.in_err-head.ensures.fault)
+
+-- ---- the turns: none before there is room, and then those of the bytes
+
+pub returns-in_default-clause-turns : goal.returns-in_default-clause-turns
+returns-in_default-clause-turns g c = (_, leaves_all _ _)
+
+pub returns-in_err-head-clause-turns : goal.returns-in_err-head-clause-turns
+returns-in_err-head-clause-turns g c =
+    let p = err_from_is_err_and c.from_residual.result c.from_residual.ensures.1 in
+    let spent = c.in_err-head.ensures.turns in
+    (spent.0, rw (p.1, p.2) spent.1)
