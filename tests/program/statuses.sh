@@ -273,7 +273,7 @@ grep -q '"count":[01],"jobs":0,' output || fail "after store faults the status i
 
 # serve_nobody, on a free port, which is then taken by a server that waits for one connection.
 expect 0 ready '' init --db served.db
-port=$((20000 + $$ % 20000))
+port=$((20000 + $$ % 12000))
 until "$farm" serve --db served.db --port $port --max 0 > output 2> errors; do
     [ "$(cat errors)" = "$read_fault" ] || fail "serve told '$(cat errors)'"
     port=$((port + 1))

@@ -37,18 +37,26 @@ fail() {
     exit 1
 }
 
-# Serves the farm in file $1 for $2 connections on a free port, `port`, as the process `server`, which listens then.
-serve_file() {
-    port=$((20000 + $$ % 20000))
-    until "$farm" serve --db "$1" --port $port --max 0 > "$folder/output" 2> "$folder/errors"; do
-        [ "$(cat "$folder/errors")" = 'farm: 80 read fault' ] || fail "serve told '$(cat "$folder/errors")'"
-        port=$((port + 1))
-    done
+# Serves as `serve_file` does, on the port `port`; 1 where another has it.
+listens() {
     : > "$folder/listening"
-    "$farm" serve --db "$1" --port $port --max "$2" > "$folder/listening" &
+    "$farm" serve --db "$1" --port $port --max "$2" > "$folder/listening" 2> "$folder/told" &
     server=$!
     while [ "$(wc -l < "$folder/listening")" -eq 0 ]; do
-        kill -0 "$server" 2> /dev/null || fail 'serve ended'
+        if ! kill -0 "$server" 2> /dev/null; then
+            server=
+            [ "$(cat "$folder/told")" = 'farm: 80 read fault' ] || fail "serve told '$(cat "$folder/told")'"
+            return 1
+        fi
         sleep 0.01
+    done
+}
+
+# Serves the farm in file $1 for $2 connections on a free port, `port`, as the process `server`, which listens then.
+# The port is below those that the system gives to whoever asks for any.
+serve_file() {
+    port=$((20000 + $$ % 12000))
+    until listens "$1" "$2"; do
+        port=$((port + 1))
     done
 }

@@ -230,8 +230,10 @@ def test_a_job_s_ways_are_its_own_boards_alone(lab: Lab) -> None:
 
 def test_a_job_s_console_ends_as_it_is_told_and_with_who_reads_it(lab: Lab) -> None:
     begins = "$FARM_WAY b2 console < /dev/zero"
+    told = f"mkfifo seen; (head -c 9; touch up; exec cat) < seen > /dev/null & {begins} > seen & console=$!"
+    told = f"{told}; until [ -e up ]; do sleep 0.1; done; kill $console; wait $console; echo =$?"
     others = f"while [ $(ls {lab.path('run')} | grep -c session) -gt 1 ]; do sleep 0.1; done"
-    run = f"timeout --preserve-status 3 {begins} > /dev/null; echo =$?; {begins} | head -c 9 > /dev/null; {others}; echo ended"
+    run = f"{told}; {begins} | head -c 9 > /dev/null; {others}; echo ended"
     number = submit(lab, run)
     assert ended(lab, number) == "Complete"
     assert log_of(lab, number).splitlines() == ["=4", "ended"]
