@@ -4,14 +4,16 @@ from __future__ import annotations
 import contextlib
 import os
 import pty
+import shlex
 import sqlite3
 import stat
 import subprocess
-from typing import List
+from typing import Dict, List
 
-from orders import Orders
+import libraries
+from orders import STORE_FAULT, Orders
 from recorded import entries_in, recorder
-from served import free_port
+from served import TOP, free_port, wait_until
 
 
 def test_new_file_is_on_the_disk_before_its_log(orders: Orders) -> None:
@@ -28,6 +30,31 @@ def test_new_file_is_on_the_disk_before_its_log(orders: Orders) -> None:
     before = done[:first_of_log]
     assert ("w", orders.db) in before and before[-1] == ("s", orders.db)
     assert stat.S_IMODE(os.stat(file).st_mode) == 0o644
+
+
+def paused_at(place: str, file: str, command: str, folder: str) -> Dict[str, str]:
+    """The environment of a program that runs a command right behind a write or a lock of a file (pause.c)."""
+    library = libraries.made(f"{TOP}/tests/faults/pause.c", folder)
+    return {"LD_PRELOAD": library, "PAUSED": file, "PAUSE_AT": place, "PAUSE": command}
+
+
+def test_two_inits_at_once(orders: Orders) -> None:
+    """An `init` that comes while another writes its first page is refused, locks nothing that the other needs, and the
+    other is done, however slow the one that is refused is to end."""
+    file, tried, done, ended = (orders.path(it) for it in (orders.db, "tried", "done", "ended"))
+    slow = paused_at("l2", file, f"touch {tried} {done}; until [ -e {ended} ]; do sleep 0.1; done", orders.folder)
+    second = orders.path("second")
+    with open(second, "w", encoding="utf-8") as script:
+        words = " ".join(f"{name}={shlex.quote(it)}" for name, it in slow.items())
+        script.write(f"{words} {orders.program} init --db {file} > {second}.told 2>&1; touch {done} {second}.ended\n")
+    meanwhile = f"sh {second} > {second}.log 2>&1 & until [ -e {done} ]; do sleep 0.1; done"
+    first = orders.run("init", "--db", file, around=paused_at("w1", file, meanwhile, orders.folder))
+    with open(ended, "w", encoding="utf-8"):
+        wait_until("the second ends", lambda: os.path.exists(f"{second}.ended"))
+    assert (first.status, first.output, first.errors) == (0, "ready\n", "")
+    with open(f"{second}.told", encoding="utf-8") as told:
+        assert told.read() == STORE_FAULT
+    assert not os.path.exists(tried)
 
 
 def serving(orders: Orders) -> List[str]:

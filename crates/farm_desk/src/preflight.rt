@@ -30,9 +30,6 @@ const MODE: u32 = 0o644;
 /// these are.
 const LOCKED: (u64, u64) = (1 << 30, 512);
 
-/// The system's error where another program holds a lock.
-const HELD: i32 = 11;
-
 /// The head of a log and that of its first page, up to its two salts.
 const LOG_HEADS: usize = 48;
 
@@ -123,8 +120,20 @@ impl<'a> Preflight<'a> {
     /// Takes away what this order made of a store that is closed again: a log that wasn't there
     /// before and has no page, and the file that was made for a new farm, where it has no table.
     /// Both stay where another program has the file open; it is locked meanwhile. Where nothing can
-    /// be locked, what was made for a new farm goes all the same.
+    /// be locked, what was made for a new farm goes all the same. Where nothing was made, nothing is
+    /// locked: whoever makes a farm there just then would be refused.
     pub(crate) fn clean_up(&self, rt: &HostRuntime) {
+        let log = self.log.as_str();
+        let is_new = self.file_state == PathState::Nothing;
+        let is_log_new = self.log_state == PathState::Nothing
+            && state_at(rt, log) != PathState::Nothing;
+        if is_new || is_log_new {
+            self.remove_unused(rt, is_new, is_log_new);
+        }
+    }
+
+    /// Removes of a new file and a new log what holds nothing.
+    fn remove_unused(&self, rt: &HostRuntime, is_new: bool, is_log_new: bool) {
         let Ok(mut file) = OpenOptions::new()
             .read(true)
             .write(true)
@@ -132,14 +141,12 @@ impl<'a> Preflight<'a> {
         else {
             return;
         };
-        let is_new = self.file_state == PathState::Nothing;
-        if try_lock_range(file.as_raw_fd(), RangeLock::Exclusive, LOCKED.0, LOCKED.1) != 0
-            && (!is_new || errno() == HELD)
-        {
+        let locked = lock(&file);
+        if is_held(&locked) || (locked.is_err() && !is_new) {
             return;
         }
         let log = self.log.as_str();
-        if self.log_state == PathState::Nothing && matches!(has_no_page(rt, log), Ok(true)) {
+        if is_log_new && matches!(has_no_page(rt, log), Ok(true)) {
             let _ = fs::remove_file(rt, log);
         }
         let is_alone = state_at(rt, log) == PathState::Nothing;
@@ -147,6 +154,20 @@ impl<'a> Preflight<'a> {
             let _ = fs::remove_file(rt, self.file);
         }
     }
+}
+
+/// Locks a file as SQLite's programs do while they have it open.
+fn lock(file: &File) -> io::Result<()> {
+    if try_lock_range(file.as_raw_fd(), RangeLock::Exclusive, LOCKED.0, LOCKED.1) == 0 {
+        Ok(())
+    } else {
+        Err(io::Error::from_raw_os_error(errno()))
+    }
+}
+
+/// Whether a file wasn't locked since another program has it open.
+fn is_held(locked: &io::Result<()>) -> bool {
+    matches!(locked, Err(error) if error.kind() == ErrorKind::WouldBlock)
 }
 
 fn state_at(rt: &HostRuntime, path: &str) -> PathState {
@@ -264,9 +285,16 @@ fn new_file_options() -> OpenOptions
 }
 
 /// Makes a file with its first page where there is nothing. That is on the disk before a store is
-/// opened there, since an open takes the log beside a file without a byte for no log.
+/// opened there, since an open takes the log beside a file without a byte for no log. The file is
+/// locked meanwhile, so that no other program opens half a page; where one has the file open
+/// already, it is that program's.
 fn make_new_file(rt: &HostRuntime, path: &str) -> io::Result<()> {
-    let written = write_to_disk(&mut make_file(rt, path)?);
+    let mut file = make_file(rt, path)?;
+    let locked = lock(&file);
+    if is_held(&locked) {
+        return locked;
+    }
+    let written = write_to_disk(&mut file);
     if written.is_err() {
         let _ = fs::remove_file(rt, path);
     }
