@@ -1,5 +1,6 @@
 pub mod KeptLemmas
 pub mod LifeLemmas
+mod PutLemmas
 pub mod RestartLemmas
 pub mod RunLemmas
 mod MigrateLemmas

@@ -6,7 +6,7 @@ ghost use Rattle.sqlite.specs.Steps.{over_memory};
 ghost use Rattle.sqlite.specs.Tree.{Trees};
 ghost use Rattle.farm_store.specs.Columns.{rows_of};
 ghost use Rattle.farm_store.specs.Holds.{Holds};
-ghost use Rattle.farm_types.specs.Farm.{Farm as Plain};
+ghost use Rattle.farm_types.specs.Farm.{Farm as Plain, empty_farm, farm_of, put_rows};
 ghost use Rattle.farm_types.specs.Sound.{IsSound};
 ghost use Rattle.farm_keep.specs.First.{HoldsEitherEdition, IsSoundFirst};
 ghost use Rattle.farm_keep.specs.Headline.{IsAlwaysClean, Runs};
@@ -16,6 +16,7 @@ ghost use Rattle.farm_keep.specs.Lives.{OpensOn};
 ghost use Rattle.farm_keep.specs.declared.keeper.run.RunEnd.{RunEnd as End};
 ghost use Rattle.farm_types.specs.Machine.{run};
 ghost use Rattle.farm_types.specs.declared.calls.Call.{Call};
+ghost use Rattle.farm_types.specs.declared.calls.Rows.{Rows};
 ghost use Rattle.farm_keep.specs.Runs.{answers_of};
 ghost use Rattle.farm_keep.specs.Restarts.{Restart, run_all, calls_of_restarts, AnswersAgain, ActsOnce};
 
@@ -50,6 +51,13 @@ pub fn memory_is_clean()
 pub fn acts_once()
     ensures again { AnswersAgain }
     ensures once { ActsOnce }
+{}
+
+/// A sound farm's rows, put into the tables of the empty farm, are that farm's: so `farm_store`'s
+/// `rebuild` of them leaves the farm that they spell.
+#[tactic(auto, using(crate::proofs::PutLemmas::rows_are))]
+pub fn rows_put_are_the_farm()
+    ensures { (rows : Rows) → IsSound (farm_of rows) → put_rows empty_farm rows ≡ farm_of rows }
 {}
 
 /// The crash prefix: what a stop leaves after a run, however the run ended, is found again as

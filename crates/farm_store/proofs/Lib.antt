@@ -31,5 +31,6 @@ pub mod SoundReadable
 pub mod ReadFarm
 pub mod Listed
 pub mod Creates
+pub mod Drops
 pub mod Ours
 pub mod Raised

@@ -8,6 +8,7 @@ ghost use Rattle.farm_store.specs.Agreed.{SchemasAgree};
 ghost use Rattle.farm_store.specs.Columns.{IsOfSchema, TableRows, first_rows_of, rows_of};
 ghost use Rattle.farm_store.specs.Holds.{Holds, ShowsTables, Stands};
 ghost use Rattle.farm_store.specs.Readable.{IsReadable, IsReadableFirst};
+ghost use Rattle.farm_store.specs.Schema.{HasSixTables, farm_schema};
 ghost use Rattle.farm_store.specs.Versions.{MayHaveVersion, HasVersion};
 ghost use Rattle.farm_types.specs.Sound.{IsSound};
 
@@ -24,6 +25,11 @@ pub fn versions_agree()
         → MayHaveVersion version db → IsOfSchema version T }
     ensures has { (db : Database) (T : TableRows) → ShowsTables db T → (version : ℕ)
         → IsOfSchema version T → HasVersion version db }
+{}
+
+/// The farm's schema has the six tables that `rebuild` makes anew.
+pub fn farm_has_six_tables()
+    ensures { HasSixTables farm_schema }
 {}
 
 /// A connection that was just opened on the farm's tables stands for them: they have the farm's

@@ -17,6 +17,7 @@ mod laws;
 mod meta;
 mod queries;
 mod raising;
+mod rebuilding;
 mod reservations;
 mod schema;
 mod statements;
@@ -35,11 +36,14 @@ pub use upserts::put;
 // Tables of the first edition made those of the second.
 pub use raising::raise;
 
+// Tables made anew, with all rows.
+pub use rebuilding::rebuild;
+
 // What the store, or a file, refuses.
 pub use fault::StoreFault;
 
 // What is proved of stores and editions: functions that only proofs read.
 pub use laws::{
-    editions_are_apart, first_tables_lose_nothing, opened_stands, schemas_agree, sound_is_readable,
-    tables_lose_nothing, versions_agree,
+    editions_are_apart, farm_has_six_tables, first_tables_lose_nothing, opened_stands,
+    schemas_agree, sound_is_readable, tables_lose_nothing, versions_agree,
 };

@@ -23,7 +23,8 @@ pub const SCHEMA: u64 = 2;
 /// codes less by one, and no number says which group collects.
 pub const FIRST_SCHEMA: u64 = 1;
 
-fn make<S: Alter>(tx: &mut Transaction<'_, S>, sql: &str) -> Result<(), Error>
+/// Runs a statement that has no parameters.
+pub(crate) fn run<S: Alter>(tx: &mut Transaction<'_, S>, sql: &str) -> Result<(), Error>
     ensures goes_on { GoesOn S.Store tx.old tx.new }
     ensures ran { HasCleanDisk (state S.Store tx.new.conn.now)
         → OnOk result (IsTrue (state S.Store tx.old.conn.now).in_transaction
@@ -35,7 +36,7 @@ fn make<S: Alter>(tx: &mut Transaction<'_, S>, sql: &str) -> Result<(), Error>
     tx.execute(sql, &[]).map(|_| ())
 }
 
-fn make_all<S: Alter>(tx: &mut Transaction<'_, S>) -> Result<(), Error>
+pub(crate) fn make_all<S: Alter>(tx: &mut Transaction<'_, S>) -> Result<(), Error>
     ensures goes_on { GoesOn S.Store tx.old tx.new }
     ensures made { HasCleanDisk (state S.Store tx.new.conn.now)
         → OnOk result (IsTrue (state S.Store tx.old.conn.now).in_transaction
@@ -48,16 +49,16 @@ fn make_all<S: Alter>(tx: &mut Transaction<'_, S>) -> Result<(), Error>
         → CommitShows (state S.Store tx.old.conn.now) T
         → CommitShows (state S.Store tx.new.conn.now) T }
 {
-    make(tx, types::MAKE)?;
-    make(tx, boards::MAKE)?;
-    make(tx, jobs::MAKE)?;
-    make(tx, reservations::MAKE)?;
-    make(tx, kept::MAKE)?;
-    make(tx, meta::MAKE)
+    run(tx, types::MAKE)?;
+    run(tx, boards::MAKE)?;
+    run(tx, jobs::MAKE)?;
+    run(tx, reservations::MAKE)?;
+    run(tx, kept::MAKE)?;
+    run(tx, meta::MAKE)
 }
 
 /// No command was accepted at moment 0, no group collects, and the first number is 1.
-fn put_first_numbers<S: Alter>(tx: &mut Transaction<'_, S>) -> Result<(), Error>
+pub(crate) fn put_first_numbers<S: Alter>(tx: &mut Transaction<'_, S>) -> Result<(), Error>
     ensures goes_on { GoesOn S.Store tx.old tx.new }
     ensures put { HasCleanDisk (state S.Store tx.new.conn.now)
         → OnOk result (IsInside (state S.Store tx.old.conn.now) no_rows

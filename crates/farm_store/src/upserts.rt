@@ -18,7 +18,7 @@ ghost use Rattle.farm_store.specs.declared.edition.Edition.{Edition};
 use crate::fault::StoreFault;
 use crate::meta::change_numbers;
 use crate::stored::{Stored, Tagged};
-use farm_types::{BoardRow, Changes, JobRow, KeptRow, ResRow, TypeRow, Word};
+use farm_types::{BoardRow, Changes, JobRow, KeptRow, ResRow, Rows, TypeRow, Word};
 use sqlite::types::ValueRef;
 use sqlite::{Alter, Connection, Error, Transaction};
 use std::alloc::{AllocError, Global};
@@ -83,34 +83,56 @@ fn tagged_rows<R: Stored>(alloc: Global, rows: &[R]) -> Result<Vec<Tagged<'_, R>
     Ok(tagged)
 }
 
-/// Each changed row by its table's upsert, and the numbers that changed.
-fn put_all<S: Alter>(
+/// The rows of the tables, each beside the text of its tags.
+#[derive(Drop)]
+pub(crate) struct TaggedRows<'a> {
+    rows: &'a Rows,
+    types: Vec<Tagged<'a, TypeRow>>,
+    boards: Vec<Tagged<'a, BoardRow>>,
+    jobs: Vec<Tagged<'a, JobRow>>,
+    reservations: Vec<Tagged<'a, ResRow>>,
+    kept: Vec<Tagged<'a, KeptRow>>,
+    ghost types_are: { untagged types.items ≡ rows.now.types.items },
+    ghost boards_are: { untagged boards.items ≡ rows.now.boards.items },
+    ghost jobs_are: { untagged jobs.items ≡ rows.now.jobs.items },
+    ghost reservations_are: { untagged reservations.items ≡ rows.now.reservations.items },
+    ghost kept_are: { untagged kept.items ≡ rows.now.kept.items },
+}
+
+impl<'a> TaggedRows<'a> {
+    /// Makes the text of each row's tags.
+    pub(crate) fn of(alloc: Global, rows: &'a Rows) -> Result<TaggedRows<'a>, AllocError>
+        ensures { IfOk result (λ tagged. tagged.rows.now ≡ rows.now) }
+    {
+        Ok(TaggedRows {
+            rows,
+            types: tagged_rows(alloc, &rows.types)?,
+            boards: tagged_rows(alloc, &rows.boards)?,
+            jobs: tagged_rows(alloc, &rows.jobs)?,
+            reservations: tagged_rows(alloc, &rows.reservations)?,
+            kept: tagged_rows(alloc, &rows.kept)?,
+        })
+    }
+}
+
+/// Each row by its table's upsert, and the numbers that changed.
+pub(crate) fn put_all<S: Alter>(
     tx: &mut Transaction<'_, S>,
-    changes: &Changes,
-    types: &[Tagged<'_, TypeRow>],
-    boards: &[Tagged<'_, BoardRow>],
-    jobs: &[Tagged<'_, JobRow>],
-    reservations: &[Tagged<'_, ResRow>],
-    kept: &[Tagged<'_, KeptRow>],
+    tagged: &TaggedRows<'_>,
 ) -> Result<(), Error>
-    requires small { AreSmall changes.now }
-    requires types { untagged types.now ≡ changes.now.types.items }
-    requires boards { untagged boards.now ≡ changes.now.boards.items }
-    requires jobs { untagged jobs.now ≡ changes.now.jobs.items }
-    requires reservations { untagged reservations.now ≡ changes.now.reservations.items }
-    requires kept { untagged kept.now ≡ changes.now.kept.items }
+    requires small { AreSmall tagged.now.rows.now }
     ensures goes_on { GoesOn S.Store tx.old tx.new }
     ensures put { HasCleanDisk (state S.Store tx.new.conn.now)
         → OnOk result ((F : Farm) → IsInside (state S.Store tx.old.conn.now) (rows_of F)
-        → IsInside (state S.Store tx.new.conn.now) (rows_of (put_rows F changes.now))
+        → IsInside (state S.Store tx.new.conn.now) (rows_of (put_rows F tagged.now.rows.now))
         × IsTrue (state S.Store tx.new.conn.now).is_open) }
 {
-    put_rows(tx, types)?;
-    put_rows(tx, boards)?;
-    put_rows(tx, jobs)?;
-    put_rows(tx, reservations)?;
-    put_rows(tx, kept)?;
-    change_numbers(tx, changes.meta)
+    put_rows(tx, &tagged.types)?;
+    put_rows(tx, &tagged.boards)?;
+    put_rows(tx, &tagged.jobs)?;
+    put_rows(tx, &tagged.reservations)?;
+    put_rows(tx, &tagged.kept)?;
+    change_numbers(tx, tagged.rows.meta)
 }
 
 /// Puts the changed rows, each by its key, and the farm's four numbers in one transaction, whose
@@ -139,20 +161,8 @@ pub fn put<S: Alter>(
     ensures fault { IfErr result (λ fault. (fault ≡ StoreFault.NoMemory)
         ⊎ (fault ≡ StoreFault.Store)) }
 {
-    let types = tagged_rows(alloc, &changes.types)?;
-    let boards = tagged_rows(alloc, &changes.boards)?;
-    let jobs = tagged_rows(alloc, &changes.jobs)?;
-    let reservations = tagged_rows(alloc, &changes.reservations)?;
-    let kept = tagged_rows(alloc, &changes.kept)?;
+    let tagged = TaggedRows::of(alloc, changes)?;
     let mut tx = conn.transaction();
-    put_all(
-        &mut tx,
-        changes,
-        &types,
-        &boards,
-        &jobs,
-        &reservations,
-        &kept,
-    )?;
+    put_all(&mut tx, &tagged)?;
     Ok(tx.commit()?)
 }

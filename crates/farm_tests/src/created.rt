@@ -9,7 +9,7 @@ use std::alloc::{AllocError, Global};
 use std::test::Fail;
 
 /// More calls than the making of the tables needs.
-const MANY: u64 = 10_000;
+pub(crate) const MANY: u64 = 10_000;
 
 /// A farm in words, all that it holds among them.
 fn in_words(alloc: Global, farm: &Farm) -> Result<String, AllocError> {
@@ -62,7 +62,7 @@ fn is_blown<D: Disk>(file: &mut D) -> bool {
 }
 
 /// What a store's files are after a crash, and whether one was stopped.
-fn crashed<D: Disk + Crash>(store: FileStore<D>) -> (Files<D>, bool) {
+pub(crate) fn crashed<D: Disk + Crash>(store: FileStore<D>) -> (Files<D>, bool) {
     let Files { mut log, mut db } = store.close();
     let was_stopped = is_blown(&mut log) || is_blown(&mut db);
     log.crash();
@@ -84,7 +84,7 @@ fn used<D: Disk + Crash + Drop>(
 }
 
 /// New files, of which one is stopped after so many calls: the log, or that of the tables.
-fn files(alloc: Global, is_log: bool, calls: u64) -> Files<Fuse<Memory>> {
+pub(crate) fn files(alloc: Global, is_log: bool, calls: u64) -> Files<Fuse<Memory>> {
     let (log, db) = if is_log {
         (calls, u64::MAX)
     } else {
@@ -95,14 +95,14 @@ fn files(alloc: Global, is_log: bool, calls: u64) -> Files<Fuse<Memory>> {
 }
 
 /// How a making of the tables ends.
-enum End {
+pub(crate) enum End {
     Whole,
     Stopped,
     Wrong,
 }
 
 /// The end of a making, by whether the tables were made, are found, and a file was stopped.
-fn end_of(made: bool, found: bool, was_stopped: bool) -> End {
+pub(crate) fn end_of(made: bool, found: bool, was_stopped: bool) -> End {
     match (made, found, was_stopped) {
         (true, true, false) => End::Whole,
         (true, true, true) | (false, _, true) => End::Stopped,

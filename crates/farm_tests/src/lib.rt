@@ -24,6 +24,8 @@ mod queues;
 #[cfg(test)]
 mod readers;
 #[cfg(test)]
+mod rebuilt;
+#[cfg(test)]
 mod requests;
 #[cfg(test)]
 mod rows;

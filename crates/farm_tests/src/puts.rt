@@ -24,7 +24,7 @@ pub(crate) fn write<S: Alter>(
 }
 
 /// Changes of the farm's numbers alone.
-fn numbers(alloc: Global) -> Changes
+pub(crate) fn numbers(alloc: Global) -> Changes
     ensures { AreSmall result }
 {
     let meta = MetaRow {
@@ -50,7 +50,7 @@ fn tables<S: Alter>(conn: &mut Connection<S>) -> Result<i64, Error> {
 }
 
 /// The farm's numbers as the tables have them: its clock, its count and its next number.
-fn numbers_in<S: Alter>(
+pub(crate) fn numbers_in<S: Alter>(
     alloc: Global,
     conn: &mut Connection<S>,
 ) -> Result<(u64, u64, u64), StoreFault> {

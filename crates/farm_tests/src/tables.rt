@@ -105,7 +105,7 @@ fn kept(alloc: Global) -> Result<Vec<KeptRow>, Fail>
     Ok(vec![in alloc; row]?)
 }
 
-fn one_of_each(alloc: Global) -> Result<Changes, Fail>
+pub(crate) fn one_of_each(alloc: Global) -> Result<Changes, Fail>
     ensures { IfOk result AreSmall }
 {
     let types = types(alloc)?;
@@ -130,7 +130,7 @@ fn one_of_each(alloc: Global) -> Result<Changes, Fail>
 }
 
 /// Each field of each row.
-fn in_words(alloc: Global, rows: &Rows) -> Result<String, AllocError> {
+pub(crate) fn in_words(alloc: Global, rows: &Rows) -> Result<String, AllocError> {
     format!(in alloc; "{rows:?}")
 }
 
