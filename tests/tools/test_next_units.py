@@ -8,7 +8,7 @@ from typing import Iterator, List
 import pytest
 from machine import Machine
 from machine_lab import MachineLab
-from served import STARTED
+from served import STARTED, wait_until
 
 pytestmark = [pytest.mark.xdist_group("packages"), pytest.mark.slow(40)]
 FILE, HOME = "/root/next.toml", "/var/lib/farm"
@@ -50,6 +50,12 @@ def boards(lab: MachineLab) -> List[str]:
     return [f"{it['name']} {it['health']}" for it in lab.look("/boards")["boards"]]
 
 
+def outcomes(lab: MachineLab, job: int) -> List[str]:
+    """How the jobs of this number ended, as the history has it; it gets a row after the desk was told."""
+    rows = [json.loads(it) for it in lab.machine.run("cat", "/var/lib/farm-dispatch/history.jsonl").stdout.splitlines()]
+    return [str(it["outcome"]) for it in rows if it["kind"] == "job" and it["job"] == job]
+
+
 def killed(lab: MachineLab, step: str) -> None:
     """A turn that is killed before this step of the files."""
     ran = lab.machine.run("/usr/bin/python3", "-c", KILLED.replace("STEP", step), "--next", FILE, check=False)
@@ -88,8 +94,7 @@ def test_the_turn_in_a_lab_whose_units_run(lab: MachineLab) -> None:
     report = lab.machine.run("farm", "report", "--db", f"{HOME}/old-1/lab.db", "boards", user="farm").stdout
     assert "b3 bbb" in report and old > 0
     assert lab.submit("echo second") == 1 and lab.finished(1) == "Complete" and "second" in lab.log(1)
-    rows = [json.loads(it) for it in lab.machine.run("cat", "/var/lib/farm-dispatch/history.jsonl").stdout.splitlines()]
-    assert [it["outcome"] for it in rows if it["kind"] == "job" and it["job"] == 1] == ["Complete", "Complete"]
+    wait_until("both jobs 1 are in the history", lambda: outcomes(lab, 1) == ["Complete", "Complete"])
 
 
 @pytest.mark.parametrize("step, serves", [("set_aside", True), ("put_in_place", False)])
