@@ -205,7 +205,8 @@ def test_changes_of_health(lab: Lab) -> None:
     board = wait_until("its board", lambda: lab.farm.job(number)["board"])
     wait_until(f"{board} is Unknown", lambda: last_of(lab, board) == "Unknown")
     reasons = [(it["board"], it["to"], it["reason"]) for it in healths_of(lab)]
-    checks = {it["boards"][0]: it for it in jobs_of(lab) if it["name"] == "health check"}
+    wait_until("the checks' lines", lambda: len(checks_of(lab)) == 2)
+    checks = {it["boards"][0]: it for it in checks_of(lab)}
     assert [it["owner"] for it in checks.values()] == ["admin"] * 2, "the checks' owners"
     assert [it["submitted"] for it in checks.values()] == [None] * 2, "when checks were submitted"
     wanted = [
@@ -216,6 +217,10 @@ def test_changes_of_health(lab: Lab) -> None:
     assert [it for it in wanted if it not in reasons] == [], "changes that aren't told"
     dispatcher.kill()
     lab.closes(told_over_kills(lab, board, check))
+
+
+def checks_of(lab: Lab) -> List[Dict[str, Any]]:
+    return [it for it in jobs_of(lab) if it["name"] == "health check"]
 
 
 def told_over_kills(lab: Lab, board: str, check: str) -> Tool:

@@ -289,7 +289,7 @@ def test_what_cant_die(make_lab: MakeLab) -> None:
         lab.farm.tell("ann", f"/jobs/{number}/cancel")
         wait_until("its board is Bad", lambda: lab.farm.board("b1")["health"] == "Bad")
         assert lab.finished(number) == "Canceled"
-        rows = [it for it in lines(lab, "health") if it["to"] == "Bad"]
+        rows = wait_until("its line", lambda: [it for it in lines(lab, "health") if it["to"] == "Bad"])
         assert [it["reason"] for it in rows] == [f"a process of job {number} can't be killed"]
         assert "can't be killed" in read(os.path.join(lab.place, "logs", str(number)))
     finally:
