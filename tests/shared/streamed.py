@@ -146,10 +146,10 @@ def salts_of(log: str) -> bytes:
 
 
 def still_farm(farm: Farm) -> int:
-    """Sends a farm thirty commands at least, all of which stand in its log, and ends its serving. Returns
-    how many it has."""
-    stream = Stream(farm)
-    wait_until("thirty commands", lambda: len(stream.answered) >= 30)
+    """Sends a farm thirty commands, so few that all stand in its log, and ends its serving. Returns how many
+    it has."""
+    stream = Stream(farm, 30)
+    wait_until("thirty commands", lambda: len(stream.answered) == 30)
     stream.end()
     farm.kill()
     return len(stream.answered)
