@@ -24,6 +24,9 @@ import tempfile
 import threading
 from typing import List, Optional, Set, Tuple
 
+sys.path.append(os.path.join(os.path.dirname(os.path.realpath(__file__)), "../shared"))
+from ports import free_port  # noqa: E402
+
 Answer = Optional[Tuple[int, bytes]]
 
 
@@ -55,9 +58,7 @@ class Server:
     """A program that serves the farm of a file."""
 
     def __init__(self, farm: str, db: str):
-        with socket.socket() as taken:
-            taken.bind(("127.0.0.1", 0))
-            self.port = taken.getsockname()[1]
+        self.port = free_port()
         words = [farm, "serve", "--db", db, "--port", str(self.port), "--max", "1000000"]
         self.log = f"{db}-wal"
         self.process = subprocess.Popen(words, stdout=subprocess.PIPE, stderr=subprocess.PIPE)

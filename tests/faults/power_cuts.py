@@ -38,6 +38,10 @@ import sys
 import tempfile
 from typing import Any, Dict, Generator, Iterator, List, Optional, Tuple
 
+TESTS = os.path.dirname(os.path.dirname(os.path.realpath(__file__)))
+sys.path.append(os.path.join(TESTS, "shared"))
+from ports import free_port  # noqa: E402
+
 SECTOR = 512
 TABLES = ["types", "boards", "jobs", "reservations", "kept", "meta"]
 REPORTS = ["boards", "queue", "reservations"]
@@ -47,7 +51,6 @@ STATUS = b"GET /status HTTP/1.1\r\n\r\n"
 
 
 FARM = RECORDER = ""  # the program, and the library of record.c
-TESTS = os.path.dirname(os.path.dirname(os.path.realpath(__file__)))
 Part = Tuple[str, int, bytes]  # a write ("w"), change of length or removal of a file, its offset and its bytes
 Cut = Tuple[str, Dict[str, Optional[bytes]], int, int]
 Requests = Generator[bytes, Any, None]
@@ -217,12 +220,6 @@ def conversation(port: int, sent: bytes) -> bytes:
         while more := stream.recv(65536):
             answer += more
     return answer
-
-
-def free_port() -> int:
-    with socket.socket() as taken:
-        taken.bind(("127.0.0.1", 0))
-        return int(taken.getsockname()[1])
 
 
 def life_of_serving(name: str, folder: str, before: str, requests: Requests) -> Life:
@@ -501,7 +498,6 @@ def main(farm: str, recorder: str, number: int, seed: int) -> int:
 
 
 if __name__ == "__main__":
-    sys.path.append(os.path.join(TESTS, "shared"))
     from libraries import made
 
     NUMBERS = [int(word) for word in sys.argv[2:]]

@@ -18,7 +18,8 @@ import socket
 import subprocess
 from typing import NamedTuple, Tuple
 
-from served import STARTED, free_port
+from ports import free_port
+from served import STARTED
 
 NO_MEMORY = b'{"code":1,"text":"no memory"}'
 OK = b"200 OK"

@@ -12,7 +12,8 @@ from typing import Any, Iterator, Optional, Tuple
 import libraries
 import pytest
 from recorded import entries_in
-from served import STARTED, TOP, free_port
+from ports import free_port
+from served import STARTED, TOP
 
 PAGE = 1024
 HEADER, FRAME = 32, 24 + PAGE  # bytes of the log's head, and of a frame with its page

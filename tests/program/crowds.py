@@ -25,6 +25,9 @@ import tempfile
 import time
 from typing import Any, Awaitable, Callable, Dict, List, NoReturn, Tuple
 
+sys.path.append(os.path.join(os.path.dirname(os.path.realpath(__file__)), "../shared"))
+from ports import free_port  # noqa: E402
+
 LOOK = b"GET /status HTTP/1.1\r\n\r\n"
 PATIENCE = 20
 STREAMS = Tuple[asyncio.StreamReader, asyncio.StreamWriter]
@@ -33,12 +36,6 @@ STREAMS = Tuple[asyncio.StreamReader, asyncio.StreamWriter]
 def fail(why: str) -> NoReturn:
     print(f"crowds: {why}", file=sys.stderr)
     sys.exit(1)
-
-
-def free_port() -> int:
-    with socket.socket() as taken:
-        taken.bind(("127.0.0.1", 0))
-        return int(taken.getsockname()[1])
 
 
 def post(path: str, user: str, body: Dict[str, Any], key: str = "") -> bytes:

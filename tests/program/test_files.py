@@ -13,7 +13,8 @@ from typing import Dict, List
 import libraries
 from orders import STORE_FAULT, Orders
 from recorded import entries_in, recorder
-from served import TOP, free_port, wait_until
+from ports import free_port
+from served import TOP, wait_until
 
 
 def test_new_file_is_on_the_disk_before_its_log(orders: Orders) -> None:

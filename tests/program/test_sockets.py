@@ -16,7 +16,8 @@ import pytest
 
 from libraries import made
 from orders import Orders, request
-from served import STARTED, TOP, free_port
+from ports import free_port
+from served import STARTED, TOP
 from wants import lacks
 
 FIRST_TYPE = request("POST", "/types", {"x-user": "admin", "content-length": "14"}, b'{"name":"bbb"}')
@@ -239,8 +240,8 @@ def test_answer_that_waits(start: Start) -> None:
     and nobody waits with it: whoever comes behind is answered before a silent client is let go. The serving ends
     once it is read."""
     desk = start(3, reservations=100_000)
-    silent = desk.client()
     late = desk.client(request("GET", "/reservations", {}))
+    silent = desk.client()
     assert answered(desk.client(LOOK)).startswith(b"HTTP/1.1 200 ")
     assert is_open(silent)
     silent.sendall(LOOK)

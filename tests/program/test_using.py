@@ -14,7 +14,8 @@ import pytest
 
 from machine import Machine
 from orders import Orders, Ran
-from served import TOP, environment, free_port, read
+from ports import free_port
+from served import TOP, environment, read
 from wants import lacks, wants
 
 PAGE = read(os.path.join(TOP, "docs", "USING.md"))

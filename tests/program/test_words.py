@@ -10,7 +10,8 @@ from typing import List
 import pytest
 
 from orders import Orders, request
-from served import STARTED, free_port
+from ports import free_port
+from served import STARTED
 from wants import wants
 
 NO_UTF8 = "invalid UTF-8 was detected in one or more arguments"

@@ -158,6 +158,7 @@ def test_jobs_of_another_account_than_the_sessions(lab: Lab) -> None:
     dispatch_as(lab, "farm-dispatch", dispatcher.replace("User=board", "SupplementaryGroups=board"))
     number = lab.submit("id -un; $FARM_WAY b2 say one; env -i setsid sleep 701 > /dev/null 2>&1 & sleep 702", "tags = ['name=b2']\n")
     lab.machine.wait("what is left", "pgrep", "-fx", "sleep 701")
+    lab.said(number, "one")
     assert sorted(lab.log(number).split()) == ["farm-dispatch", "one"]
     hanging = ["pkill", "-f", "farm[-_]dispatch"]
     lab.machine.run(*hanging[:1], "-STOP", *hanging[1:])

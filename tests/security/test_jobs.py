@@ -161,6 +161,7 @@ def test_a_job_retires_no_board_and_reserves_as_nobody_at_the_desks_port(lab: Ma
 def test_a_job_changes_no_other_jobs_log_and_no_history(lab: MachineLab) -> None:
     other = lab.submit("echo mine")
     assert lab.finished(other) == "Complete"
+    lab.machine.wait("it is marked", "cat", f"{PLACE}/groups/{other}/finished")
     files = [f"logs/{other}", "history.json", "history.jsonl", "passes.json", f"groups/{other}/finished", f"jobs/{other}/log"]
     before = lab.machine.run("sh", "-c", f"cd {PLACE} && cat logs/{other} groups/{other}/finished").stdout
     forge = "echo forged > {0}/{1} || echo refused\nrm -f {0}/{1}\n"
@@ -179,7 +180,7 @@ def test_a_job_forges_not_even_its_own_served_log(lab: MachineLab) -> None:
 
 def test_a_job_ends_neither_the_dispatcher_nor_another_job(lab: MachineLab) -> None:
     before = lab.machine.run("systemctl", "show", "-p", "MainPID", "--value", "farm-dispatch").stdout
-    other = lab.submit("echo began; sleep 4; echo whole")
+    other = lab.submit("echo began; sleep 8; echo whole")
     lab.said(other, "began")
     pids = lab.machine.run("sh", "-c", "pgrep -u farm-dispatch; pgrep sleep").stdout.split()
     lab.submit(f"for pid in {' '.join(pids)}; do kill -KILL $pid; done; kill -KILL -1")
@@ -188,7 +189,7 @@ def test_a_job_ends_neither_the_dispatcher_nor_another_job(lab: MachineLab) -> N
 
 
 def test_a_job_reads_no_password_no_farm_and_no_other_jobs_folder(lab: MachineLab) -> None:
-    other = lab.submit("echo secret > kept; sleep 3")
+    other = lab.submit("echo secret > kept; sleep 8")
     lab.machine.wait("its file", "cat", f"{PLACE}/jobs/{other}/kept")
     pid = lab.machine.run("systemctl", "show", "-p", "MainPID", "--value", "farm-dispatch").stdout.strip()
     files = [PASSWORD, "/var/lib/farm/lab.db", f"{PLACE}/jobs/{other}/kept", f"/proc/{pid}/environ", f"{PLACE}/groups/{other}/key"]
@@ -200,7 +201,7 @@ def test_a_job_reads_no_password_no_farm_and_no_other_jobs_folder(lab: MachineLa
 
 
 def test_what_a_job_leaves_behind_is_dead_before_its_board_is_given_on(lab: MachineLab) -> None:
-    number = lab.submit(f"{AWAY}\nsleep 3; echo left; exit 3")
+    number = lab.submit(f"{AWAY}\nsleep 8; echo left; exit 3")
     lab.machine.wait("it is away", "pgrep", "-f", GONE_AWAY)
     assert lab.finished(number) == "Incomplete"
     assert lab.processes(GONE_AWAY) == [] and "left" in lab.log(number)
@@ -209,7 +210,7 @@ def test_what_a_job_leaves_behind_is_dead_before_its_board_is_given_on(lab: Mach
 @pytest.mark.parametrize("signal", ["KILL", "STOP"])
 def test_a_job_that_ends_or_stops_what_runs_it_ends(lab: MachineLab, signal: str) -> None:
     """Stopped it answers systemd's watchdog no more."""
-    number = lab.submit(f"{AWAY}\nsleep 2; echo began; kill -{signal} $PPID; sleep 300")
+    number = lab.submit(f"{AWAY}\nsleep 8; echo began; kill -{signal} $PPID; sleep 300")
     lab.machine.wait("it is away", "pgrep", "-f", GONE_AWAY)
     lab.said(number, "began")
     until = time.monotonic() + 90
@@ -289,7 +290,7 @@ def test_a_canceled_job_is_told_to_end(lab: MachineLab) -> None:
 
 
 def test_a_job_goes_on_where_the_dispatcher_is_killed(lab: MachineLab) -> None:
-    number = lab.submit("echo began; sleep 4; echo whole")
+    number = lab.submit("echo began; sleep 8; echo whole")
     lab.said(number, "began")
     lab.machine.run("systemctl", "kill", "-s", "KILL", "--kill-who=main", "farm-dispatch")
     assert lab.finished(number) == "Complete" and lab.log(number) == "began\nwhole\n"

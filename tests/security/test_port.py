@@ -85,8 +85,8 @@ def test_the_table_comes_back_when_debians_firewall_flushes_all(desk: Machine, w
 
 def test_the_nightly_backup_compares_its_copy_with_what_the_desk_says(desk: Machine) -> None:
     desk.run("systemctl", "start", "farm-backup")
-    said = desk.journal("farm-backup")
-    assert "isn't compared" not in said and "/var/lib/farm-backup/farm-" in said, said
+    desk.wait("the copy's name", "sh", "-c", "journalctl -q -u farm-backup | grep /var/lib/farm-backup/farm-")
+    assert "isn't compared" not in desk.journal("farm-backup")
     server = f"http://127.0.0.1:{PORT}"
     ran = desk.run("farm-backup", "--verbose", "--server", server, "/var/lib/farm-backup", user="farm")
     assert f"compared with the desk at {server}: " in ran.stderr

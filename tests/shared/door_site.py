@@ -5,7 +5,6 @@ import os
 import subprocess
 import sys
 import tempfile
-import time
 from typing import Any, Callable, Dict, List, Sequence, Tuple
 
 from nginx_site import Site, write
@@ -61,7 +60,6 @@ class Door:
             )
         STARTED.append(self.process)
         assert self.process.stdout is not None and self.process.stdout.readline()
-        time.sleep(0.3)  # (its first look at the desk)
 
     def kill(self) -> None:
         self.process.kill()

@@ -14,7 +14,8 @@ from typing import Any, Callable, Dict, List, Optional, Sequence, Tuple
 
 import pytest
 
-from served import STARTED, TOOLS, TOP, Farm, environment, free_port, wait_until
+from ports import free_port
+from served import STARTED, TOOLS, TOP, Farm, environment, wait_until
 from wants import wants
 
 NEEDED = ("nginx", "openssl", "curl")

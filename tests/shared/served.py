@@ -6,11 +6,12 @@ import http.client
 import json
 import os
 import signal
-import socket
 import subprocess
 import sys
 import time
 from typing import Any, Callable, Dict, List, Optional, Sequence, Tuple
+
+from ports import free_port
 
 TOP = os.path.realpath(os.path.join(os.path.dirname(__file__), "../.."))
 TOOLS = os.path.join(TOP, "tools")
@@ -65,12 +66,6 @@ def wait_until(what: str, call: Callable[[], Any], limit: float = PATIENCE) -> A
         assert time.monotonic() < until, f"{what}: not within {limit} s; it is {found!r}"
         time.sleep(pause)
         pause = min(pause * 1.2, 0.2)
-
-
-def free_port() -> int:
-    with socket.socket() as taken:
-        taken.bind(("127.0.0.1", 0))
-        return int(taken.getsockname()[1])
 
 
 def environment(**more: str) -> Dict[str, str]:
@@ -145,8 +140,7 @@ class Farm(Asks):
         return f"http://127.0.0.1:{self.port}"
 
     def start(self) -> None:
-        """Serves the farm, once its port is free. Where another took the port meanwhile and keeps it,
-        a new farm gets another port."""
+        """Serves the farm, once its port is free."""
         while True:
             words = [
                 self.program, "serve", "--db", self.db, "--port", str(self.port), "--max", "100000000"

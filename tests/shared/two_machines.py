@@ -11,7 +11,8 @@ import subprocess
 import sys
 from typing import List
 
-from served import TOOLS, environment, free_port, wait_until
+from ports import free_port
+from served import TOOLS, environment, wait_until
 
 BACKUP = os.path.join(TOOLS, "farm-backup")
 # What systemd does of what the page asks: units are started in the order of farm-standby.service's Before.

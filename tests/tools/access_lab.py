@@ -18,7 +18,8 @@ import time
 from typing import Any, Callable, Dict, List, NamedTuple, Optional, Sequence, Tuple
 
 import counting
-from served import LASTING, PATIENCE, STARTED, TOOLS, TOP, Farm, free_port, wait_until
+from ports import free_port
+from served import LASTING, PATIENCE, STARTED, TOOLS, TOP, Farm, wait_until
 from wants import wants
 
 PEOPLE = ("ann", "bob", "eve")
@@ -37,6 +38,8 @@ sys.argv[0] = {file!r}
 from farm_access.main import main
 sys.exit(main())
 """
+# A session whose hold has ended has longer to end by itself: a machine that is busy gives it less of that time.
+SLOWLY = "from farm_access import sessions; sessions.GRACE = 3.0"
 # Runs the line `run` of a job's text.
 RUNS = """\
 #!/bin/sh

@@ -14,7 +14,8 @@ from typing import Any, Callable, Iterator, List, Sequence, Tuple
 import access_lab
 import pytest
 from access_lab import Lab, kill, until
-from served import Farm, free_port, read, wait_until
+from ports import free_port
+from served import Farm, read, wait_until
 
 pytestmark = [pytest.mark.xdist_group("access"), pytest.mark.slow(120)]
 BAD_WORDS, FAULT, NOT_YOURS, LOST, NO_SSH = 2, 4, 5, 6, 255
@@ -28,7 +29,7 @@ def lab(program: str, tmp_path_factory: pytest.TempPathFactory) -> Iterator[Lab]
     def farm(boards: Any) -> Farm:
         return Farm(program, str(tmp_path_factory.mktemp("farm")), boards)
 
-    made = access_lab.make(farm)
+    made = access_lab.make(farm, before=access_lab.SLOWLY)
     yield made
     made.end()
 
@@ -201,7 +202,7 @@ def test_no_x11_and_no_agent(lab: Lab, held: Callable[..., int]) -> None:
 def test_nothing_is_forwarded(lab: Lab, held: Callable[..., int], options: Sequence[str]) -> None:
     held()
     ports = {"desk": lab.farm.port, "free": free_port()}
-    tried = lab.session("ann", options=[it.format(**ports) for it in options], seconds=15)
+    tried = lab.session("ann", options=[it.format(**ports) for it in options])
     assert (tried.status, tried.output) == (NO_SSH, b"")
 
 
@@ -515,8 +516,8 @@ def test_after_runs_between_two_holds_and_where_it_fails_nobody_gets_in(make_far
             assert lab.session("ann", "b1", "say", "x").status == 0
         assert not os.path.exists(ran)
         lab.cancel("ann", first)
-        until(lambda: os.path.exists(ran))
-        assert open(ran, encoding="utf-8").read() == "b1\n"
+        until(lambda: read(ran))
+        assert read(ran) == "b1\n"
         second = lab.reserve("ann", "b1")
         assert lab.session("ann", "b1", "say", "x").status == 0
         lab.write("fails", "")

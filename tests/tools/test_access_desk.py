@@ -31,7 +31,7 @@ def lab(program: str, tmp_path_factory: pytest.TempPathFactory) -> Iterator[Lab]
     def farm(boards: Any) -> Farm:
         return Farm(program, str(tmp_path_factory.mktemp("farm")), boards)
 
-    made = access_lab.make(farm)
+    made = access_lab.make(farm, before=access_lab.SLOWLY)
     # (ssh is told by its own configuration which key is ann's, as a person's is)
     options = [it for it in made.ssh("ann")[5:-1] if it not in ("-o",)]
     key, *rest = options[options.index("-i") + 1 :]

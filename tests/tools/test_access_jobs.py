@@ -117,10 +117,10 @@ def test_a_job_has_its_board_s_lock_and_its_own_environment(lab: Lab) -> None:
 
 def test_what_a_job_leaves_is_gone_before_the_next_one_s_first_byte(lab: Lab) -> None:
     nasty = f"{PYTHON} {access_lab.HERE}/access_nasty.py {lab.path('b2.tty')} JOBS 0.01"
-    number = submit(lab, f"{nasty} & sleep 1")
+    number = submit(lab, f"{nasty} & until grep -q {b'JOBS'.hex()} {lab.path('got', 'b2')}; do sleep 0.1; done")
     assert ended(lab, number) == "Complete"
+    until(lambda: time.time() > lab.got("b2")[-1].at + 1)  # (all that reached the board is written)
     before = lab.text("b2")
-    assert b"JOBS" in before
     held = lab.reserve("ann", "b2")
     line = lab.begin("ann", "b2", "nasty", "ann", "0.01")
     until(lambda: lab.text("b2").endswith(b"ann"))
@@ -147,7 +147,7 @@ def test_a_job_waits_until_what_a_person_left_is_gone(lab: Lab) -> None:
     lab.parts["guard"].send_signal(signal.SIGCONT)
     assert is_out
     assert ended(lab, number) == "Complete"
-    assert lab.text("b2").endswith(b"NEXT")
+    until(lambda: lab.text("b2").endswith(b"NEXT"))
     assert not lab.nasty()
 
 
@@ -216,6 +216,7 @@ def test_what_drives_boards_goes_by_their_ways(lab: Lab, way: str) -> None:
 
 def test_a_job_s_ways_are_its_own_boards_alone(lab: Lab) -> None:
     """And of its session nothing is left but that of the job itself."""
+    until(lab.is_at_rest)
     held = lab.reserve("ann", "b1")
     run = "$FARM_WAY b2 say one; $FARM_WAY b1 say two; echo =$?; $FARM_WAY b2 say --as-admin; echo =$?; $FARM_WAY b2 ways"
     number = submit(lab, f"{run}; $FARM_WAY b2 gone; echo =$?; echo files=$(ls {lab.path('run')} | grep -c session)")

@@ -169,6 +169,7 @@ def test_they_go_with_their_log(lab: Lab) -> None:
     old, new = lab.farm.submit(lab.script(LEAVES)), lab.farm.submit(lab.script(LEAVES))
     for number in (old, new):
         line_of(lab, number)
+        wait_until("its mark", lambda it=number: os.path.exists(lab.file(it, "finished")))  # type: ignore[misc]
     lab.stops(dispatcher)
     for it in ("artifacts/1", "logs/1"):
         os.utime(os.path.join(lab.place, it), (0, 0))

@@ -19,7 +19,8 @@ import pytest
 from access_lab import PYTHON, Lab, until
 from farm_access import site
 from fizgruk import toml_text
-from served import STARTED, TOOLS, TOP, Farm, free_port, wait_until
+from ports import free_port
+from served import STARTED, TOOLS, TOP, Farm, wait_until
 from test_access_jobs import DEVICE, LAVA, ended, labgrid_of, log_of
 from test_boards_run import wants_way
 from wants import wants

@@ -24,7 +24,8 @@ from desks import (
     BOARDS, DESK, GROUP, JOB, around, at_a_terminal, desk, number_of, passes, prints, waiting_tool, waits, write,
 )
 from fizgruk.desk import main as client
-from served import LIBRARY, Farm, Tool, environment, free_port, wait_until
+from ports import free_port
+from served import LIBRARY, Farm, Tool, environment, wait_until
 
 HEAD = "NAME TYPE HEALTH STATE HOLDER CHECKED TAGS\n"
 COLLECTING = """\

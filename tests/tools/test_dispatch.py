@@ -26,7 +26,7 @@ from farm_dispatch import cages, clocks as clocks_module, folders, runner
 from farm_dispatch.clocks import Clocks
 from farm_dispatch.dispatcher import Dispatcher
 from fizgruk import clocks as farm_clocks, limits
-from served import TOOLS, TOP, Tool, read, wait_until
+from served import PATIENCE, TOOLS, TOP, Tool, read, wait_until
 from wants import wants
 
 
@@ -135,7 +135,7 @@ def test_cancels(lab: Lab) -> None:
     """A canceled job's command gets SIGTERM, then SIGKILL, and what it left behind is killed."""
     quiet = lab.farm.submit(lab.sleeps(100))
     stubborn = lab.farm.submit(f"trap : TERM; setsid {lab.sleep} 101 & {AT_IT}")
-    dispatcher = lab.dispatch("--grace", "1")
+    dispatcher = lab.dispatch("--grace", "4")
     for number, seconds in ((quiet, 100), (stubborn, 101)):
         lab.begun(number)
         lab.running(seconds)
@@ -169,9 +169,9 @@ def test_two_at_once(lab: Lab) -> None:
 def test_cancel_beside_a_clock(lab: Lab) -> None:
     """A canceled job has its whole grace, also where the machine's clock jumps. A grace isn't cut short by a clock
     that jumps: by the file's age the command would be killed."""
-    number = lab.farm.submit(f"trap \"touch {lab.folder}/told\" TERM; {lab.until('open')}; exit 3")
+    number = lab.farm.submit(f"trap \"touch {lab.folder}/told\" TERM; touch {lab.folder}/set; {lab.until('open')}; exit 3")
     dispatcher = lab.dispatch("--grace", "100")
-    lab.begun(number)
+    wait_until("its trap is set", lambda: os.path.exists(f"{lab.folder}/set"))
     lab.farm.tell("ann", f"/jobs/{number}/cancel")
     wait_until("it is told", lambda: os.path.exists(f"{lab.folder}/told"))
     os.utime(lab.file(number, "cancel"), (time.time() - 7200,) * 2)
@@ -239,7 +239,7 @@ def test_killed_dispatchers(lab: Lab) -> None:
             lab.farm.start()
         dispatcher = lab.dispatch(every="0.1")
     for number in numbers:
-        assert lab.finished(number, 30) == "Complete", f"job {number} (seed {seed})"
+        assert lab.finished(number) == "Complete", f"job {number} (seed {seed})"
         assert lab.begins(number) == 1, f"how often job {number} was begun (seed {seed})"
     wait_until(
         "no job holds a board",
@@ -603,7 +603,7 @@ def test_mended_and_broken(lab: Lab) -> None:
             dispatcher = lab.dispatch(*words, every="0.1")
     replace(lab.command, COMMAND)
     for number in numbers:
-        assert lab.finished(number, 30) == "Complete", f"job {number} (seed {seed})"
+        assert lab.finished(number) == "Complete", f"job {number} (seed {seed})"
         assert lab.begins(number) == 1, f"how often job {number} was begun (seed {seed})"
     assert [it[0] for it in BOARDS if not is_good(lab, it[0])] == [], "boards that aren't Good"
     assert lab.finished(lab.farm.submit("true")) == "Complete", "a job of the last"
@@ -648,6 +648,7 @@ def test_no_process_left(tmp_path: pathlib.Path, monkeypatch: pytest.MonkeyPatch
     started = subprocess.Popen
     with contextlib.redirect_stdout(io.StringIO()):  # (what becomes of jobs)
         dispatcher = Dispatcher(cast(Any, desk), tempfile.mkdtemp(dir=tmp_path), OPTIONS)
+        dispatcher.starts.wait = 3600
         monkeypatch.setattr(subprocess, "Popen", no_process)
         try:
             dispatcher.round(True)
@@ -661,11 +662,12 @@ def test_no_process_left(tmp_path: pathlib.Path, monkeypatch: pytest.MonkeyPatch
         assert "Resource temporarily unavailable" in told, "what it tells"
         assert asked == ["/pass", ("start", 1, None)], "what it asks"
         assert tries == [1, 2, 3], "which ones are tried, one after another"
-        time.sleep(1.1)
-        faults, until = [], time.monotonic() + 20
+        dispatcher.starts.due = 0.0
+        faults, until = [], time.monotonic() + PATIENCE
         while "Running" in desk.states.values() and time.monotonic() < until:
+            is_over = "Finished" in desk.states.values()
             dispatcher.round(True)
-            faults += [dispatcher.starts.fault] if "Finished" in desk.states.values() else []
+            faults += [dispatcher.starts.fault] if is_over else []
             time.sleep(0.1)
     assert set(faults) == {""}, "what stands in the way once one has started"
     ends = [it for it in desk.given if it[0] == "finish"]
@@ -678,9 +680,10 @@ def no_process(words: Any, **more: Any) -> None:
 
 def tried(dispatcher: Dispatcher) -> int:
     """Which group a dispatcher tries after its wait, with a runner that ends with status 1."""
-    time.sleep(1.1)
+    dispatcher.starts.due = 0.0
     dispatcher.round(True)
-    time.sleep(0.3)
+    for it in list(dispatcher.groups.runners.values()):
+        it.wait()
     number = dispatcher.starts.tried
     dispatcher.round(True)
     return number
@@ -689,35 +692,36 @@ def tried(dispatcher: Dispatcher) -> int:
 # ---- time limits
 
 
+@pytest.mark.slow(20)
 def test_time_limits(make_lab: MakeLab) -> None:
     """A time limit ends a job by SIGTERM, SIGKILL after the grace; it is Incomplete, as told."""
     lab = make_lab([(f"b{it}", "bbb", []) for it in range(1, 11)])
     stubborn = f"trap : TERM; setsid {lab.sleep} 201 & {AT_IT}"
     polite = f'trap "exit 0" TERM; {AT_IT}'
-    over = "farm-dispatch: the time limit of 3 seconds is over: SIGTERM\n"
-    by_default = "time limit of 4 seconds (the default), status 143"
+    over = "farm-dispatch: the time limit of 9 seconds is over: SIGTERM\n"
+    by_default = "time limit of 10 seconds (the default), status 143"
     # What each runs, its limit, how it ends, and what its log has.
     rows = [
-        (lab.sleeps(202), 'job = "3 seconds"', "time limit of 3 seconds, status 143", over),
-        (stubborn, "job = { seconds = 3 }", "time limit of 3 seconds, signal 9", ": SIGKILL\n"),
-        (polite, "job.seconds = 3", "time limit of 3 seconds, status 0", over),
-        (lab.sleeps(203), "", by_default, "of 4 seconds (the default) is over: SIGTERM\n"),
-        (lab.sleeps(204), 'job = "3 days"', "time limit of 5 seconds, status 143", "is 3 days: "),
+        (lab.sleeps(202), 'job = "9 seconds"', "time limit of 9 seconds, status 143", over),
+        (stubborn, "job = { seconds = 9 }", "time limit of 9 seconds, signal 9", ": SIGKILL\n"),
+        (polite, "job.seconds = 9", "time limit of 9 seconds, status 0", over),
+        (lab.sleeps(203), "", by_default, "of 10 seconds (the default) is over: SIGTERM\n"),
+        (lab.sleeps(204), 'job = "3 days"', "time limit of 12 seconds, status 143", "is 3 days: "),
         (lab.sleeps(205), 'job = "soon"', by_default, "timeouts.job can't be read: 'soon'"),
     ]
     numbers = [submitted(lab, run, limit) for run, limit, _, _ in rows]
-    quick = submitted(lab, "sleep 0.2", 'job = "5 seconds"')
+    quick = submitted(lab, "sleep 0.2", 'job = "12 seconds"')
     two = f"""job_name = 'two'
 run = 'exec {lab.sleep} 206'
 [roles.a]
 device_type = 'bbb'
 count = 2
 [timeouts]
-job = {{ minutes = 0, seconds = 3 }}
+job = {{ minutes = 0, seconds = 9 }}
 """
     first = lab.farm.tell("ann", "/jobs", two.encode())["number"]
-    dispatcher = lab.dispatch("--grace", "1", "--limit", "4", DISPATCH_MOST="5 seconds")
-    rows.append(("", "", "time limit of 3 seconds, status 143", over))
+    dispatcher = lab.dispatch("--grace", "4", "--limit", "10", DISPATCH_MOST="12 seconds")
+    rows.append(("", "", "time limit of 9 seconds, status 143", over))
     for number, (_, _, ended, line) in zip([*numbers, first], rows):
         assert lab.finished(number) == "Incomplete", f"the result of {number}"
         assert read(lab.file(number, "ended")).strip() == ended, f"how {number} ended"
@@ -942,8 +946,9 @@ def test_clock_not_set(lab: Lab) -> None:
 
 
 def tell(file: str, text: str) -> None:
-    with open(file, "w", encoding="utf-8") as opened:
+    with open(f"{file}.new", "w", encoding="utf-8") as opened:
         opened.write(text)
+    os.replace(f"{file}.new", file)  # (it is read at any moment)
 
 
 def forget(file: str) -> None:

@@ -352,8 +352,8 @@ def test_served_logs(lab: Lab) -> None:
         assert lab.finished(number) == "Complete", f"job {number}"
     assert read(log_of(lab, one)) == "said\ntold\n", "a job's log"
     assert [read(log_of(lab, it)) for it in pair] == ["", ""], "that of each of two"
-    assert logs_in(lab) == {str(it) for it in (one, *pair, running)}, "those that are there"
     wait_until("one that goes on", lambda: read(log_of(lab, running)) == "begun\n")
+    assert logs_in(lab) == {str(it) for it in (one, *pair, running)}, "those that are there"
     assert os.stat(log_of(lab, one)).st_mode & 0o777 == 0o644, "who may read it"
     assert os.stat(os.path.join(lab.place, "logs")).st_mode & 0o777 == 0o711, "who may list them"
     wait_until("it is known to have ended", lambda: os.path.exists(lab.file(one, "finished")))

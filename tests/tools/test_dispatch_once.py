@@ -105,7 +105,9 @@ from farm_dispatch import cages
 was = cages._Keeper._started
 def started(self, *words):
     child = was(self, *words)
-    time.sleep(1)
+    until = time.monotonic() + 60
+    while time.monotonic() < until and not (os.path.exists(runs := os.environ["RUNS"]) and os.path.getsize(runs)):
+        time.sleep(0.02)
     os.kill(os.getpid(), signal.SIGKILL)  # (the first of a namespace can't)
     os._exit(1)
 cages._Keeper._started = started
@@ -560,10 +562,10 @@ def test_upgrade(lab: Lab) -> None:
     write(lab.work(number, "log"), "")
     members = [{"job": number, "board": board, "type": "bbb"}]
     write(lab.work(number, "about.json"), json.dumps({"owner": "ann", "name": "test", "members": members}))
-    holds = lab.script(f"exec 9<> {lab.work(number)}lock\nflock -n 9 || exit 1\n{lab.until('open')}\n"
+    holds = lab.script(f"exec 9<> {lab.work(number)}lock\nflock -n 9 || exit 1\ntouch {lab.folder}/held\n{lab.until('open')}\n"
                        f"echo status 0 > {lab.work(number)}ended\n")
     process = lab.shell(holds)
-    wait_until("the lock is held", lambda: os.path.exists(lab.work(number, "lock")))
+    wait_until("the lock is held", lambda: os.path.exists(f"{lab.folder}/held"))
     asked: List[Optional[str]] = []
 
     def hook(method: str, path: str, key: Optional[str]) -> None:

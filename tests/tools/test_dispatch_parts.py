@@ -2,6 +2,7 @@
 each; and jobs that are run again elsewhere."""
 from __future__ import annotations
 
+import contextlib
 import os
 import random
 import signal
@@ -116,7 +117,8 @@ def test_machine_that_is_gone(make_lab: MakeLab) -> None:
     gone.kill()
     lab.kill_runner(number, f"{lab.place}-rack2")
     for process in lab.sleepers(310):  # (the machine goes off)
-        os.kill(process, signal.SIGKILL)
+        with contextlib.suppress(ProcessLookupError):
+            os.kill(process, signal.SIGKILL)
     wait_until("its processes are gone", lambda: not lab.sleepers(310))
     other = serve(lab, "rack1")
     new = submit_on(lab, "rack1", "true")

@@ -17,7 +17,8 @@ from typing import Any, Callable, Dict, Iterator, List, Tuple
 import pytest
 from farm_backup import copying, points, standby
 from forks import ReadOnce
-from served import STARTED, TOP, Board, Farm, Tool, free_port, read, wait_until
+from ports import free_port
+from served import STARTED, TOP, Board, Farm, Tool, read, wait_until
 from streamed import Stream, backup, moment_of, rows, words_of
 from two_machines import Machine, aside
 

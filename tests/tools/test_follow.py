@@ -12,7 +12,8 @@ import time
 from typing import Any, Callable, List, Tuple
 
 import pytest
-from served import STARTED, Board, Farm, Tool, free_port, wait_until
+from ports import free_port
+from served import STARTED, Board, Farm, Tool, wait_until
 from streamed import Stream, backup, demand_prefix, moment_of, salts_of, still_farm, text_of, words_of
 
 Made = Callable[..., Farm]

@@ -16,7 +16,8 @@ import fizgruk
 from browser import Visit
 from completed import completed
 from nginx_site import AROUND, NEEDED, NGINX, WORDS, Site, openssl, write
-from served import STARTED, TOOLS, TOP, Board, Farm, environment, free_port, read, wait_until
+from ports import free_port
+from served import STARTED, TOOLS, TOP, Board, Farm, environment, read, wait_until
 from wants import wants
 
 LABS = ("berlin", "paris")

@@ -13,7 +13,8 @@ from typing import Callable, Iterator, List, Tuple
 
 import lab_texts
 import pytest
-from served import MODULES, TOOLS, Asks, environment, free_port
+from ports import free_port
+from served import MODULES, TOOLS, Asks, environment
 from turned import Home
 
 RPI = {"type": "rpi"}
@@ -202,6 +203,7 @@ def test_words_that_go_with_others(words: List[str]) -> None:
 
 
 @pytest.mark.slow(60)
+@pytest.mark.timeout(2400)
 def test_a_turn_that_is_killed_before_any_step_is_run_again(lab: Lab) -> None:
     """At each step the farm under its name is the old one, the next one, or not there, in which case no desk begins; the
     old one is whole under the old name or the new one. Run again the turn is done, once."""
@@ -209,7 +211,7 @@ def test_a_turn_that_is_killed_before_any_step_is_run_again(lab: Lab) -> None:
     words = [":".join(MODULES), lab.folder, lab.program, lab.next, str(lab.port)]
     script = os.path.join(os.path.dirname(os.path.abspath(__file__)), "..", "shared", "turned.py")
     ran = subprocess.run(
-        [sys.executable, script, *words], capture_output=True, text=True, check=False, timeout=600, env=environment()
+        [sys.executable, script, *words], capture_output=True, text=True, check=False, timeout=2300, env=environment()
     )
     assert ran.returncode == 0, ran.stdout[-2000:] + ran.stderr[-2000:]
     whole, *rows = [json.loads(it) for it in ran.stdout.splitlines() if it.startswith("{")]

@@ -9,7 +9,7 @@ import pytest
 
 from browser import Page
 from pages import (
-    BOARDS, PHONE, SHOWN, Lab, choose, click, facts_of, full_farm, names, past, record, seen, tell_at, text_of, until,
+    BOARDS, PHONE, SHOWN, STATE, Lab, choose, click, facts_of, full_farm, names, past, record, seen, tell_at, text_of, until,
 )
 from served import Farm, wait_until
 
@@ -95,6 +95,7 @@ def test_a_jobs_log_is_shown_at_a_click_and_followed_while_it_runs(lab: Lab) -> 
     assert opened.ask("kept === document.getElementById('log').firstChild"), "it isn't added"
     lab.farm.tell("dispatcher", f"/jobs/{number}/finish", {"outcome": "Incomplete"})
     wait_until("its end", lambda: facts_of(opened, "job")["State"] == "Finished, Incomplete")
+    wait_until("its log's end is read", lambda: bool(opened.ask(STATE.format("Boolean(state.openedJob.isDone)"))))
     lab.asked.clear()
     lab.looks_twice()
     assert lab.times_asked(path) == 0, "it is asked for again"

@@ -192,8 +192,8 @@ def test_a_board_is_taken_extended_and_given_back_by_keys(lab: Lab) -> None:
     until(opened, "the change is told", lambda it: it["news"] == told)
     opened.ask(BUTTON.format(table="boards", row="b1", text="Take") + ".focus()")
     opened.key("Enter", 13, "\r")
-    shown = until(opened, "it is acquired", lambda it: it["reservations"][0][1] == "acquired")
-    assert buttons(shown, "boards", "b1") == "Extend Give back"
+    until(opened, "it is acquired", lambda it: it["reservations"][0][1] == "acquired" and (
+        buttons(it, "boards", "b1") == "Extend Give back"))
     row = "document.activeElement.closest('tr').cells[0].textContent"
     assert opened.ask(row) == "b1", "the focus stays in the row"
     click(opened, "reservations", number, "Extend")
@@ -208,9 +208,8 @@ def test_a_board_is_taken_extended_and_given_back_by_keys(lab: Lab) -> None:
     click(opened, "reservations", number, "Give back")
     opened.key("Tab", 9)
     opened.key("Enter", 13, "\r")
-    shown = until(opened, "it is given back", lambda it: not it["reservations"])
+    shown = until(opened, "it is given back", lambda it: not it["reservations"] and it["news"] == "b1 is given back")
     assert buttons(shown, "boards", "b1") == "Reserve"
-    assert shown["news"] == "b1 is given back"
     assert len({it[1] for it in lab.given}) == 3, "each command has a key of its own"
 
 
@@ -308,9 +307,9 @@ def test_ones_own_group_is_canceled_in_the_queue(lab: Lab) -> None:
     assert [it[-1] for it in opened.ask(SHOWN)["queue"]] == ["Cancel", ""], "ann's and bob's"
     click(opened, "queue", "1", "Cancel")
     answer(opened, "Cancel")
-    shown = until(opened, "it is canceled", lambda it: len(it["queue"]) == 1)
+    told = f"group {second} is canceled"
+    until(opened, "it is canceled", lambda it: len(it["queue"]) == 1 and it["news"] == told)
     assert lab.farm.job(second)["result"] == "Canceled"
-    assert shown["news"] == f"group {second} is canceled"
     assert lab.farm.job(others)["state"] == "Submitted"
 
 

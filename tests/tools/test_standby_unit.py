@@ -40,7 +40,8 @@ def test_the_unit_ships_and_sets_a_farm_aside_before_a_desk_begins(machine: Mach
     machine.run(*machine.curl("admin", "/pass", "-X", "POST"))
     machine.run("systemctl", "start", "farm-standby", check=False)
     assert machine.run("ls", HOME).stdout.split() == ["fenced-2"]
-    assert "2 commands, of which 1 were shipped" in machine.journal("farm-standby")
+    told = "2 commands, of which 1 were shipped"
+    machine.wait("what was lost", "sh", "-c", f"journalctl -q -u farm-standby | grep '{told}'")
     # a desk that is started with it finds no farm; the one that served ended
     machine.run(*machine.curl("admin", "/pass", "-X", "POST"), check=False)
     machine.wait("its end", "sh", "-c", "systemctl is-active farm | grep -v '^active'")

@@ -10,7 +10,7 @@ import sqlite3
 import subprocess
 import sys
 import time
-from typing import Any, Dict, List, Sequence, Tuple
+from typing import Any, Dict, List, Pattern, Sequence, Tuple
 
 import pytest
 from served import STARTED, TOOLS, Tool, environment, wait_until
@@ -47,6 +47,11 @@ def ended(number: int) -> str:
     return f"job {number} (test) has ended: Complete"
 
 
+def tried_again(what: str, number: int) -> Pattern[str]:
+    """What is told of a webhook; its first try may have had no answer in time on a machine that is busy."""
+    return re.compile(rf"webhook: 127\.0\.0\.1: {what}: '{re.escape(ended(number))}' is tried again in \d+ seconds\n")
+
+
 def test_what_isnt_taken_is_tried_again_the_same_to_the_byte(watched: Labs) -> None:
     """Neither way holds up the other; what was refused comes later, also by another process."""
     lab = watched(JOBS)
@@ -58,8 +63,8 @@ def test_what_isnt_taken_is_tried_again_the_same_to_the_byte(watched: Labs) -> N
     again = f"'{ended(first)}' is tried again in 5 seconds\n"
     told = f"farm-watch: mail: {lab.mailbox.sendmail} ended with status 75: no room today: {again}"
     wait_until("it is told", lambda: told in lab.tool.errors())
-    of_hook = f"webhook: 127.0.0.1: answered 500: {again}"
-    wait_until("it is told", lambda: of_hook in lab.tool.errors())
+    of_hook = tried_again("answered 500", first)
+    wait_until("it is told", lambda: of_hook.search(lab.tool.errors()))
     lab.hook.answer = 200
     second = lab.runs(user="bob")
     wait_until("the second, by the webhook", lambda: ("bob", ended(second)) in lab.hook.told())
@@ -108,8 +113,8 @@ def test_a_webhook_that_sends_elsewhere_hasnt_taken_a_message(watched: Labs) -> 
     lab.hook.answer = 302
     lab.start()
     number = lab.runs()
-    told = f"webhook: 127.0.0.1: answered 302: '{ended(number)}' is tried again in 5 seconds\n"
-    wait_until("it is told", lambda: told in lab.tool.errors())
+    told = tried_again("answered 302", number)
+    wait_until("it is told", lambda: told.search(lab.tool.errors()))
     lab.hook.answer = 204
     wait_until("the last try", lambda: "told by webhook to 127.0.0.1" in lab.tool.output())
 

@@ -53,7 +53,7 @@ def test_a_command_s_status_is_told(form: str) -> None:
         return bool(found)
 
     assert until(has_ended) and found == [7]
-    assert cages.empty(marks[0], cages.Cage(form, "", "", ""), 5) and cages.remove(marks[0])
+    assert cages.empty(marks[0], cages.Cage(form, "", "", ""), 60) and cages.remove(marks[0])
 
 
 def test_what_went_away_from_a_command_dies_with_its_cage(form: str, tmp_path: pathlib.Path) -> None:
@@ -64,7 +64,7 @@ def test_what_went_away_from_a_command_dies_with_its_cage(form: str, tmp_path: p
     started(form, ["sh", "-c", f"setsid env -i PATH=/usr/bin:/bin sh -c \"{away}\" & exit 0"], marks)
     assert until(lambda: file.exists() and file.stat().st_size > 4) or form == cages.NAMESPACE
     none = cages.Cage(form, "", "", "")
-    assert cages.empty(marks[0], none, 5)
+    assert cages.empty(marks[0], none, 60)
     size = file.stat().st_size if file.exists() else 0
     time.sleep(0.3)
     assert (file.stat().st_size if file.exists() else 0) == size

@@ -131,7 +131,8 @@ def test_a_session_lives_as_long_as_its_file_is_locked(folder: str) -> None:
     assert sessions.evict([found], "", os.devnull)
 
 
-def test_a_stopped_process_of_a_session_is_killed(folder: str) -> None:
+def test_a_stopped_process_of_a_session_is_killed(folder: str, monkeypatch: pytest.MonkeyPatch) -> None:
+    monkeypatch.setattr(sessions, "DIES_WITHIN", 60.0)
     file = session_file(folder, "reservation 1")
     holder = subprocess.Popen([sys.executable, "-c", HOLDS, file], stdout=subprocess.PIPE)
     try:
@@ -174,17 +175,18 @@ class FakeDesk:
 
 
 @pytest.fixture
-def made(folder: str) -> lookout.Lookout:
+def made(folder: str, monkeypatch: pytest.MonkeyPatch) -> lookout.Lookout:
     places = {"folder": folder, "keys": folder, "log": folder, "consoles": folder, "shown": folder}
     found = lookout.Lookout(site.Site(desk={}, admins=(), cage="best", ways=(), **places))
     found.desk = FakeDesk()  # type: ignore[assignment]
+    monkeypatch.setattr(lookout, "FRESH", 60.0)
     return found
 
 
 def test_a_look_does_for_all_for_a_moment(made: lookout.Lookout) -> None:
     for _ in range(100):
         assert made.shared()["b1"].hold == "reservation 1"
-    assert len(made.desk.looks) <= 3  # type: ignore[attr-defined]
+    assert len(made.desk.looks) == 1  # type: ignore[attr-defined]
 
 
 def test_who_is_to_begin_asks_by_itself(made: lookout.Lookout) -> None:

@@ -6,6 +6,7 @@ from typing import Any, Dict, List
 import pytest
 from farm_door.counts import JOBS, RESERVATIONS, Counts, Passed
 from farm_door.rules import Group, Limits
+from fizgruk.errors import Unreachable
 
 
 class Desk:
@@ -50,6 +51,18 @@ def let(counts: Counts, kind: str, boards: int = 1) -> Passed:
     asked = Passed(kind, "ann", boards)
     assert counts.let(asked, []) is None
     return asked
+
+
+def test_nothing_is_known_before_the_desk_answers(desk: Desk, counts: Counts, monkeypatch: pytest.MonkeyPatch) -> None:
+    def away(path: str) -> Dict[str, Any]:
+        raise Unreachable("no answer")
+
+    with monkeypatch.context() as patched:
+        patched.setattr(desk, "look", away)
+        counts.look()
+    assert not counts.are_known()
+    counts.look()
+    assert counts.are_known()
 
 
 def test_what_was_let_through_counts_until_a_look_finds_it(desk: Desk, counts: Counts) -> None:

@@ -331,8 +331,9 @@ def test_answer_that_is_cut(cut: bytes, clock: Clock) -> None:
 
 def test_silence_on_a_kept_connection() -> None:
     """A request that nobody answers in time isn't sent again over a new connection before its pause."""
-    server, made = raw(lambda number: FULL if number == 0 else b"", 0.3)
+    server, made = raw(lambda number: FULL if number == 0 else b"")
     assert made.look("/status") == {"number": 7}
+    made.timeout = 0.3
     with pytest.raises(fizgruk.Unreachable, match="timed out"):
         made.look("/status")
     assert (next(server.asked), len(server.connections)) == (2, 1)

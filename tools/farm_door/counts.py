@@ -48,11 +48,15 @@ class Counts:
     def run(self) -> None:
         """Renews them for ever."""
         while True:
-            try:
-                self.renew()
-            except (Unreachable, Refused, KeyError, TypeError, ValueError):
-                pass  # they get old, and then nothing is let through
             time.sleep(EVERY)
+            self.look()
+
+    def look(self) -> None:
+        """Renews them where the desk answers; else they get old, and then nothing is let through."""
+        try:
+            self.renew()
+        except (Unreachable, Refused, KeyError, TypeError, ValueError):
+            pass
 
     def renew(self) -> None:
         began = time.monotonic()

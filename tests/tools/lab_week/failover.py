@@ -14,7 +14,8 @@ from typing import List
 
 from lab_week.beside import moment_of
 from lab_week.lab import Copy, Lab
-from served import PATIENCE, STARTED, TOOLS, environment, free_port, wait_until
+from ports import free_port
+from served import PATIENCE, STARTED, TOOLS, environment, wait_until
 
 AT = (0.36, 0.64)  # the parts of the week after which the other machine takes over
 
