@@ -1,16 +1,13 @@
 -- What a sound farm of the first edition has, and how the faults of its store are reported.
-use Rattle.std.proofs.Common.{◌≡◌, ◌≢◌, ◌⊎◌, inl, inr, refl, Ok, Err, IsErrAnd, Result, sym, ap, subst, ◌∙◌, arith}
+use Rattle.std.proofs.Common.{◌≡◌, ◌≢◌, ◌⊎◌, inl, inr, refl, Ok, Err, IsErrAnd, Result, sym, ap, subst, ◌∙◌}
 use Rattle.std.specs.Prelude.{ℕ, Some, IfErr, OnErr, OnOk}
 use Rattle.std.specs.Result.{result_err}
 use Rattle.sqlite.specs.Effect.{Database}
 use Rattle.sqlite.specs.State.{State}
 use Rattle.sqlite.specs.Tree.{Trees}
-use Rattle.std.specs.List.{AllByRecursion}
 use Rattle.std.proofs.lemmas.Result.{err_from_is_err_and}
 use Rattle.farm_types.specs.Farm.{Farm}
-use Rattle.farm_types.specs.Small.{IsSmallJob}
 use Rattle.farm_types.specs.Sound.{IsSound}
-use Rattle.farm_types.proofs.Put.{AllByRecursion-weaker}
 use Rattle.farm_sound.proofs.Collecting.{none_scheduling}
 use Rattle.farm_store.specs.Columns.{IsOfSchema, TableRows, first_rows_of, rows_of, second_schema}
 use Rattle.farm_store.specs.Versions.{MayHaveVersion, HasVersion}
@@ -30,14 +27,6 @@ first_of_sound F is = record {
   states = none_scheduling F.collector F.jobs is.none is.sound.collecting;
   none = is.none;
 }
-
-pub small_jobs : (F : Farm) → IsSound F → AllByRecursion IsSmallJob F.jobs
-small_jobs F sound = AllByRecursion-weaker
-    (λ j is.
-    let a = is.number.1 in
-    let b = is.group.0 in
-    let n = sound.steady.next.1 in
-    record { number = omega arith; group = omega arith }) F.jobs sound.steady.jobs
 
 -- ---- faults
 

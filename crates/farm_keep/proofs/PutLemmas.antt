@@ -1,13 +1,16 @@
--- The rows of a sound farm, put into the empty farm.
-use Rattle.std.proofs.Common.{◌≡◌, refl}
+-- The rows of a sound farm: their numbers are small, and put into the empty farm they are it.
+use Rattle.std.proofs.Common.{◌≡◌, refl, arith}
 use Rattle.farm_types.specs.Farm.{empty_farm, farm_of, put_rows}
+use Rattle.farm_types.specs.Small.{AreSmall}
 use Rattle.farm_types.specs.Sound.{IsSound}
 use Rattle.farm_types.specs.Table.{board_cmp, job_cmp, kept_cmp, res_cmp, type_cmp}
 use Rattle.farm_types.specs.declared.calls.Rows.{Rows}
+use Rattle.farm_types.proofs.Put.{AllByRecursion-weaker}
 use Rattle.farm_sound.proofs.Add.{job_total, res_total}
 use Rattle.farm_sound.proofs.Boards.{board_total, type_total}
 use Rattle.farm_sound.proofs.Numbers.{kept_total}
 use Rattle.farm_core.proofs.Replies.Merged.{put_all_same}
+use Rattle.farm_core.proofs.Sound.{fit_jobs, small_boards, small_collector, small_reservations, small_types}
 
 pub rows_are : (r : Rows) → IsSound (farm_of r) → put_rows empty_farm r ≡ farm_of r
 rows_are r is =
@@ -18,3 +21,24 @@ rows_are r is =
     let reservations = put_all_same res_cmp res_total r.reservations.items s.reservations_sorted in
     let kept = put_all_same kept_cmp kept_total r.kept.items s.kept_sorted in
     simp (types, boards, jobs, reservations, kept) refl
+
+pub small_rows : (r : Rows) → IsSound (farm_of r) → AreSmall r
+small_rows r is =
+    let F = farm_of r in
+    let s = is.steady in
+    record {
+      types = small_types F is;
+      boards = small_boards F is;
+      jobs = AllByRecursion-weaker (λ j fit. fit.small) F.jobs (fit_jobs F is);
+      reservations = small_reservations F is;
+      kept = AllByRecursion-weaker (λ k row. record {
+        kind = omega (arith, row.kind.1);
+        first = omega (arith, row.reply.0);
+        second = omega (arith, row.reply.1.0);
+        third = omega (arith, row.reply.1.1);
+      }) F.kept s.kept;
+      clock = omega (arith, s.clock);
+      collector = small_collector F is;
+      count = s.count;
+      next = omega (arith, s.next.1);
+    }

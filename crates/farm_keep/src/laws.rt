@@ -7,6 +7,7 @@ ghost use Rattle.sqlite.specs.Tree.{Trees};
 ghost use Rattle.farm_store.specs.Columns.{rows_of};
 ghost use Rattle.farm_store.specs.Holds.{Holds};
 ghost use Rattle.farm_types.specs.Farm.{Farm as Plain, empty_farm, farm_of, put_rows};
+ghost use Rattle.farm_types.specs.Small.{AreSmall};
 ghost use Rattle.farm_types.specs.Sound.{IsSound};
 ghost use Rattle.farm_keep.specs.First.{HoldsEitherEdition, IsSoundFirst};
 ghost use Rattle.farm_keep.specs.Headline.{IsAlwaysClean, Runs};
@@ -53,11 +54,13 @@ pub fn acts_once()
     ensures once { ActsOnce }
 {}
 
-/// A sound farm's rows, put into the tables of the empty farm, are that farm's: so `farm_store`'s
-/// `rebuild` of them leaves the farm that they spell.
-#[tactic(auto, using(crate::proofs::PutLemmas::rows_are))]
+/// A sound farm's rows have numbers that a store can keep and, put into the tables of the empty
+/// farm, are that farm's: so they may be given to `farm_store`'s `rebuild`, which leaves the farm
+/// that they spell.
+#[tactic(auto, using(crate::proofs::PutLemmas::rows_are, crate::proofs::PutLemmas::small_rows))]
 pub fn rows_put_are_the_farm()
-    ensures { (rows : Rows) → IsSound (farm_of rows) → put_rows empty_farm rows ≡ farm_of rows }
+    ensures farm { (rows : Rows) → IsSound (farm_of rows) → put_rows empty_farm rows ≡ farm_of rows }
+    ensures small { (rows : Rows) → IsSound (farm_of rows) → AreSmall rows }
 {}
 
 /// The crash prefix: what a stop leaves after a run, however the run ended, is found again as

@@ -53,8 +53,8 @@ fn rebuild_all<S: Alter>(tx: &mut Transaction<'_, S>, tagged: &TaggedRows<'_>) -
 
 /// Puts these rows into the farm's six tables made anew, in the place of the six that stand there,
 /// whatever columns and rows these have, in one transaction. Its commit is the last call of the
-/// store: where the store failed, a stop leaves the old tables or the new ones. The texts of tags are made before the
-/// first call of the store, so where memory is refused nothing has changed.
+/// store: where the store failed, a stop leaves the old tables or the new ones. The texts of tags
+/// are made before the first call of the store, so where memory is refused nothing has changed.
 ///
 /// It writes each row once, by a statement, and holds the texts of all tags in memory. The log grows
 /// by about the size of the file.

@@ -10,7 +10,8 @@ use Rattle.farm_store.specs.declared.fault.StoreFault.{StoreFault}
 use Rattle.farm_keep.specs.Faults.{IsMigrateFault}
 use Rattle.farm_keep.specs.First.{IsSoundFirst}
 use Rattle.farm_keep.specs.declared.fault.KeepFault.{KeepFault}
-use Rattle.farm_keep.proofs.MigrateLemmas.{bad_is_another, first_of_sound, from_reported, looks_read, looks_so, migrate_fault, never_reported, new_is_another, none_done, ok_is_no_err, on_err, one_reported, only_memory, raise_fault, small_jobs, reported_so}
+use Rattle.farm_keep.proofs.MigrateLemmas.{bad_is_another, first_of_sound, from_reported, looks_read, looks_so, migrate_fault, never_reported, new_is_another, none_done, ok_is_no_err, on_err, one_reported, only_memory, raise_fault, reported_so}
+use Rattle.farm_keep.proofs.PutLemmas.{small_rows}
 use Rattle.farm_keep.proofs.reading.migrate.Goals as goal
 
 -- ---- the rows could not be read
@@ -76,7 +77,7 @@ returns-then-not-is_sound g c =
 -- ---- they are raised
 
 pub raise-requires-clause-small : goal.raise-requires-clause-small
-raise-requires-clause-small g c = small_jobs (farm_of c.in_ok-rows.rows) (c.is_sound.ensures.0 (search rules))
+raise-requires-clause-small g c = (small_rows c.in_ok-rows.rows (c.is_sound.ensures.0 (search rules))).jobs
 
 pub returns : goal.returns
 returns g c =
