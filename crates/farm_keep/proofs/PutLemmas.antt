@@ -34,8 +34,8 @@ small_rows r is =
       kept = AllByRecursion-weaker (λ k row. record {
         kind = omega (arith, row.kind.1);
         first = omega (arith, row.reply.0);
-        second = omega (arith, row.reply.1.0);
-        third = omega (arith, row.reply.1.1);
+        second = omega (arith, row.reply.1);
+        third = omega (arith, row.reply.2);
       }) F.kept s.kept;
       clock = omega (arith, s.clock);
       collector = small_collector F is;
