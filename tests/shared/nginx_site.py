@@ -14,6 +14,7 @@ from typing import Any, Callable, Dict, List, Optional, Sequence, Tuple
 
 import pytest
 
+from desks import at_ease
 from ports import free_port
 from served import STARTED, TOOLS, TOP, Farm, environment, wait_until
 from wants import wants
@@ -151,7 +152,7 @@ class Site:
             input=given, capture_output=True, text=True, timeout=300, check=False,
             env=environment(**{**self.settings(), **more}),
         )
-        return ran.returncode, ran.stdout, ran.stderr
+        return ran.returncode, ran.stdout, at_ease(ran.stderr)
 
 
 def raw(site: Site, request: bytes, wait: float = 20) -> bytes:

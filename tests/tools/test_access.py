@@ -545,9 +545,7 @@ def test_of_a_long_paste_nothing_comes_after_the_hold_since_consoles_are_paced(
     lab = access_lab.make(make_farm, slow=True, rate=1000)
     try:
         number = lab.reserve("ann", "b1")
-        line = lab.begin("ann", "b1", "console")
-        threading.Thread(target=paste, args=(line, b"x" * 300_000), daemon=True).start()
-        until(lambda: lab.text("b1"))
+        until(lambda: pastes(lab, b"x" * 300_000))
         time.sleep(1.5)
         lab.cancel("ann", number)
         until(lambda: not lab.sessions())
@@ -556,6 +554,14 @@ def test_of_a_long_paste_nothing_comes_after_the_hold_since_consoles_are_paced(
         assert len(lab.text("b1")) - before < 8000
     finally:
         lab.end()
+
+
+def pastes(lab: Lab, text: bytes) -> bool:
+    """Pastes a text into b1's console, and says whether any of it comes: a session ends where the desk answers late."""
+    line = lab.begin("ann", "b1", "console")
+    threading.Thread(target=paste, args=(line, text), daemon=True).start()
+    until(lambda: lab.text("b1") or line.poll() is not None)
+    return bool(lab.text("b1"))
 
 
 def paste(line: "subprocess.Popen[bytes]", text: bytes) -> None:

@@ -21,7 +21,7 @@ from typing import Callable, Dict, List, Optional, Sequence, Set, Tuple
 
 import pytest
 from desks import (
-    BOARDS, DESK, GROUP, JOB, around, at_a_terminal, desk, number_of, passes, prints, waiting_tool, waits, write,
+    BOARDS, DESK, GROUP, JOB, around, at_a_terminal, at_ease, desk, number_of, passes, prints, waiting_tool, waits, write,
 )
 from fizgruk.desk import main as client
 from ports import free_port
@@ -420,7 +420,7 @@ def test_what_cant_be_printed_is_told(farm: Farm) -> None:
         with open("/dev/full", "w", encoding="utf-8") as full:
             ran = subprocess.run([sys.executable, DESK, *words], stdout=full, stderr=subprocess.PIPE, env=around(farm),
                                  timeout=120, check=False)
-        assert (ran.returncode, ran.stderr) == (4, b"desk: [Errno 28] No space left on device\n")
+        assert (ran.returncode, at_ease(ran.stderr.decode())) == (4, "desk: [Errno 28] No space left on device\n")
 
 
 @pytest.mark.parametrize("words, status", [
@@ -439,8 +439,8 @@ def test_a_reader_that_has_enough_is_no_fault_of_what_is_shown(farm: Farm, folde
     ran = subprocess.run([sys.executable, DESK, *words.split()], stdout=writer, stderr=subprocess.PIPE,
                          env=around(farm, DESK_HISTORY=folder), timeout=120, check=False)
     os.close(writer)
-    told = b"desk: holds of people aren't counted: farm-watch keeps none here\n" if words == "usage" else b""
-    assert (ran.returncode, ran.stderr) == (status, told)
+    told = "desk: holds of people aren't counted: farm-watch keeps none here\n" if words == "usage" else ""
+    assert (ran.returncode, at_ease(ran.stderr.decode())) == (status, told)
 
 
 # ---- a desk that goes away

@@ -15,6 +15,7 @@ import pytest
 import fizgruk
 from browser import Visit
 from completed import completed
+from desks import at_ease
 from nginx_site import AROUND, NEEDED, NGINX, WORDS, Site, openssl, write
 from ports import free_port
 from served import STARTED, TOOLS, TOP, Board, Farm, environment, read, wait_until
@@ -88,7 +89,7 @@ class Front:
             [sys.executable, os.path.join(TOOLS, "desk"), *words], capture_output=True, text=True, check=False,
             timeout=120, env=environment(DESK_CONFIG=self.config, **more),
         )
-        return ran.returncode, ran.stdout, ran.stderr.splitlines()
+        return ran.returncode, ran.stdout, at_ease(ran.stderr).splitlines()
 
 
 @pytest.fixture(scope="module")
