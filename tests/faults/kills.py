@@ -57,8 +57,8 @@ def request(caller: str, path: str, body: str, key: str) -> bytes:
 class Server:
     """A program that serves the farm of a file."""
 
-    def __init__(self, farm: str, db: str):
-        self.port = free_port()
+    def __init__(self, farm: str, db: str, port: int):
+        self.port = port
         words = [farm, "serve", "--db", db, "--port", str(self.port), "--max", "1000000"]
         self.log = f"{db}-wal"
         self.process = subprocess.Popen(words, stdout=subprocess.PIPE, stderr=subprocess.PIPE)
@@ -151,7 +151,8 @@ def main(farm: str, kills: int, folder: str) -> str:
     random.seed(20261124)
     db = f"{folder}/farm.db"
     subprocess.run([farm, "init", "--db", db], check=True, stdout=subprocess.DEVNULL)
-    server = Server(farm, db)
+    port = free_port()
+    server = Server(farm, db, port)
     for path, body in [("/types", '{"name":"bbb"}'), ("/boards", '{"name":"b1","type":"bbb","tags":[]}'),
                        ("/boards/b1/health", '{"health":"Good"}')]:
         answer = conversation(server.port, request("admin", path, body, path.replace("/", ".")))
@@ -160,7 +161,7 @@ def main(farm: str, kills: int, folder: str) -> str:
     done: List[Answer] = []
     lost = unsure = 0
     for turn in range(kills):
-        server = Server(farm, db)
+        server = Server(farm, db, port)
         lost += check_start(db, folder, server, done, unsure)
         if turn % 2:
             killer = server.kill_after(random.random() * 0.03)
@@ -170,7 +171,7 @@ def main(farm: str, kills: int, folder: str) -> str:
         unsure = 1
         killer.join()
         server.end()
-    server = Server(farm, db)
+    server = Server(farm, db, port)
     check_start(db, folder, server, done, unsure)
     jobs = [json.loads(it[1])["number"] for number, it in enumerate(done) if it and number % 2 == 0]
     assert jobs == list(range(1, len(jobs) + 1)), "a job was submitted twice, or lost"

@@ -11,8 +11,8 @@ from typing import Any, Iterator, Optional, Tuple
 
 import libraries
 import pytest
-from recorded import entries_in
 from ports import free_port
+from recorded import entries_in
 from served import STARTED, TOP
 
 PAGE = 1024

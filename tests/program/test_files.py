@@ -12,8 +12,8 @@ from typing import Dict, List
 
 import libraries
 from orders import STORE_FAULT, Orders
-from recorded import entries_in, recorder
 from ports import free_port
+from recorded import entries_in, recorder
 from served import TOP, wait_until
 
 

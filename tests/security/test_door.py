@@ -178,6 +178,7 @@ def test_where_the_desk_gives_it_no_answer_what_has_a_limit_isnt_let_through(
     from farm_door import commands, counts, door as doors, kept, rules
 
     monkeypatch.setattr(counts, "TOO_OLD", 0.0)
+    monkeypatch.setattr(counts, "FIRST_LOOK", 0.0)
     known = counts.Counts(None)  # type: ignore[arg-type]
     asked = doors.Door(rules.rules_in("/nowhere/door.toml"), kept.Kept(":memory:"), known, commands.Desk(door.farm.server))
 

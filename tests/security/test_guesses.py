@@ -78,7 +78,8 @@ ip address add 192.0.2.1/24 dev lab
 ip link set lab up
 ip netns exec outside ip link set lab up
 for last in 2 3; do ip netns exec outside ip address add 192.0.2.$last/24 dev lab; done
-systemctl start nginx fail2ban
+systemctl start nginx
+systemctl start fail2ban
 """
 # Guesses over so many connections at once for so many seconds, and says how often it was told that it was wrong.
 GUESS = """import socket, ssl, sys, threading, time

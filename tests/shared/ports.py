@@ -1,6 +1,7 @@
 """Ports of this machine for what a test serves."""
 from __future__ import annotations
 
+import errno
 import random
 import socket
 from typing import List
@@ -19,8 +20,10 @@ def free_port() -> int:
             mark.bind(f"\0farm-tests-{port}")
             with socket.socket() as tried:
                 tried.bind(("127.0.0.1", port))
-        except OSError:
+        except OSError as fault:
             mark.close()
-            continue
+            if fault.errno == errno.EADDRINUSE:
+                continue
+            raise
         MARKS.append(mark)
         return port

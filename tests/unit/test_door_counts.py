@@ -1,9 +1,12 @@
 """What farm-door counts of a user, as looks at the desk and answers to commands come in any order."""
 from __future__ import annotations
 
-from typing import Any, Dict, List
+import threading
+from concurrent.futures import ThreadPoolExecutor
+from typing import Any, Dict, List, Optional
 
 import pytest
+from farm_door import counts as of_counts
 from farm_door.counts import JOBS, RESERVATIONS, Counts, Passed
 from farm_door.rules import Group, Limits
 from fizgruk.errors import Unreachable
@@ -63,6 +66,32 @@ def test_nothing_is_known_before_the_desk_answers(desk: Desk, counts: Counts, mo
     assert not counts.are_known()
     counts.look()
     assert counts.are_known()
+
+
+def test_what_is_asked_first_waits_for_the_first_look(
+    desk: Desk, counts: Counts, monkeypatch: pytest.MonkeyPatch
+) -> None:
+    look, wait, is_awaited = desk.look, counts.has_looked.wait, threading.Event()
+
+    def looked(path: str) -> Dict[str, Any]:
+        assert is_awaited.wait(60)
+        return look(path)
+
+    def waited(seconds: Optional[float] = None) -> bool:
+        is_awaited.set()
+        return wait(seconds)
+
+    monkeypatch.setattr(of_counts, "FIRST_LOOK", 60.0)
+    monkeypatch.setattr(desk, "look", looked)
+    monkeypatch.setattr(counts.has_looked, "wait", waited)
+    with ThreadPoolExecutor(1) as beside:
+        beside.submit(counts.look)
+        assert counts.are_known()
+
+
+def test_what_is_asked_first_doesnt_wait_for_ever(counts: Counts, monkeypatch: pytest.MonkeyPatch) -> None:
+    monkeypatch.setattr(of_counts, "FIRST_LOOK", 0.01)
+    assert not counts.are_known()
 
 
 def test_what_was_let_through_counts_until_a_look_finds_it(desk: Desk, counts: Counts) -> None:

@@ -12,6 +12,7 @@ from fizgruk.errors import Refused, Unreachable
 
 EVERY = 2.0
 TOO_OLD = 30.0  # seconds after which nobody knows any more
+FIRST_LOOK = 5.0  # seconds for which what is asked first waits, as long as one call of the desk may take
 HOLDER = re.compile(r"(job|reservation) ([1-9][0-9]*)")
 JOBS, RESERVATIONS = "job", "reservation"
 WORDS = {JOBS: "open_jobs", RESERVATIONS: "open_reservations"}  # of the rules
@@ -44,12 +45,13 @@ class Counts:
         self.open: Dict[Tuple[str, str], int] = {}
         self.passed: List[Passed] = []
         self.seen = float("-inf")
+        self.has_looked = threading.Event()
 
     def run(self) -> None:
         """Renews them for ever."""
         while True:
-            time.sleep(EVERY)
             self.look()
+            time.sleep(EVERY)
 
     def look(self) -> None:
         """Renews them where the desk answers; else they get old, and then nothing is let through."""
@@ -57,6 +59,8 @@ class Counts:
             self.renew()
         except (Unreachable, Refused, KeyError, TypeError, ValueError):
             pass
+        finally:
+            self.has_looked.set()
 
     def renew(self) -> None:
         began = time.monotonic()
@@ -106,4 +110,6 @@ class Counts:
                 self.passed.remove(asked)
 
     def are_known(self) -> bool:
+        """Whether a look is young enough; the first one is waited for a while."""
+        self.has_looked.wait(FIRST_LOOK)
         return time.monotonic() - self.seen < TOO_OLD

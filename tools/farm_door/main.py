@@ -31,7 +31,6 @@ def main(words: Optional[Sequence[str]] = None) -> int:
     try:
         counts = Counts(calls.Desk(settings.Settings(options.server, "door", None, None, 5.0), patience=0))
         door = Door(rules_in(options.rules), Kept(options.state), counts, Desk(options.server))
-        counts.look()  # (so that what comes first is let through)
         threading.Thread(target=counts.run, daemon=True).start()
         serve(door, options.socket, options.group)
         return 0
