@@ -28,8 +28,7 @@ def site(farm: Farm, make_site: Callable[..., Site]) -> Site:
 
 
 def lines_of(site: Site, name: str = "audit.log") -> List[Dict[str, Any]]:
-    site.settle()
-    return [json.loads(it) for it in read(f"{site.folder}/{name}").splitlines()]
+    return [json.loads(it) for it in site.logged(name).splitlines()]
 
 
 def told(site: Site, *words: str, user: str = "ann") -> int:
@@ -52,7 +51,7 @@ def test_each_accepted_command_has_a_line_and_nothing_else_has(site: Site) -> No
     assert [it["command"] for it in rows] == ["POST /reservations", "POST /reservations/1/cancel", "POST /jobs"]
     assert [(it["login"], it["from"], it["status"]) for it in rows] == [("ann", "127.0.0.1", 200)] * 3
     assert [(it["body"], it["key"]) for it in rows] == [(RESERVE, "k1"), ("", ""), ("", "")]
-    assert "secret" not in read(f"{site.folder}/audit.log")
+    assert "secret" not in site.logged()
     at = time.mktime(time.strptime(rows[0]["at"][:19], "%Y-%m-%dT%H:%M:%S"))
     assert began - 2 <= at <= time.time() + 2
 
@@ -110,7 +109,7 @@ def test_desk_audit_shows_what_concerns_a_board(farm: Farm, site: Site) -> None:
     farm.tell("dispatcher", "/pass")
     for number in (1, 2):
         assert told(site, "-X", "POST", f"/reservations/{number}/acquire") == 200
-    write(site.folder, "audit.log", read(f"{site.folder}/audit.log") + "no line\n[]\n" + "[" * 5000 + "\n", 0o644)
+    write(site.folder, "audit.log", site.logged() + "no line\n[]\n" + "[" * 5000 + "\n", 0o644)
     shown = site.desk("--json", "audit", "b1", "--file", f"{site.folder}/audit.log")
     assert shown[0] == 0, shown
     assert [it["command"] for it in json.loads(shown[1])["audit"]] == ["POST /reservations", "POST /reservations/1/acquire"]
@@ -145,6 +144,7 @@ def test_logrotate_puts_it_aside_and_loses_no_line(site: Site) -> None:
         time.sleep(0.3)
         assert site.process.poll() is None and signal.SIGUSR1
     assert told(site, "-d", RESERVE, "/reservations") == 200
+    site.settle()
     kept = [f"{site.folder}/{it}" for it in os.listdir(site.folder) if it.startswith("audit.log")]
     count = sum(len(subprocess.run(["zcat", "-f", it], check=True, capture_output=True).stdout.splitlines()) for it in kept)
     assert count == 4 and len(kept) == 4

@@ -15,7 +15,7 @@ import pytest
 
 from door_site import JOB, RESERVE, RULES, Door, limit
 from nginx_site import write
-from served import read, wait_until
+from served import wait_until
 
 
 def test_a_user_has_so_many_reservations_open_and_more_where_some_end(door: Door) -> None:
@@ -74,7 +74,7 @@ def test_an_admin_of_several_is_admin_to_the_desk_and_himself_in_the_audit(door:
     health = ("-d", '{"health":"Bad"}', "/boards/b1/health")
     assert door.told(*health)[0] == 403 and door.told(*health) == (403, {"code": 3, "text": "forbidden"})
     assert door.told(*health, user="ann.admin")[0] == 200
-    assert '"login":"ann.admin"' in read(f"{door.folder}/audit.log")
+    assert '"login":"ann.admin"' in door.site.logged()
     assert door.site.got("/whoami", user="ann.admin")[2] == b"admin"
     assert [door.told(*RESERVE, "/reservations", user="ann.admin")[0] for _ in range(5)] == [200] * 5
 
@@ -84,7 +84,7 @@ def test_a_token_stands_for_its_owner_until_it_is_ended(door: Door) -> None:
     assert (status, made["number"], made["name"]) == (200, 1, "nightly")
     token = made["token"]
     assert door.by_token(token, *RESERVE, "/reservations")[0] == 200 and door.owners() == ["ann"]
-    assert '"login":"ann (token 1 nightly)"' in read(f"{door.folder}/audit.log")
+    assert '"login":"ann (token 1 nightly)"' in door.site.logged()
     assert door.by_token(token, "/queue")[0] == 200
     admins = door.told("-d", '{"name":"ci"}', "/tokens", user="ann.admin")[1]["token"]
     assert door.by_token(admins, "-d", '{"health":"Bad"}', "/boards/b1/health")[0] == 403, "an admin's token is no admin's"
@@ -200,7 +200,7 @@ def test_another_proxy_may_say_who_asks(make_door: Callable[..., Door]) -> None:
         return door.site.said(*(["-H", f"x-forwarded-user: {name}"] if name else []), *words, user="")
 
     assert [by("carl", *RESERVE, "/reservations")[0] for _ in range(4)] == [200, 200, 200, 429]
-    assert door.owners() == ["carl"] * 3 and '"login":"carl"' in read(f"{door.folder}/audit.log")
+    assert door.owners() == ["carl"] * 3 and '"login":"carl"' in door.site.logged()
     assert by("carl", "-d", '{"name":"ci"}', "/tokens")[0] == 200
     for name in ("", "a b", "x" * 49, "ann;admin"):
         assert by(name, "/queue")[0] == 401, name

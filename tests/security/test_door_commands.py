@@ -15,7 +15,7 @@ from typing import Any, Callable, Dict, List, Tuple
 import pytest
 
 from door_site import JOB, RESERVE, Door, limit
-from served import read, wait_until
+from served import wait_until
 
 CALM = """[limits]
 highest_priority = 50
@@ -30,8 +30,7 @@ JOB_OF = "job_name = 'x'\ndevice_type = 'bbb'\n"
 
 
 def rows_of(door: Door) -> List[Dict[str, Any]]:
-    door.site.settle()
-    return [json.loads(it) for it in read(f"{door.folder}/audit.log").splitlines()]
+    return [json.loads(it) for it in door.site.logged().splitlines()]
 
 
 def reserve(door: Door, body: str, *words: str, user: str = "ann") -> Tuple[int, Any]:
@@ -116,7 +115,7 @@ def test_the_audit_has_what_was_answered(door: Door) -> None:
         ("ann", "POST /tokens", "1"), ("ann", "POST /reservations", "1"), ("ann", "POST /jobs", "2"),
         ("ann (token 1 ci)", "POST /reservations", "3"), ("ann.admin", "POST /boards/b1/health", "0"), ("ann", "POST /tokens/1/end", "1"),
     ]
-    assert token not in read(f"{door.folder}/audit.log")
+    assert token not in door.site.logged()
     fields = door.site.got("/reservations", *RESERVE)[1]
     assert not [it for it in fields if it.startswith("x-farm")]
 
@@ -124,6 +123,7 @@ def test_the_audit_has_what_was_answered(door: Door) -> None:
 def test_a_jobs_submission_is_shown_with_its_board(door: Door) -> None:
     assert door.told(*JOB, "/jobs")[1] == {"number": 1}
     door.farm.tell("dispatcher", "/pass")
+    door.site.settle()
     shown = door.site.desk("--json", "audit", "b1", "--file", f"{door.folder}/audit.log")
     assert [it["command"] for it in json.loads(shown[1])["audit"]] == ["POST /jobs"], shown
     assert json.loads(door.site.desk("--json", "audit", "b2", "--file", f"{door.folder}/audit.log")[1]) == {"audit": []}

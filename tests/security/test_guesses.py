@@ -11,7 +11,7 @@ import pytest
 
 from machine import Machine
 from nginx_site import Site, line_to, raw
-from served import Farm, read, wait_until
+from served import Farm, wait_until
 from wants import wants
 
 # ---- the lines
@@ -28,8 +28,7 @@ def site(farm: Farm, make_site: Callable[..., Site]) -> Site:
 
 
 def guesses(site: Site) -> List[str]:
-    site.settle()
-    return read(f"{site.folder}/guesses.log").splitlines()
+    return site.logged("guesses.log").splitlines()
 
 
 def test_a_wrong_password_has_a_line_and_nothing_else_has(site: Site) -> None:

@@ -16,7 +16,7 @@ import pytest
 
 from desks import at_ease
 from ports import free_port
-from served import STARTED, TOOLS, TOP, Farm, environment, wait_until
+from served import STARTED, TOOLS, TOP, Farm, environment, read, wait_until
 from wants import wants
 
 NEEDED = ("nginx", "openssl", "curl")
@@ -98,6 +98,11 @@ class Site:
     def settle(self) -> None:
         """Has one more request answered: nginx, which is one process, has then logged all that it answered before."""
         assert self.curl("-o", "/dev/null", "/") == 0
+
+    def logged(self, name: str = "audit.log") -> str:
+        """What a log has of all that was answered until now."""
+        self.settle()
+        return read(f"{self.folder}/{name}")
 
     def asked_of_desk(self, since: float = 0) -> List[str]:
         """What was asked of the desk since a moment: a list of methods and paths."""
