@@ -15,7 +15,7 @@ from typing import Callable, Dict, List, Tuple
 import pytest
 
 from browser import Visit, browser_fixture, visit_fixture  # noqa: F401
-from nginx_site import WORDS, Site, farm_fixture, line_to, raw, site_fixture  # noqa: F401
+from nginx_site import HEADS, WORDS, Site, farm_fixture, line_to, raw, site_fixture  # noqa: F401
 from served import TOOLS, Farm, read, wait_until
 
 JSON = "application/json"
@@ -314,8 +314,9 @@ def test_a_body_that_doesnt_come_is_closed_within_seconds(site: Site) -> None:
 
 
 @pytest.mark.slow(12)
-def test_many_half_heads_shut_nobody_out_for_long(site: Site) -> None:
-    """All the places that this nginx has: each head had a minute before."""
+def test_many_half_heads_shut_nobody_out_for_long(farm: Farm, make_site: Callable[..., Site]) -> None:
+    """All the places that this nginx has, by the example's own time for a head."""
+    site = make_site(farm, (HEADS[1], HEADS[0]))
     lines = []
     for _ in range(600):
         try:

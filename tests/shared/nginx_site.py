@@ -42,6 +42,9 @@ http {{
 }}
 """
 
+# A process that asks may stand still on a busy machine for longer than the example gives it.
+HEADS = ("client_header_timeout 5s", "client_header_timeout 60s")
+
 
 class Site:
     """The example's site before a served farm, with the passwords of ann and of dispatcher. It skips
@@ -89,6 +92,7 @@ class Site:
             ("/var/log/nginx/access.log combined", f"{self.folder}/asked.log asked"),
             ("/var/log/nginx/farm-guesses.log", f"{self.folder}/guesses.log"),
             ("/var/log/farm/audit.log", f"{self.folder}/audit.log"),
+            HEADS,
             *changes,
         ]:
             assert old in site, f"the example has no {old}"
