@@ -295,12 +295,18 @@ HALVES: List[Tuple[str, bytes]] = [
 ]
 
 
+@pytest.fixture(name="hasty")
+def hasty_fixture(farm: Farm, make_site: Callable[..., Site]) -> Site:
+    """A site with the example's own time for a head."""
+    return make_site(farm, (HEADS[1], HEADS[0]))
+
+
 @pytest.mark.slow(12)
 @pytest.mark.parametrize("kind, sent", HALVES, ids=[it[0] for it in HALVES])
-def test_a_head_that_doesnt_end_is_closed_within_seconds(site: Site, kind: str, sent: bytes) -> None:
+def test_a_head_that_doesnt_end_is_closed_within_seconds(hasty: Site, kind: str, sent: bytes) -> None:
     del kind
     began = time.monotonic()
-    said = raw(site, sent, 50)
+    said = raw(hasty, sent, 50)
     assert not said.endswith(b"(open)") and time.monotonic() - began < 40
 
 
@@ -314,20 +320,19 @@ def test_a_body_that_doesnt_come_is_closed_within_seconds(site: Site) -> None:
 
 
 @pytest.mark.slow(12)
-def test_many_half_heads_shut_nobody_out_for_long(farm: Farm, make_site: Callable[..., Site]) -> None:
-    """All the places that this nginx has, by the example's own time for a head."""
-    site = make_site(farm, (HEADS[1], HEADS[0]))
+def test_many_half_heads_shut_nobody_out_for_long(hasty: Site) -> None:
+    """All the places that this nginx has: each head had a minute before."""
     lines = []
     for _ in range(600):
         try:
-            line = line_to(site)
+            line = line_to(hasty)
             line.sendall(b"GET /queue HTTP/1.1\r\nhost: local")
         except OSError:
             break  # nobody has a place any more
         lines.append(line)
     assert len(lines) > 400
     try:
-        wait_until("an answer", lambda: site.curl("-m", "2", "-o", "/dev/null", "/") == 0, 30)
+        wait_until("an answer", lambda: hasty.curl("-m", "2", "-o", "/dev/null", "/") == 0, 30)
     finally:
         for line in lines:
             line.close()
