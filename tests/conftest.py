@@ -9,6 +9,8 @@ from __future__ import annotations
 import os
 import pathlib
 import signal
+import sys
+import types
 from typing import Any, Callable, Generator, Iterator, Optional, Sequence
 
 import pytest
@@ -32,6 +34,15 @@ def pytest_configure(config: pytest.Config) -> None:
         if signal.getsignal(each) == signal.SIG_IGN:
             signal.signal(each, signal.SIG_DFL)
     config.pluginmanager.register(Ending(config), "ending")
+
+
+@pytest.hookimpl(tryfirst=True, optionalhook=True)
+def pytest_xdist_newgateway(gateway: Any) -> None:
+    """With -v pytest-xdist asks each worker on what it runs. A task that comes to a worker while its main thread ends the
+    one before runs in another thread (execnet before 2.1), where no test can set a signal: so none is asked, since all
+    run on what this process does."""
+    here = types.SimpleNamespace(platform=sys.platform, version_info=sys.version_info, cwd=os.getcwd())
+    gateway._cache_rinfo = here  # pylint: disable=protected-access
 
 
 def pytest_collection_modifyitems(items: list[pytest.Item]) -> None:
