@@ -63,9 +63,9 @@ function learnFrom(action, number) {
 
 // ---- what was reserved from here
 
-// Remembers a reservation of this page, over a reload too.
+// Remembers a reservation of this page, over a reload too, and under which key it is taken.
 function keep(number, isTaken) {
-  state.reserved.set(number, {isTaken, at: Date.now()});
+  state.reserved.set(number, {isTaken, at: Date.now(), key: freshKey()});
   keepNumbers();
 }
 
@@ -93,19 +93,22 @@ export function takeKept() {
   keepNumbers();
 }
 
-// Extends what was reserved from here and waits, and takes what has come. It does no harm when it
-// is done twice, so it has no key, and is tried again at the next look.
+// Extends what was reserved from here and waits, which does no harm when it is done twice, and
+// takes what has come, under one key, since a browser itself sends again what got no answer. Where
+// no answer comes either is tried again at the next look.
 export async function keepReserved() {
   const live = new Map(state.farm.live.map(it => [it.number, it]));
-  for (const [number, {isTaken, at}] of [...state.reserved]) {
+  for (const [number, {isTaken, at, key}] of [...state.reserved]) {
     const row = live.get(number), known = state.reservations.get(number);
     // (a look that began before doesn't know it)
     if (!row && at >= state.lookBegan) continue;
     if (!row || row.state === "acquired" || (known && known.owner !== state.user)) {
+      // (the answer to its taking was lost)
+      if (row && isTaken && known?.owner === state.user) notify(row.board + " is yours");
       state.reserved.delete(number);
       keepNumbers();
     } else if (row.state === "allocated" && isTaken) {
-      await take(row);
+      await take(row, key);
     } else if (known && known.deadline - farmTime() <= LEASE / 2) {
       const answer = await send({path: "reservations/" + number + "/refresh"});
       if (answer && !answer.isRefused) known.deadline = farmTime() + LEASE;
@@ -113,8 +116,8 @@ export async function keepReserved() {
   }
 }
 
-async function take({number, board}) {
-  const answer = await send({path: "reservations/" + number + "/acquire"});
+async function take({number, board}, key) {
+  const answer = await send({path: "reservations/" + number + "/acquire", key});
   if (!answer) return;
   if (answer.isRefused) {
     announce("reservation " + number + " has " + board + ", which isn't taken: "

@@ -43,11 +43,15 @@ async function lookOnce(isFresh) {
   const isFirst = !state.farm, before = state.rows;
   try {
     await lookAtAll(isFresh);
-    await keepReserved();
-    state.trouble = "";
-    state.lookedAt = Date.now();
     makeRows();
     if (before) tellChanges(before);
+    // (what is waited for is told last, since each news takes the place of the one before)
+    if (state.reserved.size) {
+      await keepReserved();
+      makeRows();
+    }
+    state.trouble = "";
+    state.lookedAt = Date.now();
     if (isFirst) follow();
     lookAtOpened();
   } catch (fault) {
