@@ -22,6 +22,7 @@ from wants import lacks
 
 FIRST_TYPE = request("POST", "/types", {"x-user": "admin", "content-length": "14"}, b'{"name":"bbb"}')
 LOOK = request("GET", "/status", {})
+LIMIT = 10  # seconds that a client has for its request
 STATUS = '{"boards":0,"clock":%s,"collector":0,"count":%d,"jobs":0,"next":1,"reservations":0,"types":%d}'
 
 
@@ -119,6 +120,11 @@ def is_open(client: socket.socket) -> bool:
     poll = select.poll()
     poll.register(client, select.POLLIN)
     return not poll.poll(0)
+
+
+def is_open_in_time(client: socket.socket, began: float) -> bool:
+    """Whether a client waits still, or may have been let go for its time's sake: it began then."""
+    return is_open(client) or time.monotonic() > began + LIMIT
 
 
 def test_silent_client(start: Start) -> None:
@@ -343,9 +349,9 @@ def test_idle_crowd(number: int, start: Start) -> None:
     desk = start(2**63)
     crowd = [desk.client() for _ in range(number)]
     for _ in range(20):
-        late = desk.client()
+        began, late = time.monotonic(), desk.client()
         assert answered(desk.client(LOOK)).startswith(b"HTTP/1.1 200 ")
-        assert is_open(late)
+        assert is_open_in_time(late, began)
         crowd.append(late)
     for client in crowd:
         client.close()
@@ -356,12 +362,12 @@ def test_crowd_that_drips(start: Start) -> None:
     desk = start(2**63)
     crowd = [desk.client(LOOK[:1]) for _ in range(200)]
     for byte in LOOK[1:12]:
-        late = desk.client(LOOK[:1])
+        began, late = time.monotonic(), desk.client(LOOK[:1])
         for client in crowd:
             with contextlib.suppress(ConnectionError):
                 client.sendall(bytes([byte]))
         assert answered(desk.client(LOOK)).startswith(b"HTTP/1.1 200 ")
-        assert is_open(late)
+        assert is_open_in_time(late, began)
         late.close()
     for client in crowd:
         client.close()
@@ -403,10 +409,17 @@ def post(path: str, user: str, body: Any, key: str = "") -> bytes:
 
 
 async def ask(desk: Desk, sent: bytes) -> Any:
-    """What a request is answered, which has to be accepted."""
-    reader, writer = await asyncio.open_connection("127.0.0.1", desk.port)
-    writer.write(sent)
-    head, _, body = (await reader.read()).partition(b"\r\n\r\n")
-    writer.close()
-    assert head.startswith(b"HTTP/1.1 200 "), head
-    return json.loads(body)
+    """What a request is answered, which has to be accepted. Where this busy process was late with it, so that the desk may
+    have let it go, it is sent once more: a look, or what has a key."""
+    while True:
+        said, began, late = b"", time.monotonic(), 0.0
+        reader, writer = await asyncio.open_connection("127.0.0.1", desk.port)
+        with contextlib.suppress(ConnectionError):
+            writer.write(sent)
+            late = time.monotonic() - began
+            said = await reader.read()
+        writer.close()
+        head, _, body = said.partition(b"\r\n\r\n")
+        if head.startswith(b"HTTP/1.1 200 ") or late < LIMIT / 2:
+            assert head.startswith(b"HTTP/1.1 200 "), (late, head)
+            return json.loads(body)
