@@ -10,7 +10,7 @@ use Rattle.farm_types.specs.Table.{put}
 use Rattle.farm_types.specs.declared.claims.Claim.{Claim}
 use Rattle.farm_types.specs.declared.claims.ClaimKind.{ClaimKind}
 use Rattle.farm_types.specs.declared.rows.JobRow.{JobRow}
-use Rattle.farm_pick.specs.Kept.{queued_cmp}
+use Rattle.farm_pick.specs.Index.{queued_cmp}
 use Rattle.farm_pick.specs.Queued.{QueueLists, idle_boards, queue_lists, queue_kind, queued_of}
 use Rattle.farm_pick.proofs.Filling.{fresh_before, last_put}
 use Rattle.farm_pick.proofs.Leading.{lead_of, of_reservation}

@@ -39,7 +39,7 @@ use Rattle.farm_sound.proofs.Lists.{filter_all}
 use Rattle.farm_sound.proofs.Own.{text_itself}
 use Rattle.farm_sound.proofs.Puts.{names_apart}
 use Rattle.farm_sound.proofs.Where.{AllByRecursion-map}
-use Rattle.farm_pick.specs.Kept.{named_cmp}
+use Rattle.farm_pick.specs.Index.{named_cmp}
 use Rattle.farm_pick.specs.Queued.{IdleBoard, idle_board, idle_boards}
 use Rattle.farm_core.specs.Following.{free_of, free_boards_with, without_board}
 

@@ -20,7 +20,7 @@ use Rattle.farm_types.specs.declared.claims.ClaimKind.{ClaimKind}
 use Rattle.farm_sound.specs.Keys.{job_in}
 use Rattle.farm_pick.specs.Queued.{IdleBoard, QueueLists, Queued, idle_board, idle_boards}
 use Rattle.farm_pick.specs.Queued.{queue_lists, queued_of}
-use Rattle.farm_pick.specs.Kept.{named_cmp, queued_cmp}
+use Rattle.farm_pick.specs.Index.{named_cmp, queued_cmp}
 use Rattle.farm_core.specs.declared.tables.Tables.{Tables}
 
 -- the queues with a claim more, and without the claim of a number

@@ -5,7 +5,7 @@ ghost use Rattle.std.specs.List.{All, filter, fold};
 ghost use Rattle.farm_types.specs.Table.{put};
 ghost use Rattle.farm_types.specs.Sound.{IsSound};
 ghost use Rattle.farm_pick.specs.Queued.{idle_boards, queue_lists};
-ghost use Rattle.farm_pick.specs.Kept.{queued_cmp};
+ghost use Rattle.farm_pick.specs.Index.{queued_cmp};
 ghost use Rattle.farm_core.specs.Came.{CameTo, seen};
 ghost use Rattle.farm_core.specs.Following.{FollowsLog, free_boards_with, without_boards, IsFresh};
 ghost use Rattle.farm_core.specs.Following.{kind_in};

@@ -13,7 +13,7 @@ use Rattle.std.proofs.lemmas.Option.{same_Some, slice_get-get_or}
 use Rattle.std.proofs.lemmas.Slice.Eq.{bytes_eq-Decides}
 use Rattle.farm_sound.proofs.Own.{differs, differs_more}
 use Rattle.farm_pick.specs.Queued.{is_open, same_kind}
-use Rattle.farm_pick.specs.Kept.{kind_at, AreKinds, IsIdle, shown_idle}
+use Rattle.farm_pick.specs.Index.{kind_at, AreKinds, IsIdle, shown_idle}
 use Rattle.farm_pick.specs.Heads.{queue_open}
 use Rattle.farm_pick.specs.declared.idle.IdleRow.{IdleRow}
 

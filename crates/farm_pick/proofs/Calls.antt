@@ -7,7 +7,7 @@ use Rattle.std.specs.Ordering.{is_eq, nat_cmp}
 use Rattle.farm_types.specs.Table.{put}
 use Rattle.farm_types.specs.declared.claims.Claim.{Claim}
 use Rattle.farm_pick.specs.Queued.{Queued, QueueLists}
-use Rattle.farm_pick.specs.Kept.{spot_cmp, queued_cmp, kind_at, shown_claims, claim_at, place_at, AreQueues, AreKinds, AreIdle, IsIdle, IsWell, shown_idle, TakesOrStays, idle_cmp, named_cmp}
+use Rattle.farm_pick.specs.Index.{spot_cmp, queued_cmp, kind_at, shown_claims, claim_at, place_at, AreQueues, AreKinds, AreIdle, IsIdle, IsWell, shown_idle, TakesOrStays, idle_cmp, named_cmp}
 use Rattle.farm_pick.specs.declared.spot.Spot.{Spot}
 use Rattle.farm_pick.specs.declared.spot.Place.{Place}
 use Rattle.farm_pick.specs.declared.idle.IdleRow.{IdleRow}

@@ -20,7 +20,7 @@ use Rattle.farm_types.proofs.Put.{AllByRecursion-weaker, found_has}
 use Rattle.farm_sound.proofs.Claims.{IsClaim, IsGroupClaim, IsResClaim, claim_total, leads, queue_claims, queue_sorted}
 use Rattle.farm_sound.proofs.Lists.{each_weaker, each_with}
 use Rattle.farm_sound.proofs.Where.{AllByRecursion-map}
-use Rattle.farm_pick.specs.Kept.{queued_cmp}
+use Rattle.farm_pick.specs.Index.{queued_cmp}
 use Rattle.farm_pick.specs.Queued.{Queued, queued_of}
 use Rattle.farm_pick.proofs.Entries.{filter_seen, put_seen}
 use Rattle.farm_pick.proofs.Ordered.{not_below_itself}

@@ -11,7 +11,7 @@ use Rattle.farm_types.specs.Pick.{IsAmong, shown_cmp}
 use Rattle.farm_types.specs.Sound.{EachTwo}
 use Rattle.farm_types.specs.declared.claims.Claim.{Claim}
 use Rattle.farm_sound.proofs.Lists.{among_has}
-use Rattle.farm_pick.specs.Kept.{spot_cmp, claim_at, IsKeyed}
+use Rattle.farm_pick.specs.Index.{spot_cmp, claim_at, IsKeyed}
 use Rattle.farm_pick.specs.Heads.{IsFirstBehind, IsFirst, rank_cmp}
 use Rattle.farm_pick.specs.declared.spot.Spot.{Spot}
 use Rattle.farm_pick.proofs.Entries.{found_entry}

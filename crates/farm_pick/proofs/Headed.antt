@@ -8,7 +8,7 @@ use Rattle.farm_sound.proofs.Own.{differs_more, itself}
 use Rattle.farm_sound.proofs.Tests.{both, same_number}
 use Rattle.farm_sound.proofs.Where.{AllByRecursion-map}
 use Rattle.farm_pick.specs.Queued.{AreKindsOf, QueueLists, Queued, head_of, is_open, same_kind}
-use Rattle.farm_pick.specs.Kept.{IsKeyed, IsWell, kind_at, queued_cmp, shown_claims, shown_entry, shown_idle}
+use Rattle.farm_pick.specs.Index.{IsKeyed, IsWell, kind_at, queued_cmp, shown_claims, shown_entry, shown_idle}
 use Rattle.farm_pick.specs.Heads.{AreHeads, IsFirstBehind, head_in, heads_from, is_later, queue_open}
 use Rattle.std.specs.Option.{option_map}
 use Rattle.farm_pick.specs.Walked.{IsCursor}

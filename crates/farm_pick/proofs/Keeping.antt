@@ -22,7 +22,7 @@ use Rattle.farm_sound.proofs.Own.{itself}
 use Rattle.farm_sound.proofs.Where.{AllByRecursion-both, AllByRecursion-map}
 use Rattle.farm_pick.proofs.Queued.{shown_total}
 use Rattle.farm_pick.specs.Queued.{Queued}
-use Rattle.farm_pick.specs.Kept.{spot_cmp, queued_cmp, kind_at, shown_entry, shown_claims, IsKeyed, claim_at, place_at, is_placed, AreQueues}
+use Rattle.farm_pick.specs.Index.{spot_cmp, queued_cmp, kind_at, shown_entry, shown_claims, IsKeyed, claim_at, place_at, is_placed, AreQueues}
 use Rattle.farm_pick.specs.declared.spot.Spot.{Spot}
 use Rattle.farm_pick.specs.declared.spot.Place.{Place}
 use Rattle.farm_pick.proofs.Entries.{IsApart, all_pass, all_unmap, among_itself, entry_found, found_entry, all_insert, each_insert, all_remove, each_remove, all_put, all_unput, shown_insert, shown_remove, filter_put}

@@ -22,7 +22,7 @@ use Rattle.farm_sound.proofs.Tests.{both}
 use Rattle.farm_pick.specs.Choice.{IsShortlist, candidate_at}
 use Rattle.farm_sound.specs.Keys.{board_in}
 use Rattle.farm_pick.specs.Fitting.{is_named, named_at}
-use Rattle.farm_pick.specs.Kept.{IsIdle, kind_at, shown_idle}
+use Rattle.farm_pick.specs.Index.{IsIdle, kind_at, shown_idle}
 use Rattle.farm_pick.specs.Queued.{IdleBoard, idle_board}
 use Rattle.farm_pick.specs.declared.idle.IdleRow.{IdleRow}
 use Rattle.farm_pick.proofs.Choices.{IsShortlistBelow, shortlist_full, shortlist_past, shortlist_whole, shortlist_with}

@@ -18,7 +18,7 @@ use Rattle.farm_sound.proofs.Lists.{among_has}
 use Rattle.farm_sound.proofs.Tests.{both}
 use Rattle.farm_pick.specs.Queued.{Queued}
 use Rattle.farm_pick.specs.declared.idle.IdleRow.{IdleRow}
-use Rattle.farm_pick.specs.Kept.{spot_cmp, queued_cmp, kind_at, shown_entry, shown_claims, claim_at, IsKeyed, IsWell}
+use Rattle.farm_pick.specs.Index.{spot_cmp, queued_cmp, kind_at, shown_entry, shown_claims, claim_at, IsKeyed, IsWell}
 use Rattle.farm_pick.specs.Heads.{IsFirst, is_later, rank_cmp, rank_of_claim}
 use Rattle.farm_pick.specs.declared.spot.Spot.{Spot}
 use Rattle.farm_pick.specs.declared.spot.Place.{Place}

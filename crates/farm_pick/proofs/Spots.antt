@@ -15,11 +15,11 @@ use Rattle.farm_types.proofs.Searched.{is_lt-Less}
 use Rattle.farm_sound.proofs.Lists.{among_has}
 use Rattle.farm_sound.proofs.Tests.{both}
 use Rattle.farm_pick.specs.Heads.{is_later, rank_cmp, rank_of_claim}
-use Rattle.farm_pick.specs.Kept.{IsKeyed, IsWell, claim_at, queued_cmp, shown_claims, shown_entry, shown_idle, spot_cmp}
+use Rattle.farm_pick.specs.Index.{IsKeyed, IsWell, claim_at, queued_cmp, shown_claims, shown_entry, shown_idle, spot_cmp}
 use Rattle.farm_pick.specs.Queued.{QueueLists, Queued}
 use Rattle.farm_pick.specs.Several.{IsFirstSeveral, IsNextSpot, is_several, ranked_cmp}
 use Rattle.farm_pick.specs.declared.idle.IdleRow.{IdleRow}
-use Rattle.farm_pick.specs.declared.kept.Rank.{Rank}
+use Rattle.farm_pick.specs.declared.index.Rank.{Rank}
 use Rattle.farm_pick.specs.declared.spot.Place.{Place}
 use Rattle.farm_pick.specs.declared.spot.Spot.{Spot}
 use Rattle.farm_pick.proofs.Entries.{found_entry}

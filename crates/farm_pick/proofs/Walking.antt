@@ -25,7 +25,7 @@ use Rattle.farm_sound.proofs.Own.{itself}
 use Rattle.farm_sound.proofs.Tests.{both, same_number}
 use Rattle.farm_pick.proofs.Apart.{same_open}
 use Rattle.farm_pick.specs.Heads.{AreHeads, IsFirst, is_later, queue_open, rank_cmp, rank_of_claim}
-use Rattle.farm_pick.specs.Kept.{IsKeyed, claim_at, queued_cmp, shown_claims, shown_entry, shown_idle, spot_cmp}
+use Rattle.farm_pick.specs.Index.{IsKeyed, claim_at, queued_cmp, shown_claims, shown_entry, shown_idle, spot_cmp}
 use Rattle.farm_pick.specs.Queued.{Queued, is_open}
 use Rattle.farm_pick.specs.declared.idle.IdleRow.{IdleRow}
 use Rattle.farm_pick.specs.Walked.{AreCursors, IsCursorAt, IsCursor, IsLeastOf, IsWalk, StandsIn, StepsTo, entries_behind, earlier_place, walk_from}

@@ -9,8 +9,8 @@ use Rattle.farm_types.specs.Limits.{highest_priority}
 use Rattle.farm_types.specs.Pick.{shown_cmp}
 use Rattle.farm_types.specs.Sound.{EachTwo}
 use Rattle.farm_types.specs.declared.claims.Claim.{Claim}
-use Rattle.farm_pick.specs.Kept.{spot_cmp, claim_at, kind_at, shown_claims, shown_idle, AreIdle}
-use Rattle.farm_pick.specs.Kept.{IsKeyed}
+use Rattle.farm_pick.specs.Index.{spot_cmp, claim_at, kind_at, shown_claims, shown_idle, AreIdle}
+use Rattle.farm_pick.specs.Index.{IsKeyed}
 use Rattle.farm_pick.specs.Queued.{head_of, is_open}
 use Rattle.farm_pick.specs.declared.spot.Spot.{Spot}
 use Rattle.farm_pick.specs.declared.idle.IdleRow.{IdleRow}
@@ -62,7 +62,7 @@ last_spot (Some after) = record { queue = 0; priority = after.0; number = after.
 
 -- ---- the heads of the queues, one after the other
 
--- how claims and boards are kept, without the places
+-- the claims and the free boards of an index, without its places
 pub record AreHeads (kinds : List (List ℕ)) (es : List (Spot × Claim)) (rows : List IdleRow)
     : Type 0 where
   pub keyed : AllByRecursion (IsKeyed kinds) es

@@ -7,7 +7,7 @@ pub mod Merged
 pub mod Heads
 pub mod Walked
 pub mod Place
-pub mod Kept
+pub mod Index
 pub mod Several
 pub mod Fitting
 pub mod Follow

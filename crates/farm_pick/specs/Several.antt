@@ -7,9 +7,9 @@ use Rattle.std.specs.declared.cmp.Ordering.{Ordering}
 use Rattle.std.specs.declared.cmp.Ordering.TheVariants.{Less}
 use Rattle.farm_types.specs.declared.claims.Claim.{Claim}
 use Rattle.farm_pick.specs.Heads.{rank_cmp}
-use Rattle.farm_pick.specs.Kept.{IsWell, claim_at}
+use Rattle.farm_pick.specs.Index.{IsWell, claim_at}
 use Rattle.farm_pick.specs.declared.idle.IdleRow.{IdleRow}
-use Rattle.farm_pick.specs.declared.kept.Rank.{Rank}
+use Rattle.farm_pick.specs.declared.index.Rank.{Rank}
 use Rattle.farm_pick.specs.declared.spot.Place.{Place}
 use Rattle.farm_pick.specs.declared.spot.Spot.{Spot}
 
@@ -47,7 +47,7 @@ IsFirstSeveral es last (Some c) =
     (s : Spot) × (rank_cmp last s ≡ Less) × (claim_at es s ≡ Some c) × (nat_le 2 c.boards ≡ true)
     × ((t : Spot) → rank_cmp last t ≡ Less → is_several es t ≡ true → rank_cmp t s ≡ Less → ⊥)
 
--- how all is kept
+-- a whole index
 pub record QueuesInvariant (kinds : List (List ℕ)) (claims : List (Spot × Claim)) (places : List (ℕ × Place))
     (ranks : List Rank) (idle : List IdleRow) : Type 0 where
   pub well : IsWell kinds claims places idle

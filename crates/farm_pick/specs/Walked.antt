@@ -10,7 +10,7 @@ use Rattle.std.specs.declared.cmp.Ordering.TheVariants.{Less}
 use Rattle.farm_types.specs.Pick.{shown_cmp}
 use Rattle.farm_types.specs.declared.claims.Claim.{Claim}
 use Rattle.farm_pick.specs.Heads.{AreHeads, IsFirstBehind, is_later, queue_open}
-use Rattle.farm_pick.specs.Kept.{claim_at, shown_claims, shown_idle, spot_cmp}
+use Rattle.farm_pick.specs.Index.{claim_at, shown_claims, shown_idle, spot_cmp}
 use Rattle.farm_pick.specs.Queued.{Queued, is_open}
 use Rattle.farm_pick.specs.declared.idle.IdleRow.{IdleRow}
 use Rattle.farm_pick.specs.declared.spot.Spot.{Spot}

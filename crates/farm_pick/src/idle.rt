@@ -11,7 +11,7 @@ ghost use Rattle.farm_sound.specs.Keys.{board_in};
 ghost use Rattle.farm_pick.specs.Choice.{IsShortlist, candidate_at};
 ghost use Rattle.farm_pick.specs.Fitting.{is_named, named_at};
 ghost use Rattle.farm_pick.specs.Heads.{queue_open};
-ghost use Rattle.farm_pick.specs.Kept.{AreIdle, idle_cmp, shown_idle};
+ghost use Rattle.farm_pick.specs.Index.{AreIdle, idle_cmp, shown_idle};
 ghost use Rattle.farm_pick.specs.Least.{boards_at};
 ghost use Rattle.farm_pick.specs.Place.{IsPlace};
 ghost use Rattle.farm_pick.specs.Queued.{idle_board};

@@ -4,7 +4,7 @@ ghost use Rattle.std.specs.Prelude.{slice_get, unwrap_or, Some, false, true, IfN
 ghost use Rattle.std.specs.List.{position};
 ghost use Rattle.std.specs.Option.{option_map_or};
 ghost use Rattle.std.specs.Str.{bytes_eq};
-ghost use Rattle.farm_pick.specs.Kept.{kind_at, AreKinds};
+ghost use Rattle.farm_pick.specs.Index.{kind_at, AreKinds};
 
 use farm_types::Name;
 use std::alloc::AllocError;

@@ -2,14 +2,14 @@
 //! queues take memory.
 //!
 //! Read `specs/` in the order Test, Choice, Least, Queue for the least list and the queue of a
-//! farm's rows; then Queued, what stands in the queues that are kept, and Merged, the pass over
-//! them, and Follow, what commands and a pass leave of them; then Kept and Several, how they are
-//! kept, Heads, how their first claims are found, Walked, how all are lent in order, and Fitting.
+//! farm's rows; then Queued, what stands in the queues, and Merged, the pass over them, and Follow,
+//! what commands and a pass leave of them; then Index and Several, in what they are looked up,
+//! Heads, how their first claims are found, Walked, how all are lent in order, and Fitting.
 #![tactic(auto)]
 
 mod fit;
 mod idle;
-mod kept;
+mod index;
 mod kind;
 mod laws;
 mod picked;

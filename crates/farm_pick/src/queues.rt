@@ -13,10 +13,10 @@ ghost use Rattle.farm_pick.specs.Least.{boards_at};
 ghost use Rattle.farm_pick.specs.Heads.{is_later, last_spot};
 ghost use Rattle.farm_pick.specs.Queued.{AreKindsOf, head_of, idle_board, is_open};
 ghost use Rattle.farm_pick.specs.Walked.{claims_after};
-ghost use Rattle.farm_pick.specs.Kept.{queued_cmp, named_cmp};
+ghost use Rattle.farm_pick.specs.Index.{queued_cmp, named_cmp};
 
 use crate::idle::{self, IdleRow};
-use crate::kept::{self, Kept};
+use crate::index::{self, Index};
 use crate::kind;
 use crate::picked::Picked;
 use crate::spot::{self, Spot};
@@ -26,7 +26,7 @@ use std::alloc::{AllocError, Global};
 use std::collections::{BTreeMap, BTreeSet, VecDeque};
 use std::marker::Model;
 
-/// The claims that wait and the free boards, so kept that a pass finds the next claim that may be
+/// The claims that wait and the free boards, indexed so that a pass finds the next claim that may be
 /// met without a look at the others. Contracts see two plain lists: the claims in the order
 /// `before`, each with the type in whose queue it stands, and the free boards in name order, each
 /// with its type.
@@ -39,24 +39,24 @@ use std::marker::Model;
 /// With C claims a put or a take of one costs O(log C). A claim takes about 130 bytes.
 #[derive(Debug, Drop)]
 pub struct Queues {
-    kept: Kept,
+    index: Index,
 }
 
 impl Model for Queues {
     ghost use Rattle.std.specs.Prelude.{map};
     ghost use Rattle.farm_pick.specs.Queued.{QueueLists};
-    ghost use Rattle.farm_pick.specs.Kept.{shown_claims, shown_idle};
+    ghost use Rattle.farm_pick.specs.Index.{shown_claims, shown_idle};
     ghost use Rattle.farm_pick.specs.Several.{QueuesInvariant};
 
     ghost Value = { QueueLists };
 
     ghost view = { λ q. record {
-      claims = shown_claims q.kept.kinds.items q.kept.claims.entries;
-      boards = map (shown_idle q.kept.kinds.items) q.kept.idle.items;
+      claims = shown_claims q.index.kinds.items q.index.claims.entries;
+      boards = map (shown_idle q.index.kinds.items) q.index.idle.items;
     } };
 
-    ghost invariant = { λ q. QueuesInvariant q.kept.kinds.items q.kept.claims.entries q.kept.places.entries
-        q.kept.several.keys q.kept.idle.items };
+    ghost invariant = { λ q. QueuesInvariant q.index.kinds.items q.index.claims.entries q.index.places.entries
+        q.index.several.keys q.index.idle.items };
 }
 
 impl Queues {
@@ -65,14 +65,14 @@ impl Queues {
         ensures claims { result.claims ≡ [] }
         ensures boards { result.boards ≡ [] }
     {
-        let kept = Kept {
+        let index = Index {
             kinds: Vec::new(alloc),
             claims: BTreeMap::new(alloc),
             places: BTreeMap::new(alloc),
             several: BTreeSet::new(alloc),
             idle: VecDeque::new(alloc),
         };
-        Queues { kept }
+        Queues { index }
     }
 
     /// Puts a claim into the queue of a type, or into that of the reservations, where no type is
@@ -86,13 +86,13 @@ impl Queues {
         }) }
         ensures err { OnErr result (self.new ≡ self.old) }
     {
-        let queue = kind::made_queue(&mut self.kept.kinds, kind)?;
+        let queue = kind::made_queue(&mut self.index.kinds, kind)?;
         let spot = Spot {
             queue,
             priority: claim.priority.get(),
             number: claim.number,
         };
-        self.kept.put(spot, claim)
+        self.index.put(spot, claim)
     }
 
     /// Takes the claim of a number; of a number that isn't there it changes nothing.
@@ -105,7 +105,7 @@ impl Queues {
                   self.old.claims;
             } }
     {
-        self.kept.take(number);
+        self.index.take(number);
     }
 
     /// Puts a free board of a type, in the place of one of its name if there is one. A refused
@@ -119,8 +119,8 @@ impl Queues {
         }) }
         ensures err { OnErr result (self.new ≡ self.old) }
     {
-        let queue = kind::made_type(&mut self.kept.kinds, kind)?;
-        idle::put_row(&mut self.kept.idle, IdleRow { name, queue })
+        let queue = kind::made_type(&mut self.index.kinds, kind)?;
+        idle::put_row(&mut self.index.idle, IdleRow { name, queue })
     }
 
     /// Takes a free board; of a name that isn't there it changes nothing.
@@ -135,14 +135,14 @@ impl Queues {
                   self.old.boards;
             } }
     {
-        idle::take_row(&mut self.kept.idle, name);
+        idle::take_row(&mut self.index.idle, name);
     }
 
     /// How many boards are free.
     pub fn free_count(&self) -> usize
         ensures { result ≡ length self.now.boards }
     {
-        self.kept.idle.len()
+        self.index.idle.len()
     }
 
     /// All claims in the order `before`, each with a copy of its owner's name. With C claims and K
@@ -150,7 +150,7 @@ impl Queues {
     pub fn claims(&self) -> Result<Vec<Claim>, AllocError>
         ensures { IfOk result (λ claims. claims.items ≡ map (λ x. x.claim) self.now.claims) }
     {
-        let claims = kept::in_order(*self.kept.kinds.allocator(), &self.kept.claims)?;
+        let claims = index::in_order(*self.index.kinds.allocator(), &self.index.claims)?;
         Ok(claims)
     }
 
@@ -163,7 +163,7 @@ impl Queues {
             (λ k. all || is_open self.now.boards k) self.now.claims) kinds) }
     {
         Heads {
-            kept: &self.kept,
+            index: &self.index,
             queue: 0,
             last: spot::last_spot(after),
             all,
@@ -181,9 +181,9 @@ impl Queues {
     {
         let last = spot::last_spot(after);
         Ok(Walk {
-            kept: &self.kept,
+            index: &self.index,
             last,
-            cursors: walk::cursors_after(&self.kept, last)?,
+            cursors: walk::cursors_after(&self.index, last)?,
         })
     }
 
@@ -197,7 +197,7 @@ impl Queues {
             (find (λ x. is_later (last_spot after) x.claim && nat_le 2 x.claim.boards)
             self.now.claims) }
     {
-        self.kept.first_several(spot::last_spot(after))
+        self.index.first_several(spot::last_spot(after))
     }
 
     /// The places of the least list of boards that meets the wants, out of the free boards that are
@@ -224,7 +224,7 @@ impl Queues {
         ensures within { IfSome result (λ places. All (λ i. i < length boards.now) places) }
         ensures different { IfSome result (λ places. AllPairs (λ i j. i ≢ j) places) }
     {
-        idle::least_of(&self.kept.kinds, &self.kept.idle, boards, types, wants)
+        idle::least_of(&self.index.kinds, &self.index.idle, boards, types, wants)
     }
 
     /// The places of the least list of free boards that meets the wants, at the cost of `least_of`.

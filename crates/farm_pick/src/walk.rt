@@ -8,7 +8,7 @@ ghost use Rattle.farm_pick.specs.Walked.{AreCursors, IsCursor, IsLeastOf, Stands
 ghost use Rattle.farm_pick.specs.Walked.{earlier_place};
 
 use crate::idle;
-use crate::kept::Kept;
+use crate::index::Index;
 use crate::queue::before;
 use crate::spot::Spot;
 use farm_types::Claim;
@@ -48,24 +48,24 @@ fn cursor_after<'a>(claims: &'a BTreeMap<Spot, Claim>, last: Spot) -> Option<Cur
 
 /// Where a walk begins in the queue of a spot: in a closed one at no claim, unless all are asked
 /// for.
-fn open_cursor(kept: &Kept, last: Spot, all: bool) -> Option<Cursor<'_>>
-    ensures { IsCursor kept.now.claims.entries
-        (λ q. all || queue_open kept.now.idle.items q) last result }
+fn open_cursor(index: &Index, last: Spot, all: bool) -> Option<Cursor<'_>>
+    ensures { IsCursor index.now.claims.entries
+        (λ q. all || queue_open index.now.idle.items q) last result }
 {
-    if !all && !idle::is_open(&kept.idle, last.queue) {
+    if !all && !idle::is_open(&index.idle, last.queue) {
         return None;
     }
-    cursor_after(&kept.claims, last)
+    cursor_after(&index.claims, last)
 }
 
 /// Where a walk begins in each queue.
-pub fn cursors_after(kept: &Kept, last: Spot) -> Result<Vec<Option<Cursor<'_>>>, AllocError>
-    ensures { IfOk result (λ cursors. AreCursors kept.now.claims.entries
-        (queue_open kept.now.idle.items) last (length kept.now.kinds.items + 1) cursors.items) }
+pub fn cursors_after(index: &Index, last: Spot) -> Result<Vec<Option<Cursor<'_>>>, AllocError>
+    ensures { IfOk result (λ cursors. AreCursors index.now.claims.entries
+        (queue_open index.now.idle.items) last (length index.now.kinds.items + 1) cursors.items) }
 {
-    let mut cursors = Vec::with_capacity(*kept.kinds.allocator(), kept.kinds.len() + 1)?;
-    for queue in 0..kept.kinds.len() + 1 {
-        cursors.push(open_cursor(kept, Spot { queue, ..last }, false))?;
+    let mut cursors = Vec::with_capacity(*index.kinds.allocator(), index.kinds.len() + 1)?;
+    for queue in 0..index.kinds.len() + 1 {
+        cursors.push(open_cursor(index, Spot { queue, ..last }, false))?;
     }
     Ok(cursors)
 }
@@ -103,7 +103,7 @@ fn first_of(cursors: &[Option<Cursor<'_>>]) -> Option<usize>
 /// With K types each turn costs a comparison a queue, and no search.
 #[derive(Drop)]
 pub struct Walk<'a> {
-    pub(crate) kept: &'a Kept,
+    pub(crate) index: &'a Index,
     /// The spot after which claims are lent, whatever its queue.
     pub(crate) last: Spot,
     /// Where the walk stands in each queue.
@@ -117,11 +117,11 @@ impl<'a> Model for Walk<'a> {
 
     ghost Value = { List Claim };
 
-    ghost view = { λ w. walk_from w.kept.now.kinds.items w.kept.now.claims.entries
-        w.kept.now.idle.items w.last };
+    ghost view = { λ w. walk_from w.index.now.kinds.items w.index.now.claims.entries
+        w.index.now.idle.items w.last };
 
-    ghost invariant = { λ w. IsWalk w.kept.now.kinds.items w.kept.now.claims.entries
-        w.kept.now.idle.items w.last w.cursors.items };
+    ghost invariant = { λ w. IsWalk w.index.now.kinds.items w.index.now.claims.entries
+        w.index.now.idle.items w.last w.cursors.items };
 }
 
 impl<'a> Iterator for Walk<'a> {
@@ -146,13 +146,13 @@ impl<'a> Iterator for Walk<'a> {
 
 /// The first claim that comes after a spot in the spot's queue, if the queue is open or all are
 /// asked for.
-fn seen_head(kept: &Kept, last: Spot, all: bool) -> Option<&Claim>
-    requires well { AreHeads kept.now.kinds.items kept.now.claims.entries kept.now.idle.items }
-    requires queue { last.queue ≤ length kept.now.kinds.items }
-    ensures { option_copied result ≡ head_in kept.now.kinds.items kept.now.claims.entries
-        kept.now.idle.items all last }
+fn seen_head(index: &Index, last: Spot, all: bool) -> Option<&Claim>
+    requires well { AreHeads index.now.kinds.items index.now.claims.entries index.now.idle.items }
+    requires queue { last.queue ≤ length index.now.kinds.items }
+    ensures { option_copied result ≡ head_in index.now.kinds.items index.now.claims.entries
+        index.now.idle.items all last }
 {
-    let cursor = open_cursor(kept, last, all)?;
+    let cursor = open_cursor(index, last, all)?;
     Some(cursor.claim)
 }
 
@@ -161,7 +161,7 @@ fn seen_head(kept: &Kept, last: Spot, all: bool) -> Option<&Claim>
 /// left. It takes no memory. With C claims each turn costs O(log C).
 #[derive(Drop)]
 pub struct Heads<'a> {
-    pub(crate) kept: &'a Kept,
+    pub(crate) index: &'a Index,
     /// The queue that is looked at next.
     pub(crate) queue: usize,
     /// The spot after which claims are lent, whatever its queue.
@@ -176,11 +176,11 @@ impl<'a> Model for Heads<'a> {
 
     ghost Value = { List Claim };
 
-    ghost view = { λ h. heads_from h.kept.now.kinds.items h.kept.now.claims.entries
-        h.kept.now.idle.items h.all h.last h.queue };
+    ghost view = { λ h. heads_from h.index.now.kinds.items h.index.now.claims.entries
+        h.index.now.idle.items h.all h.last h.queue };
 
-    ghost invariant = { λ h. AreHeads h.kept.now.kinds.items h.kept.now.claims.entries
-        h.kept.now.idle.items };
+    ghost invariant = { λ h. AreHeads h.index.now.kinds.items h.index.now.claims.entries
+        h.index.now.idle.items };
 }
 
 impl<'a> Iterator for Heads<'a> {
@@ -191,10 +191,10 @@ impl<'a> Iterator for Heads<'a> {
     ghost remaining = { item_count (λ s. s) };
 
     fn next(&mut self) -> Option<&'a Claim> {
-        while self.queue <= self.kept.kinds.len() {
+        while self.queue <= self.index.kinds.len() {
             let queue = self.queue;
             self.queue += 1;
-            if let Some(claim) = seen_head(self.kept, Spot { queue, ..self.last }, self.all) {
+            if let Some(claim) = seen_head(self.index, Spot { queue, ..self.last }, self.all) {
                 return Some(claim);
             }
         }

@@ -24,13 +24,23 @@ impl Edition {
         }
     }
 
-    /// The version of the other edition's tables, and how they are refused where its own are wanted.
-    pub(crate) fn other(self) -> (u64, StoreFault)
-        ensures { result ≡ (schema_of (other_edition self), version_fault (other_edition self)) }
+    /// The other edition.
+    pub(crate) fn other(self) -> Edition
+        ensures { result ≡ other_edition self }
     {
         match self {
-            Edition::First => (SCHEMA, StoreFault::NewSchema),
-            Edition::Second => (FIRST_SCHEMA, StoreFault::OldSchema),
+            Edition::First => Edition::Second,
+            Edition::Second => Edition::First,
+        }
+    }
+
+    /// How its tables are refused where those of the other edition are wanted.
+    pub(crate) fn refusal(self) -> StoreFault
+        ensures { result ≡ version_fault self }
+    {
+        match self {
+            Edition::First => StoreFault::OldSchema,
+            Edition::Second => StoreFault::NewSchema,
         }
     }
 }

@@ -6,6 +6,6 @@ use Rattle.farm_pick.proofs.walk.cursors_after.Goals as goal
 
 pub loop-queue-preserved : goal.loop-queue-preserved
 loop-queue-preserved c =
-    subst (AreCursors c.args.kept.now.claims.entries (queue_open c.args.kept.now.idle.items) c.args.last (c.loop-queue.queue + 1)) (sym c.in_ok-push.ensures.items)
-    (cursor_more c.args.kept.now.claims.entries (queue_open c.args.kept.now.idle.items) c.args.last c.loop-queue.queue c.loop-queue.cursors.items c.open_cursor.result
+    subst (AreCursors c.args.index.now.claims.entries (queue_open c.args.index.now.idle.items) c.args.last (c.loop-queue.queue + 1)) (sym c.in_ok-push.ensures.items)
+    (cursor_more c.args.index.now.claims.entries (queue_open c.args.index.now.idle.items) c.args.last c.loop-queue.queue c.loop-queue.cursors.items c.open_cursor.result
     c.loop-queue.invariant c.open_cursor.ensures)

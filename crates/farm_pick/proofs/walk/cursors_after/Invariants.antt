@@ -3,4 +3,4 @@ use Rattle.farm_pick.specs.Walked.{AreCursors}
 use Rattle.farm_pick.proofs.walk.cursors_after.Given as goal
 
 abbrev pub invariant-loop-queue : goal.invariant-loop-queue
-invariant-loop-queue l = AreCursors l.kept.claims.entries (queue_open l.kept.idle.items) l.last l.queue l.cursors.items
+invariant-loop-queue l = AreCursors l.index.claims.entries (queue_open l.index.idle.items) l.last l.queue l.cursors.items

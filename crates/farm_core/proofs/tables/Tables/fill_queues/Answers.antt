@@ -1,7 +1,7 @@
 use Rattle.std.proofs.Common.{rules, ◌≡◌, ◌∙◌, [], length, refl, ap, sym}
 use Rattle.std.specs.List.{fold}
 use Rattle.farm_types.specs.Table.{put}
-use Rattle.farm_pick.specs.Kept.{queued_cmp}
+use Rattle.farm_pick.specs.Index.{queued_cmp}
 use Rattle.farm_core.specs.Following.{kind_in, free_boards_with}
 use Rattle.farm_core.proofs.Free.{noted_whole}
 use Rattle.farm_types.specs.Farm.{Farm}

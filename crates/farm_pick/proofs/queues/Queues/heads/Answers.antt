@@ -4,9 +4,9 @@ use Rattle.farm_pick.proofs.queues.Queues.heads.Goals as goal
 
 pub invariant_of-result : goal.invariant_of-result
 invariant_of-result c =
-    heads_of_well c.self.inside.kept.kinds.items c.self.inside.kept.claims.entries c.self.inside.kept.places.entries c.self.inside.kept.idle.items c.self.invariant.well
+    heads_of_well c.self.inside.index.kinds.items c.self.inside.index.claims.entries c.self.inside.index.places.entries c.self.inside.index.idle.items c.self.invariant.well
 
 pub returns : goal.returns
 returns c =
-    heads_seen c.self.inside.kept.kinds.items c.self.inside.kept.claims.entries c.self.inside.kept.places.entries c.self.inside.kept.idle.items c.self.invariant.well c.args.all c.args.self.now c.self.view_is
+    heads_seen c.self.inside.index.kinds.items c.self.inside.index.claims.entries c.self.inside.index.places.entries c.self.inside.index.idle.items c.self.invariant.well c.args.all c.args.self.now c.self.view_is
     c.last_spot.result (last_spot c.args.after) c.last_spot.ensures

@@ -5,5 +5,5 @@ use Rattle.farm_pick.proofs.queues.Queues.next_several.Goals as goal
 
 pub returns : goal.returns
 returns c =
-    several_seen c.self.inside.kept.kinds.items c.self.inside.kept.claims.entries c.self.inside.kept.places.entries c.self.inside.kept.idle.items c.self.invariant.well c.args.self.now c.self.view_is
+    several_seen c.self.inside.index.kinds.items c.self.inside.index.claims.entries c.self.inside.index.places.entries c.self.inside.index.idle.items c.self.invariant.well c.args.self.now c.self.view_is
     c.last_spot.result (last_spot c.args.after) c.last_spot.ensures (option_copied c.first_several.result) c.first_several.ensures

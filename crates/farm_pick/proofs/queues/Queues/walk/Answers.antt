@@ -7,11 +7,11 @@ use Rattle.farm_pick.proofs.queues.Queues.walk.Goals as goal
 
 pub invariant_of-result : goal.invariant_of-result
 invariant_of-result c = record {
-  heads = heads_of_well c.self.inside.kept.kinds.items c.self.inside.kept.claims.entries c.self.inside.kept.places.entries c.self.inside.kept.idle.items c.self.invariant.well;
+  heads = heads_of_well c.self.inside.index.kinds.items c.self.inside.index.claims.entries c.self.inside.index.places.entries c.self.inside.index.idle.items c.self.invariant.well;
   cursors_at = c.in_ok-cursors_after.ensures;
 }
 
 pub returns : goal.returns
 returns c =
-    (λ i. walk_from c.self.inside.kept.kinds.items c.self.inside.kept.claims.entries c.self.inside.kept.idle.items (c.last_spot-last.ensures i))
+    (λ i. walk_from c.self.inside.index.kinds.items c.self.inside.index.claims.entries c.self.inside.index.idle.items (c.last_spot-last.ensures i))
     ∙ ap (λ (l : QueueLists). claims_after (is_open l.boards) (last_spot c.args.after) l.claims) c.self.view_is

@@ -8,8 +8,8 @@ pub returns-in-Some-clause-steps : goal.returns-in-Some-clause-steps
 returns-in-Some-clause-steps c =
     let now = c.loop-self.self-inside in
     sym c.self.view_is ∙ sym c.loop-self.invariant.shows
-    ∙ heads_on now.kept.now.kinds.items now.kept.now.claims.entries now.kept.now.idle.items now.all now.last now.queue (omega arith)
-    ∙ ap (λ o. cons_option o (heads_from now.kept.now.kinds.items now.kept.now.claims.entries now.kept.now.idle.items now.all now.last (now.queue + 1))) (sym c.in-Some.ensures)
+    ∙ heads_on now.index.now.kinds.items now.index.now.claims.entries now.index.now.idle.items now.all now.last now.queue (omega arith)
+    ∙ ap (λ o. cons_option o (heads_from now.index.now.kinds.items now.index.now.claims.entries now.index.now.idle.items now.all now.last (now.queue + 1))) (sym c.in-Some.ensures)
 
 pub returns-in-Some-clause-goes : goal.returns-in-Some-clause-goes
 returns-in-Some-clause-goes c = record {

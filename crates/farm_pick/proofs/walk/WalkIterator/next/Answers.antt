@@ -6,13 +6,13 @@ pub returns-in_err-queue-clause-steps : goal.returns-in_err-queue-clause-steps
 returns-in_err-queue-clause-steps c =
     let now = c.self.inside in
     let none = sym c.self.view_is
-    ∙ walk_none now.kept.now.kinds.items now.kept.now.claims.entries now.kept.now.idle.items now.last now.cursors.items c.deref.result.now c.deref.ensures.value c.self.invariant c.in_err-queue.ensures in
+    ∙ walk_none now.index.now.kinds.items now.index.now.claims.entries now.index.now.idle.items now.last now.cursors.items c.deref.result.now c.deref.ensures.value c.self.invariant c.in_err-queue.ensures in
     rw c.from_residual.ensures (none, none)
 
 pub invariant_of-self-2 : goal.invariant_of-self-2
 invariant_of-self-2 c =
     let now = c.self.inside in
-    walks_on now.kept.now.kinds.items now.kept.now.claims.entries now.kept.now.idle.items now.last now.cursors.items c.deref.result.now c.deref.ensures.value c.self.invariant c.in_ok-queue.queue c.in_ok-queue.ensures
+    walks_on now.index.now.kinds.items now.index.now.claims.entries now.index.now.idle.items now.last now.cursors.items c.deref.result.now c.deref.ensures.value c.self.invariant c.in_ok-queue.queue c.in_ok-queue.ensures
     c.in_ok-cursor.cursor
     (taken_there now.cursors.items c.deref.result.now c.in_ok-queue.queue c.deref.ensures.value c.in_ok-queue.ensures (Some c.in_ok-cursor.cursor)
     (subst (λ o. o ≡ get_or now.cursors.items c.in_ok-queue.queue o) (sym c.in_ok-cursor.ensures.value) c.index_mut.ensures.value))
@@ -22,7 +22,7 @@ pub returns-clause-steps : goal.returns-clause-steps
 returns-clause-steps c =
     let now = c.self.inside in
     sym c.self.view_is
-    ∙ lends_on now.kept.now.kinds.items now.kept.now.claims.entries now.kept.now.idle.items now.last now.cursors.items c.deref.result.now c.deref.ensures.value c.self.invariant c.in_ok-queue.queue c.in_ok-queue.ensures
+    ∙ lends_on now.index.now.kinds.items now.index.now.claims.entries now.index.now.idle.items now.last now.cursors.items c.deref.result.now c.deref.ensures.value c.self.invariant c.in_ok-queue.queue c.in_ok-queue.ensures
     c.in_ok-cursor.cursor
     (taken_there now.cursors.items c.deref.result.now c.in_ok-queue.queue c.deref.ensures.value c.in_ok-queue.ensures (Some c.in_ok-cursor.cursor)
     (subst (λ o. o ≡ get_or now.cursors.items c.in_ok-queue.queue o) (sym c.in_ok-cursor.ensures.value) c.index_mut.ensures.value))

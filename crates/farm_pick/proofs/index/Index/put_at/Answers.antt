@@ -3,7 +3,7 @@ use Rattle.std.specs.Cmp.{nat_cmp_total}
 use Rattle.std.specs.Map.{remove_entry}
 use Rattle.std.specs.Ordering.{is_eq, nat_cmp}
 use Rattle.farm_pick.proofs.Entries.{remove_insert}
-use Rattle.farm_pick.proofs.kept.Kept.put_at.Goals as goal
+use Rattle.farm_pick.proofs.index.Index.put_at.Goals as goal
 
 pub returns-in-Err-clause-places_stay : goal.returns-in-Err-clause-places_stay
 returns-in-Err-clause-places_stay c =

@@ -1,4 +1,4 @@
--- How the queues are kept: the claims of all queues in one ordered map, one queue behind the other,
+-- The index of the queues: the claims of all queues in one ordered map, one queue behind the other,
 -- and where each number stands.
 use Rattle.std.specs.Prelude.{◌≡◌, ◌≤◌, ◌==◌, ◌&&◌, ℕ, zero, suc, Bool, true, false, cond, List, []}
 use Rattle.std.specs.Prelude.{map, length, Option, Some, None, is_some, slice_get, unwrap_or}

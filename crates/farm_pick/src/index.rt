@@ -1,4 +1,4 @@
-//! How the queues are kept: the claims of all of them in one ordered map, one queue behind the other,
+//! The index of the queues: the claims of all of them in one ordered map, one queue behind the other,
 //! and beside it the claims of two boards or more.
 ghost use Rattle.std.specs.Prelude.{◌≡◌, ◌&&◌, ◌||◌, ℕ, cond, nat_le, not, Some, None, IfOk};
 ghost use Rattle.std.specs.Prelude.{OnOk, OnErr};
@@ -10,7 +10,7 @@ ghost use Rattle.std.specs.Cmp.Rules.{comparing};
 ghost use Rattle.std.specs.Option.{option_copied};
 ghost use Rattle.std.specs.Ordering.{is_eq, is_lt, nat_cmp, on, flip_args, then_cmp, as_partial_cmp};
 ghost use Rattle.farm_types.specs.Pick.{shown_cmp};
-ghost use Rattle.farm_pick.specs.Kept.{spot_cmp, claim_at, place_at, TakesOrStays};
+ghost use Rattle.farm_pick.specs.Index.{spot_cmp, claim_at, place_at, TakesOrStays};
 ghost use Rattle.farm_pick.specs.Several.{AreSeveral, IsFirstSeveral, IsNextSpot, has_spot, spots_cmp};
 
 use crate::idle::IdleRow;
@@ -115,9 +115,9 @@ fn next_spot(several: &BTreeSet<Rank>, last: Spot) -> Option<Spot>
     Some(rank.spot)
 }
 
-/// The queues, their claims and the free boards.
+/// In what the queues are looked up: their types, their claims and the free boards.
 #[derive(Debug, Drop)]
-pub struct Kept {
+pub struct Index {
     /// The types that have a queue, each once, in the order in which they were first used.
     pub kinds: Vec<Name>,
     /// Each claim at its spot.
@@ -131,7 +131,7 @@ pub struct Kept {
     pub idle: VecDeque<IdleRow>,
 }
 
-impl Kept {
+impl Index {
     /// Puts a claim at its spot, and notes where its number stands. A refused growth changes
     /// nothing.
     fn put_at(&mut self, spot: Spot, claim: Claim) -> Result<(), AllocError>

@@ -2,7 +2,7 @@ use Rattle.std.proofs.Common.{◌∙◌}
 use Rattle.std.specs.Ordering.{is_eq}
 use Rattle.farm_pick.specs.Several.{has_spot, spots_cmp}
 use Rattle.farm_pick.proofs.Spots.{noted}
-use Rattle.farm_pick.proofs.kept.note.Goals as goal
+use Rattle.farm_pick.proofs.index.note.Goals as goal
 
 pub returns-in_ok-_new-clause-ok : goal.returns-in_ok-_new-clause-ok
 returns-in_ok-_new-clause-ok c = λ s.

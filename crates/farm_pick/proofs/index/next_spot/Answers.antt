@@ -1,5 +1,5 @@
 use Rattle.farm_pick.proofs.Spots.{next_some}
-use Rattle.farm_pick.proofs.kept.next_spot.Goals as goal
+use Rattle.farm_pick.proofs.index.next_spot.Goals as goal
 
 pub returns-in_err-rank : goal.returns-in_err-rank
 returns-in_err-rank c = rw c.from_residual.ensures (λ t less. (c.range.ensures.in_range tt).5 c.in_err-rank.ensures.steps.0 (record { spot = t }) (less, tt))

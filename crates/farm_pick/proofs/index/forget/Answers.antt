@@ -2,7 +2,7 @@ use Rattle.std.proofs.Common.{◌∙◌}
 use Rattle.std.specs.Ordering.{is_eq}
 use Rattle.farm_pick.specs.Several.{has_spot, spots_cmp}
 use Rattle.farm_pick.proofs.Spots.{forgotten}
-use Rattle.farm_pick.proofs.kept.forget.Goals as goal
+use Rattle.farm_pick.proofs.index.forget.Goals as goal
 
 pub returns : goal.returns
 returns c = λ s.
