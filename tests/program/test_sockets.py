@@ -410,7 +410,7 @@ def post(path: str, user: str, body: Any, key: str = "") -> bytes:
 
 async def ask(desk: Desk, sent: bytes) -> Any:
     """What a request is answered, which has to be accepted. Where this busy process was late with it, so that the desk may
-    have let it go, it is sent once more: a look, or what has a key."""
+    have let it go, it is sent again until it is answered: a look, or what has a key."""
     while True:
         said, began, late = b"", time.monotonic(), 0.0
         reader, writer = await asyncio.open_connection("127.0.0.1", desk.port)

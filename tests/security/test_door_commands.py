@@ -93,6 +93,14 @@ def test_what_cant_be_read_counts_as_the_highest(says_all: Callable[[bytes, str]
     assert says_all(body, "job") == says_all(body, "reservation") == 100
 
 
+def test_a_key_has_as_many_parts_as_the_desk_takes(make_door: Callable[..., Door]) -> None:
+    door = make_door(CALM)
+    for parts, status, of_desk in ((80, 200, 200), (81, 403, 400)):
+        body = f"{JOB_OF}{'.'.join(['a'] * parts)} = 1"
+        assert door.told("--data-binary", body, "/jobs")[0] == status
+        assert door.told("--data-binary", body, "/jobs", user="bob")[0] == of_desk
+
+
 def test_what_a_priority_cant_be_read_in_is_told(make_door: Callable[..., Door]) -> None:
     door = make_door(CALM)
     for body, fault in (("job_name = 'x'\npriority = 'higher'", "priority 'higher' is none of"), ("job_name = ", "no TOML: ")):

@@ -7,6 +7,7 @@ import os
 import re
 import select
 import subprocess
+import sys
 import threading
 import time
 from typing import Callable, List, Sequence
@@ -324,3 +325,33 @@ def test_what_a_stranger_sends_is_nothing_to_a_shell(folder: str, shell: str) ->
         assert completed(folder, "desk reserve ", shell, DESK_SERVER=address) == {"plain"}
         server.shutdown()
     assert os.listdir(folder) == ["desk"]
+
+
+class NoDesk(Stranger):
+    """Another program that answers in JSON."""
+
+    def do_GET(self) -> None:
+        self.rfile.read(int(self.headers.get("content-length", 0)))
+        self.send_response(200)
+        self.send_header("content-length", "15")
+        self.end_headers()
+        self.wfile.write(b'{"status":"up"}')
+
+    do_POST = do_GET
+
+
+@pytest.mark.parametrize("words", [
+    "boards", "queue", "jobs", "jobs 1", "types", "reservations", "reserve name=b1", "acquire 1", "cancel 1", "resubmit 1", "wait 1",
+    "artifacts 1", "with hdmi -- true", "health b1 Good", "add-type bbb",
+])
+def test_what_another_program_answers_is_told_in_a_line(words: str) -> None:
+    with http.server.ThreadingHTTPServer(("127.0.0.1", 0), NoDesk) as server:
+        threading.Thread(target=server.serve_forever, daemon=True).start()
+        address = f"http://127.0.0.1:{server.server_port}"
+        ran = subprocess.run(
+            [sys.executable, os.path.join(TOP, "tools", "desk"), "--server", address, *words.split()],
+            stdout=subprocess.PIPE, stderr=subprocess.PIPE, text=True, check=False, timeout=300,
+        )
+        server.shutdown()
+    assert (ran.returncode, ran.stdout) == (125 if words.startswith("with") else 4, "")
+    assert re.fullmatch(rf"desk: (no answer from the desk at )?{address}: the answer isn't a desk's(: it lacks [a-z]+)?\n", ran.stderr)

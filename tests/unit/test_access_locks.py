@@ -183,6 +183,17 @@ def made(folder: str, monkeypatch: pytest.MonkeyPatch) -> lookout.Lookout:
     return found
 
 
+@pytest.mark.parametrize("said", [{}, {"boards": None}, {"boards": 7}, {"boards": [7]}, {"boards": [{}]}, {"boards": [{**ROW, "tags": 7}]}])
+def test_another_programs_answer_says_nothing_of_holds(
+    made: lookout.Lookout, monkeypatch: pytest.MonkeyPatch, said: Dict[str, Any]
+) -> None:
+    """Else each session would seem to have lost its board."""
+    monkeypatch.setattr(made.desk, "look", lambda path: said)
+    with pytest.raises(lookout.NoDesk, match="^the answer isn't a desk's$"):
+        made.look()
+    assert not os.path.exists(made.seen)
+
+
 def test_a_look_does_for_all_for_a_moment(made: lookout.Lookout) -> None:
     for _ in range(100):
         assert made.shared()["b1"].hold == "reservation 1"

@@ -152,6 +152,7 @@ def test_a_certificate_that_doesnt_fit_is_no_reason_to_try_again(line: Line) -> 
 @pytest.mark.parametrize("answer, told", [
     (Answer(200, b"<html>"), "the answer isn't a desk's"), (Answer(200, b"[]"), "the answer isn't a desk's"),
     (Answer(204), "the answer isn't a desk's"), (Answer(200, b"{}", length=-1), "the answer was cut in its head"),
+    (Answer(200, b"[" * 100_000), "the answer isn't a desk's"),
 ])
 def test_what_no_desk_says_is_no_answer(line: Line, answer: Answer, told: str) -> None:
     line.answers = [answer]
@@ -159,11 +160,22 @@ def test_what_no_desk_says_is_no_answer(line: Line, answer: Answer, told: str) -
         desk_of().look("/boards")
 
 
+def test_what_lacks_what_a_desks_has_is_no_answer(line: Line) -> None:
+    line.answers = [Answer(200, b'{"boards":[{"name":"b1"}]}')]
+    said = desk_of().look("/boards")
+    assert said == {"boards": [{"name": "b1"}]} and said["boards"][0].get("holder") is None
+    for row, name in ((said, "jobs"), (said["boards"][0], "holder")):
+        with pytest.raises(Unreachable, match=f"^{SERVER}: the answer isn't a desk's: it lacks {name}$") as fault:
+            assert row[name]
+        assert isinstance(fault.value, KeyError)
+
+
 @pytest.mark.parametrize("answer, told", [
     (Answer(409, b'{"code":4,"text":"full"}'), "4 full"),
     (Answer(401, b"<html>", reason="Unauthorized"), "401 Unauthorized: asked as ann, without a password"),
     (Answer(403, b'{"code":3,"text":"not yours"}'), "3 not yours: asked as ann"),
     (Answer(302, b"", reason="Found"), "302 Found"), (Answer(500, b"[]", reason="Fault"), "500 Fault"),
+    (Answer(404, b"[" * 100_000, reason="Not Found"), "404 Not Found"),
 ])
 def test_a_refusal_says_why_and_who_asked(line: Line, answer: Answer, told: str) -> None:
     line.answers = [answer]

@@ -68,6 +68,21 @@ def test_nothing_is_known_before_the_desk_answers(desk: Desk, counts: Counts, mo
     assert counts.are_known()
 
 
+def test_a_look_that_fails_however_is_told_and_isnt_the_last(
+    desk: Desk, counts: Counts, monkeypatch: pytest.MonkeyPatch, capsys: pytest.CaptureFixture[str]
+) -> None:
+    def odd(path: str) -> Dict[str, Any]:
+        raise MemoryError("no more")
+
+    with monkeypatch.context() as patched:
+        patched.setattr(desk, "look", odd)
+        counts.look()
+    assert capsys.readouterr().err == "farm-door: a look at the desk: MemoryError: no more\n"
+    assert not counts.are_known()
+    counts.look()
+    assert counts.are_known()
+
+
 def test_what_is_asked_first_waits_for_the_first_look(
     desk: Desk, counts: Counts, monkeypatch: pytest.MonkeyPatch
 ) -> None:

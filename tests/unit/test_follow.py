@@ -6,6 +6,8 @@ import os
 import pathlib
 import shutil
 import sqlite3
+import subprocess
+import sys
 import time
 import types
 from typing import BinaryIO, Callable, Iterator, List, Optional, Tuple
@@ -13,6 +15,7 @@ from typing import BinaryIO, Callable, Iterator, List, Optional, Tuple
 import pytest
 from farm_backup import copying, follow, standby, tail, wal
 from fizgruk._tools import disk
+from served import TOOLS, TOP
 
 
 class Pair:
@@ -54,6 +57,33 @@ class Pair:
         with contextlib.closing(sqlite3.connect(place / "farm.db")) as conn:
             assert conn.execute("pragma integrity_check").fetchall() == [("ok",)]
             return [it for it, in conn.execute("select turn from turns order by place")]
+
+
+# Begins to look beside, and ends at once: before the process that looks has come to anything.
+ENDS_AT_ONCE = """
+import os, signal, sys, time
+from fizgruk._tools import interrupts
+from farm_backup import tail
+interrupts.catch_signals()
+run = tail.Tail._run
+def slow(followed, *pipes):
+    os.kill(os.getpid(), signal.SIGINT)
+    time.sleep(2)
+    run(followed, *pipes)
+tail.Tail._run = slow
+followed = tail.Tail.from_beginning(sys.argv[1])
+followed.start()
+followed.close()
+print(followed.process.exitcode == -signal.SIGTERM)
+"""
+
+
+def test_who_looks_beside_says_nothing_of_a_signal_that_comes_early(tmp_path: pathlib.Path) -> None:
+    pair = Pair(tmp_path)
+    around = {**os.environ, "PYTHONPATH": os.pathsep.join([TOOLS, os.path.join(TOP, "python/src")])}
+    words = [sys.executable, "-c", ENDS_AT_ONCE, pair.farm.log]
+    ran = subprocess.run(words, capture_output=True, text=True, check=False, env=around, timeout=300)
+    assert (ran.returncode, ran.stdout, ran.stderr) == (0, "True\n", "")
 
 
 @pytest.fixture

@@ -2,6 +2,7 @@
 from __future__ import annotations
 
 import os
+import subprocess
 import sys
 from typing import Any, Callable, Dict, List, Optional, Union
 
@@ -109,6 +110,44 @@ def test_what_is_newer_than_pythons_own_reader(text: str, wanted: Optional[Dict[
         assert wanted is None
     else:
         assert found == wanted
+
+
+# Reads the text at its input by each reader, in as much memory as such a text may take.
+READS = """
+import resource, sys
+from fizgruk import small_toml, toml_text
+text = sys.stdin.read()
+resource.setrlimit(resource.RLIMIT_AS, (300_000_000, 300_000_000))
+for read in (toml_text.tree_of, small_toml.loads):
+    try:
+        print("read", len(read(text)))
+    except (ValueError, toml_text.NotToml) as fault:
+        print(fault)
+"""
+
+
+@pytest.mark.parametrize("form", ["{}a = 1", "[{}a]", "[[{}a]]", "x = {{}a = 1}", "x = 1\ny.z = '{}'\n{}a = 1"], ids=range(5))
+def test_a_key_of_more_parts_than_the_desk_takes_is_refused_at_once(form: str) -> None:
+    """The square of its parts would take gigabytes."""
+    text = form.replace("{}", "a." * 30_000)
+    ran = subprocess.run(
+        [sys.executable, "-c", READS], input=text, stdout=subprocess.PIPE, text=True, check=False, timeout=600,
+        env={**os.environ, "PYTHONPATH": os.path.join(TOP, "python/src")},
+    )
+    fault = f"a key has more than 80 parts (at line {1 + text.count(chr(10))})"
+    assert (ran.returncode, ran.stdout[:300]) == (0, f"no TOML: {fault}\n{fault}\n")
+
+
+@pytest.mark.parametrize("reader", [small_toml.loads, toml_text.tree_of])
+def test_a_line_of_many_dots_is_read(reader: Callable[[str], Dict[str, Any]]) -> None:
+    assert reader(f"x = '{'.' * 1000}' # {'.' * 1000}\n{'a.' * 2}a = 1") == {"x": "." * 1000, "a": {"a": {"a": 1}}}
+    assert list(reader("a." * 79 + "a = 1")) == ["a"]
+
+
+def test_what_stands_deep_is_found_by_what_is_above() -> None:
+    text = "x = 1\n[a]\n" + "b." * 40 + "b = 1\n"
+    assert toml_text.line_of(text, ["a", *["b"] * 3]) == 3
+    assert toml_text.told_at(text, ["a", *["b"] * 41]) == " (at line 3, column 29)"
 
 
 @pytest.mark.parametrize("text, line", [("a=1\nb==2\n", 2), ("\n\n[a\n", 3), ("a=1\n[b]\nc=1\nc=2", 4)])

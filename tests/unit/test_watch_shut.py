@@ -5,15 +5,34 @@ import json
 import pathlib
 from typing import Any, Dict, List
 
+import pytest
 from farm_watch.rules import Rules, Webhook
 from farm_watch.shut import Shut
 from farm_watch.store import Store
 
 
+def rules_for(file: pathlib.Path) -> Rules:
+    return Rules({}, None, Webhook("http://x", None), None, None, (), False, (), None, (), {"board": ("webhook",)}, shut=str(file))
+
+
+@pytest.mark.parametrize("text", [
+    "", "{", "{}", "[]", "7", '{"boards":[]}', '{"boards":{"b1":7}}', '{"boards":{"b1":{"shut":1e999}}}',
+    '{"boards":{"b1":{"shut":"x"}}}', "[" * 100_000,
+], ids=range(10))
+def test_a_file_that_says_something_else_is_a_trouble(tmp_path: pathlib.Path, text: str) -> None:
+    file = tmp_path / "access.json"
+    troubles: List[str] = []
+    file.write_text(text)
+    one = Shut(Store(str(tmp_path / "watch.db")), rules_for(file), troubles.append)
+    one.look()
+    one.look()
+    assert len(troubles) == 1 and all(it.startswith(f"nobody knows which boards are shut: {file}: ") for it in troubles)
+
+
 def test_it_is_told_once_that_a_board_is_shut_and_once_that_it_is_open(tmp_path: pathlib.Path) -> None:
     """Also over a kill; while the file can't be read nothing is known, which is a trouble, told once."""
     file = tmp_path / "access.json"
-    rules = Rules({}, None, Webhook("http://x", None), None, None, (), False, (), None, (), {"board": ("webhook",)}, shut=str(file))
+    rules = rules_for(file)
     store = Store(str(tmp_path / "watch.db"))
     troubles: List[str] = []
 

@@ -48,9 +48,9 @@ class Lookout:
 
     def boards(self) -> Dict[str, Board]:
         """The boards, asked for now."""
-        rows = self._asked("/boards").get("boards")
+        told = self._asked("/boards")
         try:
-            return {it["name"]: _board_of(it) for it in rows or []}
+            return {it["name"]: _board_of(it) for it in told["boards"]}
         except (TypeError, KeyError, AttributeError) as fault:
             raise NoDesk("the answer isn't a desk's") from fault
 

@@ -83,7 +83,12 @@ class Tail:
         forking = multiprocessing.get_context("fork")
         mine, its = forking.Pipe()
         self.process = forking.Process(target=self._run, args=(its, mine), daemon=True)
-        self.process.start()
+        # (a signal that comes before the process has its own way with it would be raised in it as in the caller)
+        blocked = signal.pthread_sigmask(signal.SIG_BLOCK, interrupts.SIGNALS)
+        try:
+            self.process.start()
+        finally:
+            signal.pthread_sigmask(signal.SIG_SETMASK, blocked)
         its.close()
         self.looker = mine
 
@@ -99,6 +104,7 @@ class Tail:
         others.close()
         for number in interrupts.SIGNALS:
             signal.signal(number, signal.SIG_IGN if number != signal.SIGTERM else signal.SIG_DFL)
+        signal.pthread_sigmask(signal.SIG_UNBLOCK, interrupts.SIGNALS)
         try:
             while True:
                 if asked.poll(LOOK):

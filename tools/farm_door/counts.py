@@ -2,6 +2,7 @@
 import dataclasses
 import math
 import re
+import sys
 import threading
 import time
 from typing import Dict, List, Optional, Tuple
@@ -59,6 +60,8 @@ class Counts:
             self.renew()
         except (Unreachable, Refused, KeyError, TypeError, ValueError):
             pass
+        except Exception as fault:  # pylint: disable=broad-except # (else nothing is let through any more)
+            print(f"farm-door: a look at the desk: {type(fault).__name__}: {fault}", file=sys.stderr, flush=True)
         finally:
             self.has_looked.set()
 

@@ -25,7 +25,7 @@ class Shut:
         before, self.trouble = self.trouble, ""
         try:
             now = shut_in(self.rules.shut)
-        except (OSError, ValueError, TypeError, AttributeError) as fault:
+        except (OSError, ValueError) as fault:
             self.trouble = f"nobody knows which boards are shut: {self.rules.shut}: {fault}"
             if self.trouble != before:
                 self.told(self.trouble)
@@ -42,8 +42,11 @@ class Shut:
 
 
 def shut_in(file: str) -> Dict[str, int]:
-    """The boards that are shut, and since when."""
+    """The boards that are shut, and since when. Raises ValueError where the file doesn't say it."""
     opened = os.open(file, os.O_RDONLY | os.O_CLOEXEC | os.O_NOFOLLOW | os.O_NONBLOCK)
-    with open(opened, encoding="utf-8") as text:
-        boards = json.loads(text.read(MOST))["boards"]
-    return {str(name): int(it["shut"]) for name, it in boards.items() if it.get("shut")}
+    try:
+        with open(opened, encoding="utf-8") as text:
+            boards = json.loads(text.read(MOST))["boards"]
+        return {str(name): int(it["shut"]) for name, it in boards.items() if it.get("shut")}
+    except (TypeError, KeyError, AttributeError, OverflowError, RecursionError) as fault:
+        raise ValueError(f"it isn't what farm-access writes ({type(fault).__name__}: {fault})") from fault

@@ -40,6 +40,23 @@ class Answer(NamedTuple):
     body: bytes
 
 
+class Lacks(Unreachable, KeyError):
+    """An answer isn't a desk's, since it lacks what a desk's has."""
+
+    __str__ = Exception.__str__
+
+
+class Told(Row):
+    """An object that a server told."""
+
+    def __init__(self, members: Row, server: str):
+        super().__init__(members)
+        self.server = server
+
+    def __missing__(self, name: str) -> Any:
+        raise Lacks(f"{NO_DESKS}: it lacks {name}", self.server)
+
+
 def authorization_of(user: str, password: str) -> str:
     """How a password is told, in whose place a token of farm-door's may stand."""
     if password.startswith(TOKEN_MARK):
@@ -202,8 +219,8 @@ class Desk:
     def _meaning(self, answer: Answer) -> Row:
         """What an answer says, where it isn't a refusal."""
         try:
-            told = json.loads(answer.body)
-        except ValueError:
+            told = json.loads(answer.body, object_hook=lambda it: Told(it, self.server))
+        except (ValueError, RecursionError):
             told = None
         if answer.status == 200 and isinstance(told, dict):
             return told

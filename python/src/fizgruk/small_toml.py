@@ -34,6 +34,8 @@ NUMBER = re.compile(
 
 Path = Tuple[str, ...]
 ELEMENT = "[]"  # the key of all that an array has, in a path
+MOST_PARTS = 80  # of a key with dots, as many as the desk takes
+LONGEST_PLACED = 16  # keys of a path whose place is known: no file of the desk's goes deeper
 
 
 class Moment(NamedTuple):
@@ -115,7 +117,10 @@ class Reader:
             self.take(SPACE)
             at, bare = self.at, self.take(BARE)
             found += (bare.group() if bare else self.quoted_key(),)
-            self.places.setdefault(above + found, at)
+            if len(found) > MOST_PARTS:
+                raise self.fault(f"a key has more than {MOST_PARTS} parts")
+            if len(above) + len(found) <= LONGEST_PLACED:
+                self.places.setdefault(above + found, at)
             self.take(SPACE)
             if not self.passed("."):
                 return found

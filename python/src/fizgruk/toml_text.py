@@ -30,7 +30,9 @@ def text_of(data: bytes) -> str:
 def tree_of(text: str) -> Dict[str, Any]:
     """The tables of a text. What it lacks is told by the first reader."""
     faults = []
-    for read in READERS:
+    # (Python's own takes a time that grows with the square of a key's parts; each line but few has less dots)
+    has_many = any(it.count(".") >= small_toml.MOST_PARTS for it in text.split("\n"))
+    for read in READERS[-1:] if has_many else READERS:
         try:
             return read(text)
         except (ValueError, RecursionError) as fault:
