@@ -28,6 +28,7 @@ after = ["/bin/sh", "-c", "echo b1 >> {place}/after; printf '<after>' > {place}/
 boards = "b2"
 gone = ["/no/such/command"]
 """
+BOOTS = 540.0  # seconds for a board that boots, an emulated one beside a load too: some 30 on an idle machine
 # What switches the board on by its ways, waits until it says that it is UP, types TYPED, and waits for SAID.
 LABGRID = """[labgrid]
 test = \'\'\'
@@ -36,7 +37,7 @@ from labgrid.protocol import ConsoleProtocol, PowerProtocol
 def test_board(target):
     console = target.get_driver(ConsoleProtocol)
     target.get_driver(PowerProtocol).cycle()
-    console.expect("UP", timeout=200)
+    console.expect("UP", timeout=480)
     console.sendline("TYPED")
     console.expect("SAID", timeout=200)
 \'\'\'
@@ -54,7 +55,7 @@ timeouts: {actions: {}, connections: {}}
 LAVA = """[lava]
 definition = \'\'\'
 job_name: boots
-timeouts: {job: {minutes: 5}, action: {minutes: 3}, connection: {minutes: 3}}
+timeouts: {job: {minutes: 9}, action: {minutes: 8}, connection: {minutes: 8}}
 actions:
 - boot: {method: minimal, prompts: ['board:/#']}
 \'\'\'
@@ -82,7 +83,7 @@ def lab(program: str, tmp_path_factory: pytest.TempPathFactory) -> Iterator[Lab]
 
 
 def ended(lab: Lab, number: int) -> str:
-    until(lambda: lab.farm.job(number)["state"] == "Finished")
+    until(lambda: lab.farm.job(number)["state"] == "Finished", BOOTS)
     return str(lab.farm.job(number)["result"])
 
 

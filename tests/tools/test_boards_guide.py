@@ -21,7 +21,7 @@ from farm_access import site
 from fizgruk import toml_text
 from ports import free_port
 from served import STARTED, TOOLS, TOP, Farm, wait_until
-from test_access_jobs import DEVICE, LAVA, ended, labgrid_of, log_of
+from test_access_jobs import BOOTS, DEVICE, LAVA, ended, labgrid_of, log_of
 from test_boards_run import wants_way
 from wants import wants
 
@@ -311,7 +311,7 @@ def test_an_emulated_board_from_reserve_to_its_prompt(lab: Lab, capsys: pytest.C
         said += line.stdout.read(65536) or b""
         return b"the-board# " in said
 
-    took = until(prompts, 300)
+    took = until(prompts, BOOTS)
     assert b"the-board# " in said, said[-500:]
     line.stdin.write(b"echo $((6 * 7))\r")
     line.stdin.flush()
