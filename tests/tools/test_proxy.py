@@ -222,6 +222,8 @@ def test_the_client_finds_what_a_job_left_beside_the_desk(kept: str, site: Site)
 def test_the_client_follows_a_log_from_before_it_is_there(
     kept: str, farm: Farm, site: Site, start_tool: Callable[..., Tool]
 ) -> None:
+    # (a pass of the dispatcher that was killed may still be on its way through nginx, and would give the job the board)
+    farm.tell("admin", "/boards/b1/health", {"health": "Maintenance"})
     number = farm.submit("true")
     tool = start_tool("desk", "log", str(number), "--follow", "--every", "0.2", **site.settings())
     told = f"job {number} is Submitted, and has no log yet"
