@@ -9,9 +9,10 @@ use Rattle.sqlite.specs.declared.error.Error.{Error}
 use Rattle.sqlite_schema.specs.declared.command.Returning.{Returning}
 use Rattle.std.specs.List.{AllByRecursion}
 use Rattle.farm_store.specs.Columns.{TableRows}
-use Rattle.farm_store.specs.Holds.{ReadsOnly, ShowsTables, Stands}
+use Rattle.farm_store.specs.Holds.{ReadsOnly, ShowsTablesWith, StandsWith}
 use Rattle.farm_store.specs.Places.{TableSlot}
 use Rattle.farm_store.specs.Queries.{AsksFor}
+use Rattle.farm_store.specs.Schema.{TableColumns}
 use Rattle.farm_store.specs.Stored.{IsWide}
 use Rattle.farm_store.proofs.OnlyReads.{shown, shown_first}
 
@@ -34,17 +35,17 @@ failed_left sql params old new e (inr h) = by h.0.returning h.2
     by None it = inl it.3
     by (Some what) it = elim it [ inl still ↦ inl still.1 | inr undone ↦ inr undone.3 ]
 
-stands : (old new : State) (T : TableRows) → IsLeft old new → new.in_transaction ≡ false → ((db : Trees) → new.may_leave db → old.may_leave db) → Stands old T → Stands new T
-stands old new T (inl same) auto left at = record {
+stands : (old new : State) (columns : TableColumns) (T : TableRows) → IsLeft old new → new.in_transaction ≡ false → ((db : Trees) → new.may_leave db → old.may_leave db) → StandsWith columns old T → StandsWith columns new T
+stands old new columns T (inl same) auto left at = record {
   autocommit = auto;
   same = λ still. same.0.now_is ∙ at.same same.0.was_open ∙ sym same.0.committed_is;
-  shown = λ still. subst (λ (d : Database). ShowsTables d T) (sym same.0.now_is) (at.shown same.0.was_open);
+  shown = λ still. subst (λ (d : Database). ShowsTablesWith columns d T) (sym same.0.now_is) (at.shown same.0.was_open);
   left = λ db may. at.left db (left db may);
 }
-stands old new T (inr undone) auto left at = record {
+stands old new columns T (inr undone) auto left at = record {
   autocommit = auto;
   same = λ still. (undone.undone still).0 ∙ sym (undone.undone still).1;
-  shown = λ still. let was = undone.was_open still in subst (λ (d : Database). ShowsTables d T) (at.same was ∙ sym (undone.undone still).0) (at.shown was);
+  shown = λ still. let was = undone.was_open still in subst (λ (d : Database). ShowsTablesWith columns d T) (at.same was ∙ sym (undone.undone still).0) (at.shown was);
   left = λ db may. at.left db (left db may);
 }
 
@@ -56,7 +57,7 @@ reads_only old new Commits survives none auto left =
       autocommit = auto;
       clean = survives.clean;
       left = no_more;
-      stands = λ clean T at. stands old new T (left clean) auto (no_more clean) at;
+      stands = λ clean columns T at. stands old new columns T (left clean) auto (no_more clean) at;
     }
 
 -- the disk was clean before
@@ -69,14 +70,14 @@ only_then {old} {mid} {new} one two = record {
   autocommit = two.autocommit;
   clean = omega (arith, one.clean, two.clean);
   left = λ clean db may. one.left (early two clean) db (two.left clean db may);
-  stands = λ clean T at. two.stands clean T (one.stands (early two clean) T at);
+  stands = λ clean columns T at. two.stands clean columns T (one.stands (early two clean) columns T at);
 }
 
 -- the tables that stood there are seen while nothing changes
-pub sees : (first old : State) (T : TableRows) → IsUnchanged first old → Stands first T → ShowsTables old.now T
-sees first old T same at = subst (λ (d : Database). ShowsTables d T) (sym same.0.now_is) (at.shown same.0.was_open)
+pub sees : (columns : TableColumns) (first old : State) (T : TableRows) → IsUnchanged first old → StandsWith columns first T → ShowsTablesWith columns old.now T
+sees columns first old T same at = subst (λ (d : Database). ShowsTablesWith columns d T) (sym same.0.now_is) (at.shown same.0.was_open)
 
-module _ (p : TableSlot) (text : List ℕ) (asks : AsksFor p text) (old : State) (T : TableRows) (see : ShowsTables old.now T) where
+module _ {columns : TableColumns} (p : TableSlot) (text : List ℕ) (asks : AsksFor columns p text) (old : State) (T : TableRows) (see : ShowsTablesWith columns old.now T) where
   -- what the query shows of them
   pub all_shown : (new : State) (rows : List Row) → Shown text [] old new rows → (rows ≡ p.rows T) × AllByRecursion (IsWide p.width) rows
   all_shown new rows h =

@@ -6,10 +6,10 @@ use Rattle.sqlite.specs.State.{State}
 use Rattle.farm_types.specs.Farm.{Farm, farm_of}
 use Rattle.farm_types.specs.declared.calls.Rows.{Rows}
 use Rattle.farm_store.specs.Columns.{TableRows, type_columns, board_columns, res_columns, kept_columns}
-use Rattle.farm_store.specs.Editions.{IsCollectorIn, IsReadableIn, IsReadableJobIn, job_columns_in, meta_rows_in, other_edition, rows_in, version_fault}
+use Rattle.farm_store.specs.Editions.{IsCollectorIn, IsReadableIn, IsReadableJobIn, job_columns_in, meta_rows_in, other_edition, rows_in, table_columns_in, version_fault}
 use Rattle.farm_store.specs.Readable.{IsReadableType, IsReadableBoard, IsReadableRes, IsReadableKept}
-use Rattle.farm_store.specs.Holds.{Stands}
-use Rattle.farm_store.specs.Reading.{LooksFirst, ReadsEdition, ReadsFarm, IsNoVersionFault, IsVersion, IsVersionFault}
+use Rattle.farm_store.specs.Reading.{LooksFirst, ReadsEdition, ReadsFarm, IsNoVersionFault, IsVersion, IsVersionFault, StandsIn}
+use Rattle.farm_store.specs.Schema.{schema_with}
 use Rattle.farm_store.specs.Versions.{ShowsNumbers}
 use Rattle.farm_store.specs.declared.edition.Edition.{Edition}
 use Rattle.farm_store.specs.declared.fault.StoreFault.{StoreFault}
@@ -43,22 +43,22 @@ never_bad e (Ok rows) F bad good read = let x = bad in cc
 never_bad e (Err f) F bad good read = read (let same : f ≡ BadStore = cc in same) F good refl
 
 -- what is reported of a store, by what is reported of the tables that stand there and of the version; nothing is read of one that is not open
-reads_edition : (e : Edition) (r : Result Rows StoreFault) (s : State) → ((T : TableRows) → Stands s T → ReadsFarm e r T) → (r ≡ Err Store) ⊎ IsTrue s.is_open → LooksFirst e r s.now → ReadsEdition e r s
+reads_edition : (e : Edition) (r : Result Rows StoreFault) (s : State) → ((T : TableRows) → StandsIn e s T → ReadsFarm e r T) → (r ≡ Err Store) ⊎ IsTrue s.is_open → LooksFirst e r s.now → ReadsEdition e r s
 reads_edition e r s read shut version = record {
-  rows = if_read e r (λ rows. (T : TableRows) → Stands s T → rows_in e (farm_of rows) ≡ T) (Stands s) read (λ rows read T at. (read T at).1);
-  readable = if_read e r (λ rows. (T : TableRows) → Stands s T → IsReadableIn e (farm_of rows)) (Stands s) read (λ rows read T at. (read T at).0);
-  farm = if_read e r (λ rows. (F : Farm) → IsReadableIn e F → Stands s (rows_in e F) → farm_of rows ≡ F) (Stands s) read
+  rows = if_read e r (λ rows. (T : TableRows) → StandsIn e s T → rows_in e (farm_of rows) ≡ T) (StandsIn e s) read (λ rows read T at. (read T at).1);
+  readable = if_read e r (λ rows. (T : TableRows) → StandsIn e s T → IsReadableIn e (farm_of rows)) (StandsIn e s) read (λ rows read T at. (read T at).0);
+  farm = if_read e r (λ rows. (F : Farm) → IsReadableIn e F → StandsIn e s (rows_in e F) → farm_of rows ≡ F) (StandsIn e s) read
       (λ rows read F good at. let it = read (rows_in e F) at in one_farm_in e (farm_of rows) F it.0 good it.1);
   bad = λ bad F good at. never_bad e r F bad good (read (rows_in e F) at);
   other = λ reported T at. elim shut [
     | inl failed ↦ absurd (not_store (other_edition e) (let same : Err Store ≡ Err (version_fault (other_edition e)) = sym failed ∙ reported in let x : Store ≡ version_fault (other_edition e) = cc in x))
-    | inr opened ↦ schema_from_version s.now T (at.shown opened) _ (version.reported reported)
+    | inr opened ↦ schema_from_version (table_columns_in e) s.now T (at.shown opened) _ (version.reported reported)
   ];
   schema = λ T at. elim shut [
     | inl failed ↦ record { known = λ _. inr failed; other = λ _ _. inr failed }
     | inr opened ↦ let see = at.shown opened in record {
-      known = λ is. version.known (version_from_schema s.now T see _ is);
-      other = λ not_other not_own. version.neither (λ has. not_other (schema_from_version s.now T see _ has)) (λ has. not_own (schema_from_version s.now T see _ has));
+      known = λ is. version.known (version_from_schema (table_columns_in e) s.now T see _ is);
+      other = λ not_other not_own. version.neither (λ has. not_other (schema_from_version (table_columns_in e) s.now T see _ has)) (λ has. not_own (schema_from_version (table_columns_in e) s.now T see _ has));
     }
   ];
   version = version;
@@ -93,17 +93,26 @@ refused e r s rows fault is opened shows (inl (reported, other)) =
     })
 refused e r s rows fault is opened shows (inr (bad, not_other, none)) =
     let was = err_is r fault is ∙ ap Err bad in
-    reads_edition e r s (λ T at. refuses_farm e r T fault is (λ _ F good same. none (version_from_schema s.now T (at.shown opened) _ (own_schema e F T same) rows shows))) (inr opened) (record {
+    reads_edition e r s (λ T at. refuses_farm e r T fault is (λ _ F good same. none (version_from_schema (table_columns_in e) s.now T (at.shown opened) _ (own_schema e F T same) rows shows))) (inr opened) (record {
       reported = λ reported. absurd (not_bad (other_edition e) (sym bad ∙ same_fault r fault _ is reported));
       known = λ has. absurd (not_other (has rows shows));
       neither = λ _ _. inl was;
     })
 
 -- numbers of this version are refused as nothing, and no later fault speaks of the version
-pub known : (e : Edition) (r : Result Rows StoreFault) (s : State) (rows : List Row) → IsTrue s.is_open → ShowsNumbers s.now rows → IsVersion e rows → IfErr r IsNoVersionFault → ((T : TableRows) → Stands s T → ReadsFarm e r T) → ReadsEdition e r s
+pub known : (e : Edition) (r : Result Rows StoreFault) (s : State) (rows : List Row) → IsTrue s.is_open → ShowsNumbers s.now rows → IsVersion e rows → IfErr r IsNoVersionFault → ((T : TableRows) → StandsIn e s T → ReadsFarm e r T) → ReadsEdition e r s
 known e r s rows opened shows version none read =
     reads_edition e r s read (inr opened) (record {
       reported = λ reported. absurd (never_version_fault (other_edition e) r none reported);
       known = λ has. absurd (version.0 (has rows shows));
       neither = λ _ no_own. absurd (no_own (rows, shows, version.1));
+    })
+
+-- of tables that were read as an edition's, but beside which something else stands, no farm's stand there
+pub beside_others : (e : Edition) (read r : Result Rows StoreFault) (rows : Rows) (s : State) → read ≡ Ok rows → r ≡ Err BadStore → IsTrue s.is_open → s.now.schema ≢ schema_with (table_columns_in e) → ReadsEdition e read s → ReadsEdition e r s
+beside_others e read r rows s was bad opened apart reads =
+    reads_edition e r s (λ T at. absurd (apart (at.shown opened).schema)) (inr opened) (record {
+      reported = λ reported. absurd (not_bad (other_edition e) (let same : Err BadStore ≡ Err (version_fault (other_edition e)) = sym bad ∙ reported in let x : BadStore ≡ version_fault (other_edition e) = cc in x));
+      known = λ has. elim (reads.version.known has) [ inl is ↦ absurd (let x = sym was ∙ is in cc) | inr is ↦ absurd (let x = sym was ∙ is in cc) ];
+      neither = λ _ _. inl bad;
     })

@@ -21,7 +21,7 @@ use Rattle.sqlite.proofs.Callers.{command_of}
 use Rattle.sqlite_resolve.specs.declared.compiled.Compiled.{Compiled}
 use Rattle.sqlite_sql.specs.Query.{output_cmp}
 use Rattle.sqlite_sql.proofs.QueryLemmas.{output_cmp_total}
-use Rattle.farm_store.specs.Schema.{farm_schema}
+use Rattle.sqlite.specs.Schema.{Schema}
 use Rattle.farm_store.specs.Queries.{ReturnsRows, ReturnsFirstRows}
 
 module _ {O : Type 0} {cmp : Row → Row → Ordering} (total : IsTotalOrder cmp) {c : O → O → Ordering} (totally : IsTotalOrder c) (show : Row → Row) (width : ℕ) (P Q : Row → O)
@@ -62,11 +62,11 @@ module _ {O : Type 0} {cmp : Row → Row → Ordering} (total : IsTotalOrder cmp
       let raw = it.sound m.0 m.1 in
       permuted ordered (map P raws) (IsPermutation-sym (map P raws) ordered same) q (subst (Has (map P raws)) (shows raw.0 ∙ ap Q raw.2 ∙ sym m.2) (mapped_has P raws raw.0 raw.1)))
 
--- the text is this query of the farm's tables
-abbrev pub IsQuery : List ℕ → Query → List (List ℕ) → Type 0
-IsQuery text query names = command_of (understood farm_schema text) ≡ Select (record { lets = []; body = query }) names
+-- the text is this query of such tables
+abbrev pub IsQuery : Schema → List ℕ → Query → List (List ℕ) → Type 0
+IsQuery schema text query names = command_of (understood schema text) ≡ Select (record { lets = []; body = query }) names
 
-module _ (text : List ℕ) (query : Query) (names : List (List ℕ)) (is : IsQuery text query names) (db : Database) (ours : db.schema ≡ farm_schema) where
+module _ {schema : Schema} (text : List ℕ) (query : Query) (names : List (List ℕ)) (is : IsQuery schema text query names) (db : Database) (ours : db.schema ≡ schema) where
   runs : (c : Compiled) → understood db.schema text ≡ Ok c → c.command ≡ Select (record { lets = []; body = query }) names
   runs c known = ap command_of (sym known ∙ ap (λ s. understood s text) ours) ∙ is
 

@@ -7,9 +7,11 @@ use Rattle.farm_types.specs.declared.rows.JobRow.{JobRow}
 use Rattle.farm_types.specs.declared.rows.JobState.{JobState}
 use Rattle.farm_types.specs.declared.rows.MetaRow.{MetaRow}
 use Rattle.farm_store.specs.Columns.{TableRows, first_meta_rows, first_rows_of, first_schema}
-use Rattle.farm_store.specs.Columns.{first_state_code, job_fields_by, meta_rows, rows_of}
-use Rattle.farm_store.specs.Columns.{second_schema, row_values}
+use Rattle.farm_store.specs.Columns.{board_fields, first_state_code, job_fields_by, kept_fields}
+use Rattle.farm_store.specs.Columns.{meta_rows, res_fields, row_values, rows_of, second_schema}
+use Rattle.farm_store.specs.Columns.{type_fields}
 use Rattle.farm_store.specs.Readable.{IsReadable, IsReadableFirst, IsReadableJob}
+use Rattle.farm_store.specs.Schema.{TableColumns, columns_of}
 use Rattle.farm_store.specs.declared.edition.Edition.{Edition}
 use Rattle.farm_store.specs.declared.fault.StoreFault.{StoreFault}
 use Rattle.farm_store.specs.declared.fault.StoreFault.TheVariants.{NewSchema, OldSchema}
@@ -33,6 +35,16 @@ version_fault Edition.Second = NewSchema
 abbrev pub state_code_in : Edition → JobState → ℕ
 state_code_in Edition.First = first_state_code
 state_code_in Edition.Second = job_state_code
+
+-- the columns of its tables
+abbrev pub table_columns_in : Edition → TableColumns
+table_columns_in edition = record {
+  types = columns_of type_fields;
+  boards = columns_of board_fields;
+  jobs = columns_of (job_fields_by (state_code_in edition));
+  reservations = columns_of res_fields;
+  kept = columns_of kept_fields;
+}
 
 abbrev pub job_columns_in : Edition → JobRow → Row
 job_columns_in edition = row_values (job_fields_by (state_code_in edition))

@@ -3,6 +3,7 @@ use Rattle.std.specs.Prelude.{◌≡◌, ℕ, List, length, map}
 use Rattle.std.specs.declared.cmp.Ordering.{Ordering}
 use Rattle.sqlite.specs.Order.{Row}
 use Rattle.sqlite.specs.Tree.{Trees}
+use Rattle.sqlite_schema.specs.declared.schema.Column.{Column}
 use Rattle.farm_types.specs.Table.{put_all}
 use Rattle.farm_types.specs.declared.calls.Rows.{Rows}
 use Rattle.farm_store.specs.Columns.{TableRows, by_first, by_two, type_columns, board_columns}
@@ -21,56 +22,74 @@ pub record TableSlot : Type 0 where
   pub rows : TableRows → List Row
   pub replaced : TableRows → List Row → TableRows
 
-abbrev pub of_types : TableSlot
-of_types = record {
+-- the five tables with these columns
+abbrev pub of_types_with : List Column → TableSlot
+of_types_with columns = record {
   tree = 0;
   show = row_less_rowid;
-  width = length types_table.columns;
+  width = length columns;
   cmp = by_first;
   rows = λ T. T.types;
   replaced = λ T rows. record T { types = rows };
 }
 
-abbrev pub of_boards : TableSlot
-of_boards = record {
+abbrev pub of_boards_with : List Column → TableSlot
+of_boards_with columns = record {
   tree = 2;
   show = row_less_rowid;
-  width = length boards_table.columns;
+  width = length columns;
   cmp = by_first;
   rows = λ T. T.boards;
   replaced = λ T rows. record T { boards = rows };
 }
 
-abbrev pub of_jobs : TableSlot
-of_jobs = record {
+abbrev pub of_jobs_with : List Column → TableSlot
+of_jobs_with columns = record {
   tree = 4;
   show = with_number;
-  width = length jobs_table.columns;
+  width = length columns;
   cmp = by_first;
   rows = λ T. T.jobs;
   replaced = λ T rows. record T { jobs = rows };
 }
 
-abbrev pub of_reservations : TableSlot
-of_reservations = record {
+abbrev pub of_reservations_with : List Column → TableSlot
+of_reservations_with columns = record {
   tree = 5;
   show = with_number;
-  width = length reservations_table.columns;
+  width = length columns;
   cmp = by_first;
   rows = λ T. T.reservations;
   replaced = λ T rows. record T { reservations = rows };
 }
 
-abbrev pub of_kept : TableSlot
-of_kept = record {
+abbrev pub of_kept_with : List Column → TableSlot
+of_kept_with columns = record {
   tree = 6;
   show = row_less_rowid;
-  width = length kept_table.columns;
+  width = length columns;
   cmp = by_two;
   rows = λ T. T.kept;
   replaced = λ T rows. record T { kept = rows };
 }
 
+-- those of this version
+abbrev pub of_types : TableSlot
+of_types = of_types_with types_table.columns
+
+abbrev pub of_boards : TableSlot
+of_boards = of_boards_with boards_table.columns
+
+abbrev pub of_jobs : TableSlot
+of_jobs = of_jobs_with jobs_table.columns
+
+abbrev pub of_reservations : TableSlot
+of_reservations = of_reservations_with reservations_table.columns
+
+abbrev pub of_kept : TableSlot
+of_kept = of_kept_with kept_table.columns
+
+-- that of the numbers, whatever columns the others have
 abbrev pub of_meta : TableSlot
 of_meta = record {
   tree = 8;

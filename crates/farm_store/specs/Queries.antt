@@ -7,8 +7,9 @@ use Rattle.sqlite.specs.Order.{Row}
 use Rattle.sqlite.specs.Schema.{Schema}
 use Rattle.sqlite_resolve.specs.declared.compiled.Compiled.{Compiled}
 use Rattle.farm_store.specs.Columns.{TableRows}
-use Rattle.farm_store.specs.Holds.{ShowsTables}
+use Rattle.farm_store.specs.Holds.{ShowsTablesWith}
 use Rattle.farm_store.specs.Places.{TableSlot}
+use Rattle.farm_store.specs.Schema.{TableColumns}
 use Rattle.farm_store.specs.Stored.{IsWide}
 
 -- the query shows these rows of the database
@@ -28,12 +29,13 @@ abbrev pub OnlyReads : List ℕ → Type 0
 OnlyReads text = (schema : Schema) (c : Compiled) → understood schema text ≡ Ok c
     → (reads_listing schema text ≡ false) × (c.returning ≡ None) × (c.formats ≡ [])
 
--- of the farm's tables the query shows all rows at this place, in order of their keys
-pub record AsksFor (p : TableSlot) (text : List ℕ) : Type 0 where
+-- of a farm's tables with these columns the query shows all rows at this place, in order of their
+-- keys
+pub record AsksFor (columns : TableColumns) (p : TableSlot) (text : List ℕ) : Type 0 where
   pub only_reads : OnlyReads text
-  pub all : (db : Database) (T : TableRows) (rows : List Row) → ShowsTables db T
+  pub all : (db : Database) (T : TableRows) (rows : List Row) → ShowsTablesWith columns db T
       → ReturnsRows text db rows → rows ≡ p.rows T
-  pub first : (db : Database) (T : TableRows) (rows : List Row) → ShowsTables db T
+  pub first : (db : Database) (T : TableRows) (rows : List Row) → ShowsTablesWith columns db T
       → ReturnsFirstRows text db rows → (more : List Row) × (p.rows T ≡ rows ++ more)
-  pub wide : (db : Database) (T : TableRows) → ShowsTables db T
+  pub wide : (db : Database) (T : TableRows) → ShowsTablesWith columns db T
       → AllByRecursion (IsWide p.width) (p.rows T)

@@ -13,8 +13,8 @@ use Rattle.farm_types.specs.declared.fault.WordFault.TheVariants.{NoMemory}
 use Rattle.farm_types.specs.declared.refusal.Refusal.{Refusal}
 use Rattle.farm_store.specs.Columns.{IsOfSchema, TableRows, is_version_row}
 use Rattle.farm_store.specs.Editions.{IsReadableIn, other_edition}
-use Rattle.farm_store.specs.Editions.{rows_in, schema_of, version_fault}
-use Rattle.farm_store.specs.Holds.{ShowsTables, Stands}
+use Rattle.farm_store.specs.Editions.{rows_in, schema_of, table_columns_in, version_fault}
+use Rattle.farm_store.specs.Holds.{ShowsTables, StandsWith}
 use Rattle.farm_store.specs.Versions.{MayHaveVersion, HasVersion}
 use Rattle.farm_store.specs.declared.edition.Edition.{Edition}
 use Rattle.farm_store.specs.declared.fault.StoreFault.{StoreFault}
@@ -105,21 +105,26 @@ ReadsFarm edition result T =
     (λ rows. IsReadableIn edition (farm_of rows) × (rows_in edition (farm_of rows) ≡ T))
     (λ fault. fault ≡ BadStore → (F : Farm) → IsReadableIn edition F → rows_in edition F ≢ T)
 
+-- the edition's tables stand there, with these rows
+abbrev pub StandsIn : Edition → State → TableRows → Type 0
+StandsIn edition = StandsWith (table_columns_in edition)
+
 -- what a reading of the tables of an edition reports of the store
 pub record ReadsEdition (edition : Edition) (result : Result Rows StoreFault) (s : State)
     : Type 0 where
   -- the rows are those of a readable farm with the tables that stand there: of that very farm
-  pub rows : IfOk result (λ rows. (T : TableRows) → Stands s T → rows_in edition (farm_of rows) ≡ T)
-  pub readable : IfOk result (λ rows. (T : TableRows) → Stands s T
+  pub rows : IfOk result (λ rows. (T : TableRows) → StandsIn edition s T
+      → rows_in edition (farm_of rows) ≡ T)
+  pub readable : IfOk result (λ rows. (T : TableRows) → StandsIn edition s T
       → IsReadableIn edition (farm_of rows))
   pub farm : IfOk result (λ rows. (F : Farm) → IsReadableIn edition F
-      → Stands s (rows_in edition F) → farm_of rows ≡ F)
+      → StandsIn edition s (rows_in edition F) → farm_of rows ≡ F)
   -- bad are only tables that no readable farm has, and of the other edition only those of its
   -- version
   pub bad : result ≡ Err BadStore → (F : Farm) → IsReadableIn edition F
-      → ¬ Stands s (rows_in edition F)
-  pub other : result ≡ Err (version_fault (other_edition edition)) → (T : TableRows) → Stands s T
-      → IsOfSchema (schema_of (other_edition edition)) T
+      → ¬ StandsIn edition s (rows_in edition F)
+  pub other : result ≡ Err (version_fault (other_edition edition)) → (T : TableRows)
+      → StandsIn edition s T → IsOfSchema (schema_of (other_edition edition)) T
   -- the version is looked at before anything else: of our tables, and of any store
-  pub schema : (T : TableRows) → Stands s T → LooksAtSchema edition result T
+  pub schema : (T : TableRows) → StandsIn edition s T → LooksAtSchema edition result T
   pub version : LooksFirst edition result s.now

@@ -9,6 +9,7 @@ ghost use Rattle.farm_types.specs.declared.rows.Holder.{Holder};
 ghost use Rattle.farm_store.specs.Columns.{board_columns, holder_of};
 ghost use Rattle.farm_store.specs.Schema.{boards_table};
 
+use crate::edition::Edition;
 use crate::queries::rows::{BAD, Reader, health_at, number_at, state_at, tags_at, word_at};
 use crate::stored::Stored;
 use crate::tables::{are_columns, is_keyed};
@@ -104,10 +105,11 @@ impl Stored for BoardRow {
     ghost use Rattle.farm_types.specs.Small.{IsSmallBoard};
     ghost use Rattle.farm_types.specs.Tags.{tags_text};
     ghost use Rattle.farm_store.specs.Columns.{board_columns};
-    ghost use Rattle.farm_store.specs.Places.{of_boards};
+    ghost use Rattle.farm_store.specs.Editions.{table_columns_in};
+    ghost use Rattle.farm_store.specs.Places.{of_boards_with};
     ghost use Rattle.farm_store.specs.Readable.{IsReadableBoard};
 
-    ghost place = { of_boards };
+    ghost place = { λ edition. of_boards_with (table_columns_in edition).boards };
 
     ghost columns = { λ _. board_columns };
 
@@ -117,8 +119,7 @@ impl Stored for BoardRow {
 
     ghost IsSmall = { IsSmallBoard };
 
-    #[tactic(auto, using(crate::proofs::RowSelects::asks_boards))]
-    fn query() -> &'static str {
+    fn query(_edition: Edition) -> &'static str {
         READ
     }
 
@@ -145,5 +146,5 @@ impl Stored for BoardRow {
 
     ghost wide = { λ _ x. refl };
 
-    ghost is_place = { record { own = λ T rows. refl; over = λ T rows more. refl; same = λ T. refl } };
+    ghost is_place = { λ _. record { own = λ T rows. refl; over = λ T rows more. refl; same = λ T. refl } };
 }

@@ -15,6 +15,7 @@ ghost use Rattle.farm_store.specs.Raising.{raised_below};
 ghost use Rattle.farm_store.specs.Schema.{jobs_table};
 ghost use Rattle.farm_store.specs.declared.edition.Edition.{Edition};
 
+use crate::edition::Edition;
 use crate::queries::rows::{
     Reader, body_at, checking_at, job_state_at, number_at, outcome_at, priority_at, tags_at,
     word_at, word_if_any_at,
@@ -138,10 +139,10 @@ impl Stored for JobRow {
     ghost use Rattle.std.specs.Prelude.{refl};
     ghost use Rattle.farm_types.specs.Small.{IsSmallJob};
     ghost use Rattle.farm_types.specs.Tags.{tags_text};
-    ghost use Rattle.farm_store.specs.Editions.{IsReadableJobIn, job_columns_in};
-    ghost use Rattle.farm_store.specs.Places.{of_jobs};
+    ghost use Rattle.farm_store.specs.Editions.{IsReadableJobIn, job_columns_in, table_columns_in};
+    ghost use Rattle.farm_store.specs.Places.{of_jobs_with};
 
-    ghost place = { of_jobs };
+    ghost place = { λ edition. of_jobs_with (table_columns_in edition).jobs };
 
     ghost columns = { job_columns_in };
 
@@ -151,8 +152,7 @@ impl Stored for JobRow {
 
     ghost IsSmall = { IsSmallJob };
 
-    #[tactic(auto, using(crate::proofs::RowSelects::asks_jobs))]
-    fn query() -> &'static str {
+    fn query(_edition: Edition) -> &'static str {
         READ
     }
 
@@ -185,5 +185,5 @@ impl Stored for JobRow {
 
     ghost wide = { λ _ x. refl };
 
-    ghost is_place = { record { own = λ T rows. refl; over = λ T rows more. refl; same = λ T. refl } };
+    ghost is_place = { λ _. record { own = λ T rows. refl; over = λ T rows more. refl; same = λ T. refl } };
 }

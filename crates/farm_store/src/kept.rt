@@ -5,6 +5,7 @@ ghost use Rattle.farm_types.specs.Small.{IsSmallKept};
 ghost use Rattle.farm_store.specs.Columns.{kept_columns};
 ghost use Rattle.farm_store.specs.Schema.{kept_table};
 
+use crate::edition::Edition;
 use crate::queries::rows::{Reader, number_at, word_at};
 use crate::stored::Stored;
 use crate::tables::{are_columns, is_keyed};
@@ -56,10 +57,11 @@ impl Stored for KeptRow {
     ghost use Rattle.std.specs.Prelude.{refl, []};
     ghost use Rattle.farm_types.specs.Small.{IsSmallKept};
     ghost use Rattle.farm_store.specs.Columns.{kept_columns};
-    ghost use Rattle.farm_store.specs.Places.{of_kept};
+    ghost use Rattle.farm_store.specs.Editions.{table_columns_in};
+    ghost use Rattle.farm_store.specs.Places.{of_kept_with};
     ghost use Rattle.farm_store.specs.Readable.{IsReadableKept};
 
-    ghost place = { of_kept };
+    ghost place = { λ edition. of_kept_with (table_columns_in edition).kept };
 
     ghost columns = { λ _. kept_columns };
 
@@ -69,8 +71,7 @@ impl Stored for KeptRow {
 
     ghost IsSmall = { IsSmallKept };
 
-    #[tactic(auto, using(crate::proofs::RowSelects::asks_kept))]
-    fn query() -> &'static str {
+    fn query(_edition: Edition) -> &'static str {
         READ
     }
 
@@ -93,5 +94,5 @@ impl Stored for KeptRow {
 
     ghost wide = { λ _ x. refl };
 
-    ghost is_place = { record { own = λ T rows. refl; over = λ T rows more. refl; same = λ T. refl } };
+    ghost is_place = { λ _. record { own = λ T rows. refl; over = λ T rows more. refl; same = λ T. refl } };
 }

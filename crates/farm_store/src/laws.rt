@@ -6,9 +6,9 @@ ghost use Rattle.sqlite.specs.State.{IsLive, Opens};
 ghost use Rattle.farm_types.specs.Farm.{Farm};
 ghost use Rattle.farm_store.specs.Agreed.{SchemasAgree};
 ghost use Rattle.farm_store.specs.Columns.{IsOfSchema, TableRows, first_rows_of, rows_of};
-ghost use Rattle.farm_store.specs.Holds.{Holds, ShowsTables, Stands};
+ghost use Rattle.farm_store.specs.Holds.{Holds, ShowsTablesWith, Stands};
 ghost use Rattle.farm_store.specs.Readable.{IsReadable, IsReadableFirst};
-ghost use Rattle.farm_store.specs.Schema.{HasSixTables, farm_schema};
+ghost use Rattle.farm_store.specs.Schema.{HasSixTables, TableColumns, schema_with};
 ghost use Rattle.farm_store.specs.Versions.{MayHaveVersion, HasVersion};
 ghost use Rattle.farm_types.specs.Sound.{IsSound};
 
@@ -19,17 +19,20 @@ pub fn schemas_agree()
     ensures { SchemasAgree }
 {}
 
-/// Where the farm's six tables stand, the version in `meta` is the one in its rows.
+/// Where a farm's six tables stand, whatever their columns, the version in `meta` is the one in its
+/// rows.
 pub fn versions_agree()
-    ensures may { (db : Database) (T : TableRows) → ShowsTables db T → (version : ℕ)
-        → MayHaveVersion version db → IsOfSchema version T }
-    ensures has { (db : Database) (T : TableRows) → ShowsTables db T → (version : ℕ)
-        → IsOfSchema version T → HasVersion version db }
+    ensures may { (columns : TableColumns) (db : Database) (T : TableRows)
+        → ShowsTablesWith columns db T → (version : ℕ) → MayHaveVersion version db
+        → IsOfSchema version T }
+    ensures has { (columns : TableColumns) (db : Database) (T : TableRows)
+        → ShowsTablesWith columns db T → (version : ℕ) → IsOfSchema version T
+        → HasVersion version db }
 {}
 
-/// The farm's schema has the six tables that `rebuild` makes anew.
+/// A farm's schema, whatever its columns, has the six tables that `rebuild` makes anew.
 pub fn farm_has_six_tables()
-    ensures { HasSixTables farm_schema }
+    ensures { (columns : TableColumns) → HasSixTables (schema_with columns) }
 {}
 
 /// A connection that was just opened on the farm's tables stands for them: they have the farm's

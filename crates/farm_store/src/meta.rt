@@ -9,10 +9,10 @@ ghost use Rattle.farm_store.specs.Columns.{TableRows, first_meta_rows, meta_row,
 ghost use Rattle.farm_store.specs.Columns.{number_rows, is_version_row};
 ghost use Rattle.farm_store.specs.Editions.{IsCollectorIn, meta_rows_in};
 ghost use Rattle.farm_store.specs.Edits.{ChangesTables, GoesOn, StaysOpen};
-ghost use Rattle.farm_store.specs.Holds.{IsInside, ReadsOnly, Stands};
+ghost use Rattle.farm_store.specs.Holds.{IsInside, ReadsOnly, StandsWith};
 ghost use Rattle.farm_store.specs.Places.{of_meta, put_at};
 ghost use Rattle.farm_store.specs.Reading.{IsVersion, IsVersionFault, ReadsAs};
-ghost use Rattle.farm_store.specs.Schema.{meta_table};
+ghost use Rattle.farm_store.specs.Schema.{TableColumns, meta_table};
 ghost use Rattle.farm_store.specs.Stored.{IsWide};
 ghost use Rattle.farm_store.specs.Versions.{ShowsNumbers};
 
@@ -198,8 +198,9 @@ pub(crate) fn look_at_schema(rows: &[Row], edition: Edition) -> Result<(), Store
 pub(crate) fn meta_rows<S: Alter>(conn: &mut Connection<S>) -> Result<Vec<Row>, Error>
     requires autocommit { conn.old.in_transaction ≡ false }
     ensures only { ReadsOnly (state S.Store conn.old) (state S.Store conn.new) }
-    ensures rows { HasCleanDisk (state S.Store conn.new) → IfOk result (λ rows. (T : TableRows)
-        → Stands (state S.Store conn.old) T
+    ensures rows { HasCleanDisk (state S.Store conn.new)
+        → IfOk result (λ rows. (columns : TableColumns) (T : TableRows)
+        → StandsWith columns (state S.Store conn.old) T
         → (rows.items ≡ T.meta) × AllByRecursion (IsWide of_meta.width) rows.items) }
     ensures opened { HasCleanDisk (state S.Store conn.new)
         → OnOk result (IsTrue (state S.Store conn.old).is_open) }

@@ -5,10 +5,10 @@ ghost use Rattle.std.specs.Prelude.{◌≡◌, ◌≢◌, false, Err, IfErr, IfO
 ghost use Rattle.sqlite.specs.Held.{state};
 ghost use Rattle.sqlite.specs.State.{HasCleanDisk};
 ghost use Rattle.farm_store.specs.Columns.{TableRows};
-ghost use Rattle.farm_store.specs.Editions.{IsCollectorIn, meta_rows_in, version_fault};
-ghost use Rattle.farm_store.specs.Holds.{ReadsOnly, Stands};
-ghost use Rattle.farm_store.specs.Reading.{ReadsEdition, ReadsFarm, IsNoVersionFault};
-ghost use Rattle.farm_store.specs.Schema.{farm_schema};
+ghost use Rattle.farm_store.specs.Editions.{IsCollectorIn, meta_rows_in, table_columns_in, version_fault};
+ghost use Rattle.farm_store.specs.Holds.{ReadsOnly};
+ghost use Rattle.farm_store.specs.Reading.{ReadsEdition, ReadsFarm, IsNoVersionFault, StandsIn};
+ghost use Rattle.farm_store.specs.Schema.{farm_schema, schema_with};
 ghost use Rattle.farm_store.specs.declared.edition.Edition.TheVariants.{First, Second};
 
 use crate::edition::Edition;
@@ -35,7 +35,7 @@ fn read_tables<S: Alter>(
     requires autocommit { conn.old.in_transaction ≡ false }
     ensures only { ReadsOnly (state S.Store conn.old) (state S.Store conn.new) }
     ensures read { HasCleanDisk (state S.Store conn.new) → (T : TableRows)
-        → Stands (state S.Store conn.old) T → IsCollectorIn edition meta.collector
+        → StandsIn edition (state S.Store conn.old) T → IsCollectorIn edition meta.collector
         → T.meta ≡ meta_rows_in edition meta → ReadsFarm edition result T }
     ensures numbers { IfOk result (λ rows. rows.meta ≡ meta) }
     ensures fault { IfErr result IsNoVersionFault }
@@ -129,7 +129,8 @@ pub fn load_first<S: Alter>(alloc: Global, conn: &mut Connection<S>) -> Result<R
     ensures reads { HasCleanDisk (state S.Store conn.new)
         → ReadsEdition First result (state S.Store conn.old) }
     ensures none { IfOk result (λ rows. rows.meta.collector ≡ 0) }
-    ensures ours { OnOk result ((state S.Store conn.old).now.schema ≡ farm_schema) }
+    ensures ours { OnOk result ((state S.Store conn.old).now.schema
+        ≡ schema_with (table_columns_in First)) }
     ensures never { result ≢ Err StoreFault.OldSchema }
 {
     read_edition(alloc, conn, Edition::First)

@@ -7,8 +7,8 @@ ghost use Rattle.farm_types.specs.Farm.{empty_farm, put_rows};
 ghost use Rattle.farm_types.specs.Small.{AreSmall};
 ghost use Rattle.farm_store.specs.Columns.{rows_of};
 ghost use Rattle.farm_store.specs.Edits.{GoesOn};
-ghost use Rattle.farm_store.specs.Holds.{Holds, IsInside, KeepsDoubt, Stands};
-ghost use Rattle.farm_store.specs.Schema.{HasSixTables, no_schema};
+ghost use Rattle.farm_store.specs.Holds.{Holds, IsInside, KeepsDoubt, SeesSixTables, Stands};
+ghost use Rattle.farm_store.specs.Schema.{no_schema};
 
 use crate::fault::StoreFault;
 use crate::schema::{make_all, put_first_numbers, run};
@@ -22,7 +22,7 @@ fn drop_all<S: Alter>(tx: &mut Transaction<'_, S>) -> Result<(), Error>
     ensures goes_on { GoesOn S.Store tx.old tx.new }
     ensures dropped { HasCleanDisk (state S.Store tx.new.conn.now)
         → OnOk result (IsTrue (state S.Store tx.old.conn.now).in_transaction
-        → HasSixTables (state S.Store tx.old.conn.now).now.schema
+        → SeesSixTables (state S.Store tx.old.conn.now)
         → IsTrue (state S.Store tx.new.conn.now).in_transaction
         × ((state S.Store tx.new.conn.now).now.schema ≡ no_schema)) }
 {
@@ -40,7 +40,7 @@ fn rebuild_all<S: Alter>(tx: &mut Transaction<'_, S>, tagged: &TaggedRows<'_>) -
     ensures goes_on { GoesOn S.Store tx.old tx.new }
     ensures rebuilt { HasCleanDisk (state S.Store tx.new.conn.now)
         → OnOk result (IsTrue (state S.Store tx.old.conn.now).in_transaction
-        → HasSixTables (state S.Store tx.old.conn.now).now.schema
+        → SeesSixTables (state S.Store tx.old.conn.now)
         → IsInside (state S.Store tx.new.conn.now)
         (rows_of (put_rows empty_farm tagged.now.rows.now))
         × IsTrue (state S.Store tx.new.conn.now).is_open) }
@@ -68,10 +68,10 @@ pub fn rebuild<S: Alter>(
     ensures autocommit { conn.new.in_transaction ≡ false }
     ensures clean { KeepsDoubt (state S.Store conn.old) (state S.Store conn.new) }
     ensures ok { HasCleanDisk (state S.Store conn.new)
-        → OnOk result (HasSixTables (state S.Store conn.old).now.schema
+        → OnOk result (SeesSixTables (state S.Store conn.old)
         → Stands (state S.Store conn.new) (rows_of (put_rows empty_farm rows.now))) }
     ensures stop { HasCleanDisk (state S.Store conn.new)
-        → HasSixTables (state S.Store conn.old).now.schema
+        → SeesSixTables (state S.Store conn.old)
         → (db : Trees) → (state S.Store conn.new).may_leave db
         → (state S.Store conn.old).may_leave db
         ⊎ Holds db (rows_of (put_rows empty_farm rows.now)) }

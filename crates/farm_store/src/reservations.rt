@@ -6,6 +6,7 @@ ghost use Rattle.farm_types.specs.Tags.{tags_text};
 ghost use Rattle.farm_store.specs.Columns.{res_columns};
 ghost use Rattle.farm_store.specs.Schema.{reservations_table};
 
+use crate::edition::Edition;
 use crate::queries::rows::{
     Reader, number_at, priority_at, res_state_at, tags_at, word_at, word_if_any_at,
 };
@@ -63,10 +64,11 @@ impl Stored for ResRow {
     ghost use Rattle.farm_types.specs.Small.{IsSmallRes};
     ghost use Rattle.farm_types.specs.Tags.{tags_text};
     ghost use Rattle.farm_store.specs.Columns.{res_columns};
-    ghost use Rattle.farm_store.specs.Places.{of_reservations};
+    ghost use Rattle.farm_store.specs.Editions.{table_columns_in};
+    ghost use Rattle.farm_store.specs.Places.{of_reservations_with};
     ghost use Rattle.farm_store.specs.Readable.{IsReadableRes};
 
-    ghost place = { of_reservations };
+    ghost place = { λ edition. of_reservations_with (table_columns_in edition).reservations };
 
     ghost columns = { λ _. res_columns };
 
@@ -76,8 +78,7 @@ impl Stored for ResRow {
 
     ghost IsSmall = { IsSmallRes };
 
-    #[tactic(auto, using(crate::proofs::RowSelects::asks_reservations))]
-    fn query() -> &'static str {
+    fn query(_edition: Edition) -> &'static str {
         READ
     }
 
@@ -106,5 +107,5 @@ impl Stored for ResRow {
 
     ghost wide = { λ _ x. refl };
 
-    ghost is_place = { record { own = λ T rows. refl; over = λ T rows more. refl; same = λ T. refl } };
+    ghost is_place = { λ _. record { own = λ T rows. refl; over = λ T rows more. refl; same = λ T. refl } };
 }

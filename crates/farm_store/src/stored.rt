@@ -1,6 +1,7 @@
 //! What a row of each table stands for, and how it is read and put.
 ghost use Rattle.std.specs.Prelude.{◌≡◌, string_bytes};
 
+use crate::edition::Edition;
 use crate::queries::rows::Reader;
 use farm_types::WordFault;
 use sqlite::{Alter, Error, Row, Transaction};
@@ -11,6 +12,7 @@ pub(crate) trait Stored: Drop + Sized {
     ghost use Rattle.std.specs.Prelude.{◌≡◌, List, ℕ, [], ◌∷◌, IfOk, string_bytes};
     ghost use Rattle.sqlite.specs.Held.{state};
     ghost use Rattle.sqlite.specs.Order.{Row as Values};
+    ghost use Rattle.farm_store.specs.Editions.{table_columns_in};
     ghost use Rattle.farm_store.specs.Edits.{ChangesTables, GoesOn};
     ghost use Rattle.farm_store.specs.Places.{IsTableSlot, TableSlot, put_at};
     ghost use Rattle.farm_store.specs.Queries.{AsksFor};
@@ -18,7 +20,7 @@ pub(crate) trait Stored: Drop + Sized {
     ghost use Rattle.farm_store.specs.Stored.{IsWide};
     ghost use Rattle.farm_store.specs.declared.edition.Edition.{Edition};
 
-    ghost place: { TableSlot };
+    ghost place: { Edition → TableSlot };
 
     ghost columns: { Edition → Self → Values };
 
@@ -28,9 +30,9 @@ pub(crate) trait Stored: Drop + Sized {
 
     ghost IsSmall: { Self → Type 0 };
 
-    /// The query of all rows of the table, in order of their keys.
-    fn query() -> &'static str
-        ensures { AsksFor place result.now };
+    /// The query of all rows of an edition's table, in order of their keys.
+    fn query(edition: Edition) -> &'static str
+        ensures { AsksFor (table_columns_in edition) (place edition) result.now };
 
     /// What a row of the table stands for in the reader's edition. It shares the tags that were seen.
     /// Numbers are read before texts, whatever the columns' order: a fault of theirs leaves nothing to
@@ -52,13 +54,13 @@ pub(crate) trait Stored: Drop + Sized {
         ensures goes_on { GoesOn S.Store tx.old tx.new }
         ensures put { ChangesTables result (state S.Store tx.old.conn.now)
             (state S.Store tx.new.conn.now)
-            (λ T. put_at place T (columns Edition.Second self.now ∷ [])) };
+            (λ T. put_at (place Edition.Second) T (columns Edition.Second self.now ∷ [])) };
 
-    /// It has as many columns as the table.
-    ghost wide: { (edition : Edition) (x : Self) → IsWide place.width (columns edition x) };
+    /// It has as many columns as the edition's table.
+    ghost wide: { (edition : Edition) (x : Self) → IsWide (place edition).width (columns edition x) };
 
     /// It is one of the tables' places.
-    ghost is_place: { IsTableSlot place };
+    ghost is_place: { (edition : Edition) → IsTableSlot (place edition) };
 }
 
 /// A row beside the text of its tags.

@@ -6,6 +6,7 @@ ghost use Rattle.farm_types.specs.declared.rows.Check.{Check};
 ghost use Rattle.farm_store.specs.Columns.{type_columns, unit_code};
 ghost use Rattle.farm_store.specs.Schema.{types_table};
 
+use crate::edition::Edition;
 use crate::queries::rows::{BAD, Reader, number_at, word_at};
 use crate::stored::Stored;
 use crate::tables::{are_columns, is_keyed};
@@ -76,10 +77,11 @@ impl Stored for TypeRow {
     ghost use Rattle.std.specs.Prelude.{refl, []};
     ghost use Rattle.farm_types.specs.Small.{IsSmallType};
     ghost use Rattle.farm_store.specs.Columns.{type_columns};
-    ghost use Rattle.farm_store.specs.Places.{of_types};
+    ghost use Rattle.farm_store.specs.Editions.{table_columns_in};
+    ghost use Rattle.farm_store.specs.Places.{of_types_with};
     ghost use Rattle.farm_store.specs.Readable.{IsReadableType};
 
-    ghost place = { of_types };
+    ghost place = { λ edition. of_types_with (table_columns_in edition).types };
 
     ghost columns = { λ _. type_columns };
 
@@ -89,8 +91,7 @@ impl Stored for TypeRow {
 
     ghost IsSmall = { IsSmallType };
 
-    #[tactic(auto, using(crate::proofs::RowSelects::asks_types))]
-    fn query() -> &'static str {
+    fn query(_edition: Edition) -> &'static str {
         READ
     }
 
@@ -110,5 +111,5 @@ impl Stored for TypeRow {
 
     ghost wide = { λ _ x. refl };
 
-    ghost is_place = { record { own = λ T rows. refl; over = λ T rows more. refl; same = λ T. refl } };
+    ghost is_place = { λ _. record { own = λ T rows. refl; over = λ T rows more. refl; same = λ T. refl } };
 }

@@ -63,7 +63,7 @@ fn put_rows<S: Alter, R: Stored>(
     ensures goes_on { GoesOn S.Store tx.old tx.new }
     ensures put { ChangesTables result (state S.Store tx.old.conn.now)
         (state S.Store tx.new.conn.now)
-        (λ T. put_at R.place T (map (R.columns Edition.Second) (untagged rows.now))) }
+        (λ T. put_at (R.place Edition.Second) T (map (R.columns Edition.Second) (untagged rows.now))) }
 {
     for tagged in rows {
         tagged.row.put(tagged.text.as_str(), tx)?;

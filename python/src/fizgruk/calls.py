@@ -10,7 +10,7 @@ import socket
 import ssl
 import time
 import urllib.parse
-from typing import Any, Callable, Dict, Iterable, Iterator, List, NamedTuple, Optional, Protocol, Tuple, Union
+from typing import Any, Callable, Dict, Iterable, Iterator, List, NamedTuple, Optional, Protocol, Tuple, Type, Union
 
 from fizgruk.bounds import MOST_WANTS
 from fizgruk.errors import Code, Refused, Unreachable
@@ -46,15 +46,14 @@ class Lacks(Unreachable, KeyError):
     __str__ = Exception.__str__
 
 
-class Told(Row):
-    """An object that a server told."""
+def told_by(server: str) -> Type[Row]:
+    """The class of the objects that this server tells. An answer may have a hundred thousand of them,
+    so it makes each without a line of Python."""
+    class Told(Row):
+        def __missing__(self, name: str) -> Any:
+            raise Lacks(f"{NO_DESKS}: it lacks {name}", server)
 
-    def __init__(self, members: Row, server: str):
-        super().__init__(members)
-        self.server = server
-
-    def __missing__(self, name: str) -> Any:
-        raise Lacks(f"{NO_DESKS}: it lacks {name}", self.server)
+    return Told
 
 
 def authorization_of(user: str, password: str) -> str:
@@ -109,6 +108,7 @@ class Desk:
         self.tell_trouble: Callable[[str], None] = lambda trouble: None
         # what is called before a command is given
         self.tell_where: Callable[[], None] = lambda: None
+        self._told = told_by(settings.server)
         self._address = address
         self._front = address.path.rstrip("/")
         self._context: Optional[ssl.SSLContext] = None
@@ -219,7 +219,7 @@ class Desk:
     def _meaning(self, answer: Answer) -> Row:
         """What an answer says, where it isn't a refusal."""
         try:
-            told = json.loads(answer.body, object_hook=lambda it: Told(it, self.server))
+            told = json.loads(answer.body, object_hook=self._told)
         except (ValueError, RecursionError):
             told = None
         if answer.status == 200 and isinstance(told, dict):

@@ -12,8 +12,8 @@ ghost use Rattle.farm_types.specs.Tags.{tags_text};
 ghost use Rattle.farm_types.specs.Codes.{health_code, state_code, outcome_code, res_state_code};
 ghost use Rattle.farm_store.specs.Columns.{TableRows, checking_code, first_state_code};
 ghost use Rattle.farm_store.specs.Editions.{IsStateIn, state_code_in};
-ghost use Rattle.farm_store.specs.Holds.{ReadsOnly, Stands};
-ghost use Rattle.farm_store.specs.Reading.{ReadsAll, ReadsAs, ReadsWord, IsNoVersionFault};
+ghost use Rattle.farm_store.specs.Holds.{ReadsOnly};
+ghost use Rattle.farm_store.specs.Reading.{ReadsAll, ReadsAs, ReadsWord, IsNoVersionFault, StandsIn};
 
 use crate::edition::Edition;
 use crate::fault::StoreFault;
@@ -66,9 +66,9 @@ pub(crate) fn read<R: Stored, S: Alter>(
     requires autocommit { conn.old.in_transaction ≡ false }
     ensures only { ReadsOnly (state S.Store conn.old) (state S.Store conn.new) }
     ensures read { HasCleanDisk (state S.Store conn.new) → (T : TableRows)
-        → Stands (state S.Store conn.old) T
+        → StandsIn edition (state S.Store conn.old) T
         → ReadsAll result (λ all. all.items) (R.IsGood edition) (R.columns edition)
-        (R.place.rows T) }
+        ((R.place edition).rows T) }
     ensures fault { IfErr result IsNoVersionFault }
 {
     let mut all = Vec::new(alloc);
@@ -78,7 +78,7 @@ pub(crate) fn read<R: Stored, S: Alter>(
         edition,
         lists: Vec::new(alloc),
     };
-    let mut rows = conn.query(R::query(), &[])?;
+    let mut rows = conn.query(R::query(edition), &[])?;
     'rows: for _ in 0..u64::MAX {
         let Some(row) = rows.next()? else {
             return Ok(all);

@@ -33,8 +33,8 @@ returns-in_err-rows g c =
       only = λ clean. none_done s _ is_reported.0 is_reported.1;
       ours = none_done s _ is_reported.0 is_reported.1;
       stop = λ clean F sound at db may. inl (at.left db (only.left clean db may));
-      others = λ clean T at none. only.stands clean T at;
-      rests = λ clean other. on_err s _ (λ T at. only.stands clean T at);
+      others = λ clean T at none. only.stands clean _ T at;
+      rests = λ clean other. on_err s _ (λ T at. only.stands clean _ T at);
       bad = λ clean is F sound at. (reads clean).bad (from_reported r s fault was reported StoreFault.BadStore is) F (first_of_sound F sound) at;
       newer = λ clean is T at. (reads clean).other (from_reported r s fault was reported StoreFault.NewSchema is) T at;
       known = λ clean T at is. one_reported r s fault was reported StoreFault.NewSchema StoreFault.Store (((reads clean).schema T at).known is);
@@ -60,8 +60,8 @@ returns-then-not-is_sound g c =
       only = λ clean. tt;
       ours = tt;
       stop = λ clean F sound at db may. inl (at.left db (only.left clean db may));
-      others = λ clean T at none. only.stands clean T at;
-      rests = λ clean other T at. only.stands clean T at;
+      others = λ clean T at none. only.stands clean _ T at;
+      rests = λ clean other T at. only.stands clean _ T at;
       bad = λ clean is F sound at.
           let same : farm_of c.in_ok-rows.rows ≡ F = (c.in_ok-rows.ensures.reads clean).farm F (first_of_sound F sound) at in
           let yes : c.is_sound.result ≡ true = c.is_sound.ensures.1 (subst IsSound (sym same) sound.sound) in
@@ -98,13 +98,13 @@ returns g c =
       ok = λ clean F is at.
           let same : farm ≡ F = (reads clean).farm F (first_of_sound F is) at in
           subst (λ G. Stands end (rows_of G)) same
-          (c.in_ok-raise.ensures.ok clean (subst (λ G. Stands mid (first_rows_of G)) (sym same) (only.stands (early clean) (first_rows_of F) at)));
+          (c.in_ok-raise.ensures.ok clean (subst (λ G. Stands mid (first_rows_of G)) (sym same) (only.stands (early clean) _ (first_rows_of F) at)));
       only = λ clean T at. (farm, first, sym ((reads clean).rows T at));
       ours = c.in_ok-rows.ensures.ours;
       stop = λ clean F is at.
           let same : farm ≡ F = (reads clean).farm F (first_of_sound F is) at in
           subst (λ G. LeavesEither end (first_rows_of G) (rows_of G)) same
-          (c.raise.ensures.stop clean (subst (λ G. Stands mid (first_rows_of G)) (sym same) (only.stands (early clean) (first_rows_of F) at)));
+          (c.raise.ensures.stop clean (subst (λ G. Stands mid (first_rows_of G)) (sym same) (only.stands (early clean) _ (first_rows_of F) at)));
       others = λ clean T at none. absurd (none farm first (sym ((reads clean).rows T at)));
       rests = λ clean other. tt;
       bad = λ clean e. absurd (let h = e in cc);
@@ -144,11 +144,11 @@ returns-in_err-raise g c =
       stop = λ clean F is at.
           let same : farm ≡ F = (reads clean).farm F (first_of_sound F is) at in
           subst (λ G. LeavesEither end (first_rows_of G) (rows_of G)) same
-          (c.raise.ensures.stop clean (subst (λ G. Stands mid (first_rows_of G)) (sym same) (only.stands (early clean) (first_rows_of F) at)));
+          (c.raise.ensures.stop clean (subst (λ G. Stands mid (first_rows_of G)) (sym same) (only.stands (early clean) _ (first_rows_of F) at)));
       others = λ clean T at none. absurd (none farm first (sym ((reads clean).rows T at)));
       rests = λ clean other.
           let memory = only_memory c.raise.result s fault c.in_err-raise.was reported which other in
-          on_err s _ (λ T at. subst (λ h. Stands (state g.S.Store h) T) (sym (c.raise.ensures.memory memory)) (only.stands (early clean) T at));
+          on_err s _ (λ T at. subst (λ h. Stands (state g.S.Store h) T) (sym (c.raise.ensures.memory memory)) (only.stands (early clean) _ T at));
       bad = λ clean is. absurd (never_reported c.raise.result s fault c.in_err-raise.was reported StoreFault.BadStore bad_is_another which is);
       newer = λ clean is. absurd (never_reported c.raise.result s fault c.in_err-raise.was reported StoreFault.NewSchema new_is_another which is);
       known = λ clean T at is. absurd (ok_is_no_err r c.in_ok-rows.rows StoreFault.NewSchema StoreFault.Store was (((c.load_first.ensures.reads (early clean)).schema T at).known is));

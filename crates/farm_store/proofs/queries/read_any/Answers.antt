@@ -3,7 +3,7 @@ use Rattle.std.specs.List.{AllByRecursion}
 use Rattle.sqlite.specs.Held.{state}
 use Rattle.sqlite.specs.Order.{Row}
 use Rattle.farm_store.specs.Columns.{numbers_of}
-use Rattle.farm_store.specs.Editions.{version_fault}
+use Rattle.farm_store.specs.Editions.{table_columns_in, version_fault}
 use Rattle.farm_store.specs.Places.{of_meta}
 use Rattle.farm_store.specs.Reading.{IsVersion, IsVersionFault}
 use Rattle.farm_store.specs.Stored.{IsWide}
@@ -44,7 +44,7 @@ returns-in_err-meta-clause-reads g c clean =
     let is = c.from_residual-in_err-meta.ensures.1 in
     known e result (state g.S.Store c.args.conn.now) c.in_ok-numbers.numbers.items (c.in_ok-numbers.ensures.opened clean) (c.in_ok-numbers.ensures.shown clean) (subst (IsVersion e) c.deref.ensures.value c.in_ok-look_at_schema.ensures) (if_err result StoreFault.BadStore is bad_of_no_version)
     (λ T at.
-    let got = c.in_ok-numbers.ensures.rows clean T at in
+    let got = c.in_ok-numbers.ensures.rows clean (table_columns_in e) T at in
     let rows = c.deref-2.ensures.value in
     let read = c.in_err-meta.ensures.read (subst (AllByRecursion (IsWide of_meta.width)) (sym rows) got.1) in
     refuses_farm e result T StoreFault.BadStore is (λ _ F good same. read (numbers_of F) (collector_in e F good) (rows ∙ got.0 ∙ (spelled e F T same).meta)))
@@ -61,10 +61,10 @@ returns-clause-reads g c clean =
     let first = early c.read_tables.ensures.only clean in
     known e c.read_tables.result (state g.S.Store c.args.conn.now) c.in_ok-numbers.numbers.items (c.in_ok-numbers.ensures.opened first) (c.in_ok-numbers.ensures.shown first) (subst (IsVersion e) c.deref.ensures.value c.in_ok-look_at_schema.ensures) c.read_tables.ensures.fault
     (λ T at.
-    let got = c.in_ok-numbers.ensures.rows first T at in
+    let got = c.in_ok-numbers.ensures.rows first (table_columns_in e) T at in
     let rows = c.deref-2.ensures.value in
     let numbers = c.in_ok-meta.ensures.read (subst (AllByRecursion (IsWide of_meta.width)) (sym rows) got.1) in
-    c.read_tables.ensures.read clean T (c.meta_rows.ensures.only.stands first T at) numbers.0 (sym (rows ∙ got.0) ∙ numbers.1))
+    c.read_tables.ensures.read clean T (c.meta_rows.ensures.only.stands first _ T at) numbers.0 (sym (rows ∙ got.0) ∙ numbers.1))
 
 pub returns-clause-opened : goal.returns-clause-opened
 returns-clause-opened g c clean = on_ok c.read_tables.result (IsTrue (state g.S.Store c.args.conn.now).is_open) (c.in_ok-numbers.ensures.opened (early c.read_tables.ensures.only clean))

@@ -14,7 +14,7 @@ returns-in_err-read-2-clause-only g c = only_then c.read.ensures.only c.read-2.e
 
 pub returns-in_err-read-2-clause-read : goal.returns-in_err-read-2-clause-read
 returns-in_err-read-2-clause-read g c clean T at collector numbers =
-    let refused = c.in_err-read-2.ensures.read clean T ((c.read.ensures.only).stands (early c.read-2.ensures.only clean) T at) in
+    let refused = c.in_err-read-2.ensures.read clean T ((c.read.ensures.only).stands (early c.read-2.ensures.only clean) _ T at) in
     refuses_farm c.args.edition c.from_residual-in_err-read-2.result T c.in_err-read-2.field-0.0 c.from_residual-in_err-read-2.ensures.1 (λ bad F good is. refused.1 bad F.boards (words_in c.args.edition F good).boards (spelled c.args.edition F T is).boards)
 
 pub returns-in_err-read-3-clause-only : goal.returns-in_err-read-3-clause-only
@@ -22,7 +22,7 @@ returns-in_err-read-3-clause-only g c = only_then (only_then c.read.ensures.only
 
 pub returns-in_err-read-3-clause-read : goal.returns-in_err-read-3-clause-read
 returns-in_err-read-3-clause-read g c clean T at collector numbers =
-    let refused = c.in_err-read-3.ensures.read clean T ((only_then c.read.ensures.only c.read-2.ensures.only).stands (early c.read-3.ensures.only clean) T at) in
+    let refused = c.in_err-read-3.ensures.read clean T ((only_then c.read.ensures.only c.read-2.ensures.only).stands (early c.read-3.ensures.only clean) _ T at) in
     refuses_farm c.args.edition c.from_residual-in_err-read-3.result T c.in_err-read-3.field-0.0 c.from_residual-in_err-read-3.ensures.1 (λ bad F good is. refused.1 bad F.jobs (readable_jobs c.args.edition F good) (spelled c.args.edition F T is).jobs)
 
 pub returns-in_err-read-4-clause-only : goal.returns-in_err-read-4-clause-only
@@ -30,7 +30,7 @@ returns-in_err-read-4-clause-only g c = only_then (only_then (only_then c.read.e
 
 pub returns-in_err-read-4-clause-read : goal.returns-in_err-read-4-clause-read
 returns-in_err-read-4-clause-read g c clean T at collector numbers =
-    let refused = c.in_err-read-4.ensures.read clean T ((only_then (only_then c.read.ensures.only c.read-2.ensures.only) c.read-3.ensures.only).stands (early c.read-4.ensures.only clean) T at) in
+    let refused = c.in_err-read-4.ensures.read clean T ((only_then (only_then c.read.ensures.only c.read-2.ensures.only) c.read-3.ensures.only).stands (early c.read-4.ensures.only clean) _ T at) in
     refuses_farm c.args.edition c.from_residual-in_err-read-4.result T c.in_err-read-4.field-0.0 c.from_residual-in_err-read-4.ensures.1 (λ bad F good is. refused.1 bad F.reservations (words_in c.args.edition F good).reservations (spelled c.args.edition F T is).reservations)
 
 pub returns-in_err-read-5-clause-only : goal.returns-in_err-read-5-clause-only
@@ -38,7 +38,7 @@ returns-in_err-read-5-clause-only g c = only_then (only_then (only_then (only_th
 
 pub returns-in_err-read-5-clause-read : goal.returns-in_err-read-5-clause-read
 returns-in_err-read-5-clause-read g c clean T at collector numbers =
-    let refused = c.in_err-read-5.ensures.read clean T ((only_then (only_then (only_then c.read.ensures.only c.read-2.ensures.only) c.read-3.ensures.only) c.read-4.ensures.only).stands (early c.read-5.ensures.only clean) T at) in
+    let refused = c.in_err-read-5.ensures.read clean T ((only_then (only_then (only_then c.read.ensures.only c.read-2.ensures.only) c.read-3.ensures.only) c.read-4.ensures.only).stands (early c.read-5.ensures.only clean) _ T at) in
     refuses_farm c.args.edition c.from_residual-in_err-read-5.result T c.in_err-read-5.field-0.0 c.from_residual-in_err-read-5.ensures.1 (λ bad F good is. refused.1 bad F.kept (words_in c.args.edition F good).kept (spelled c.args.edition F T is).kept)
 
 pub returns-clause-only : goal.returns-clause-only
@@ -50,10 +50,10 @@ returns-clause-read g c clean T at collector numbers =
     let clean_jobs = early c.read-4.ensures.only clean_reservations in
     let clean_boards = early c.read-3.ensures.only clean_jobs in
     let clean_types = early c.read-2.ensures.only clean_boards in
-    let at_types = c.read.ensures.only.stands clean_types T at in
-    let at_boards = c.read-2.ensures.only.stands clean_boards T at_types in
-    let at_jobs = c.read-3.ensures.only.stands clean_jobs T at_boards in
-    let at_reservations = c.read-4.ensures.only.stands clean_reservations T at_jobs in
+    let at_types = c.read.ensures.only.stands clean_types _ T at in
+    let at_boards = c.read-2.ensures.only.stands clean_boards _ T at_types in
+    let at_jobs = c.read-3.ensures.only.stands clean_jobs _ T at_boards in
+    let at_reservations = c.read-4.ensures.only.stands clean_reservations _ T at_jobs in
     let rows : Rows = record {
       types = c.in_ok-read.field-0;
       boards = c.in_ok-read-2.field-0;

@@ -19,5 +19,5 @@ returns-clause-dropped g c clean = on_ok_weaker c.run-6.result (λ ran inside ha
     let six = ran five.4 in (
       six.4,
       drops_all (state g.S.Store c.args.tx.now.conn.now) (state g.S.Store c.run.new.tx.conn.now) (state g.S.Store c.run-2.new.tx.conn.now) (state g.S.Store c.run-3.new.tx.conn.now)
-          (state g.S.Store c.run-4.new.tx.conn.now) (state g.S.Store c.run-5.new.tx.conn.now) (state g.S.Store c.run-6.new.tx.conn.now) has one two three four five six,
+          (state g.S.Store c.run-4.new.tx.conn.now) (state g.S.Store c.run-5.new.tx.conn.now) (state g.S.Store c.run-6.new.tx.conn.now) (has one.2) one two three four five six,
     )) (c.run-6.ensures.ran clean)

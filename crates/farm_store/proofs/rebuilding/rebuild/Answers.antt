@@ -4,15 +4,14 @@ use Rattle.sqlite.specs.State.{HasCleanDisk}
 use Rattle.sqlite.specs.Tree.{Trees}
 use Rattle.farm_types.specs.Farm.{empty_farm, put_rows}
 use Rattle.farm_store.specs.Columns.{rows_of}
-use Rattle.farm_store.specs.Holds.{Holds, IsInside, Stands}
-use Rattle.farm_store.specs.Schema.{HasSixTables}
+use Rattle.farm_store.specs.Holds.{Holds, IsInside, SeesSixTables, Stands}
 use Rattle.farm_store.proofs.Commits.{committed, left_before}
 use Rattle.farm_store.proofs.rebuilding.rebuild.Goals as goal
 use Rattle.farm_store.proofs.rebuilding.rebuild.Goals.{After-commit}
 use Rattle.farm_store.proofs.rebuilding.rebuild.Given.{Over}
 
 -- the commit left what was there before, or the new tables
-stop : (g : Over) (c : After-commit g) (db : Trees) → HasCleanDisk (state g.S.Store c.commit.new.self.0) → HasSixTables (state g.S.Store c.args.conn.now).now.schema → g.S.Store.recovers c.commit.new.self.0.store db
+stop : (g : Over) (c : After-commit g) (db : Trees) → HasCleanDisk (state g.S.Store c.commit.new.self.0) → SeesSixTables (state g.S.Store c.args.conn.now) → g.S.Store.recovers c.commit.new.self.0.store db
     → (state g.S.Store c.args.conn.now).may_leave db ⊎ Holds db (rows_of (put_rows empty_farm c.args.rows.now))
 stop g c db late has leaves =
     let wrote = state g.S.Store c.rebuild_all.new.tx.conn.now in

@@ -21,7 +21,7 @@ row_there rows at t is low =
 pub loop-tagged-init : goal.loop-tagged-init
 loop-tagged-init g c = record {
   goes_on = search rules;
-  put = λ clean T begun. subst (IsInside (state g.S.Store c.args.tx.now.conn.now)) (sym (g.met.R.Stored.is_place.same T)) begun;
+  put = λ clean T begun. subst (IsInside (state g.S.Store c.args.tx.now.conn.now)) (sym ((g.met.R.Stored.is_place Edition.Second).same T)) begun;
 }
 
 pub put-requires-clause-small : goal.put-requires-clause-small
@@ -31,7 +31,7 @@ put-requires-clause-small g c =
 
 pub loop-tagged-preserved : goal.loop-tagged-preserved
 loop-tagged-preserved g c =
-    let p = g.R.Stored.place in
+    let p = g.R.Stored.place Edition.Second in
     let columns = g.R.Stored.columns Edition.Second in
     let rows = untagged c.args.rows.now in
     let at = c.loop-tagged.tagged-index in
@@ -42,7 +42,7 @@ loop-tagged-preserved g c =
           let early = was_clean c.put.ensures.goes_on clean in
           let before = put_at p T (map columns (take at rows)) in
           let after = c.in_ok-put.ensures.put clean before (c.loop-tagged.invariant.put early T begun) in
-          let more = put_more p g.met.R.Stored.is_place columns T rows at row there.1 ∙ ap (λ row. put_at p before (columns row ∷ [])) there.0 in
+          let more = put_more p (g.met.R.Stored.is_place Edition.Second) columns T rows at row there.1 ∙ ap (λ row. put_at p before (columns row ∷ [])) there.0 in
           subst (IsInside (state g.S.Store c.put.new.tx.conn.now)) (sym more) after;
       goes_on = goes_on_then c.loop-tagged.invariant.goes_on c.put.ensures.goes_on;
     }
@@ -51,4 +51,4 @@ pub returns-clause-put : goal.returns-clause-put
 returns-clause-put g c clean T begun =
     let rows = untagged c.args.rows.now in
     let whole = take_all c.loop-tagged.tagged-index rows (omega (arith, length-map c.args.rows.now (λ t. t.row.now))) in
-    subst (λ rows. IsInside (state g.S.Store c.loop-tagged.tx.conn.now) (put_at g.R.Stored.place T (map (g.R.Stored.columns Edition.Second) rows))) whole (c.loop-tagged.invariant.put clean T begun)
+    subst (λ rows. IsInside (state g.S.Store c.loop-tagged.tx.conn.now) (put_at (g.R.Stored.place Edition.Second) T (map (g.R.Stored.columns Edition.Second) rows))) whole (c.loop-tagged.invariant.put clean T begun)

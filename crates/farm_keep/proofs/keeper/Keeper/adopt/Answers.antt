@@ -12,7 +12,7 @@ returns-in-Ok-clause-adopted g c = record {
   clean = c.found.ensures.only.clean;
   ours = c.in-Ok.ensures.ours;
   left = c.found.ensures.only.left;
-  stands = c.found.ensures.only.stands;
+  stands = λ clean. c.found.ensures.only.stands clean _;
   rows = λ clean. (c.in-Ok.ensures.finds clean).rows;
   exact = λ clean. (c.in-Ok.ensures.finds clean).exact;
 }

@@ -2,6 +2,7 @@ use Rattle.std.proofs.Common.{inl, refl, ◌≡◌, ◌++◌, [], ◌∷◌, sym
 use Rattle.sqlite.specs.Held.{state}
 use Rattle.sqlite.specs.State.{CommitsShowing, HasCleanDisk}
 use Rattle.sqlite.proofs.Callers.{given_begin, unchanged_then}
+use Rattle.farm_store.specs.Editions.{table_columns_in}
 use Rattle.farm_store.specs.Holds.{ReadsOnly}
 use Rattle.farm_store.proofs.LeftAlone.{all_shown, failed_left, reads_only, sees, some_shown}
 use Rattle.farm_store.proofs.NextRow.{only_moved}
@@ -41,8 +42,8 @@ returns-in_default-clause-read g c clean T at =
     let sofar = c.rows.invariant.given (omega (arith, moved.survives.clean)) in
     let it = sofar.1.2 in
     let shown = (rw (c.in_ok-row.was, c.in_default.is) at (moved.ok late)) sofar.1.0 [] it.0 it.1 in
-    all_good (g.R.Stored.IsGood c.args.edition) (g.R.Stored.columns c.args.edition) g.R.Stored.place.width it.0 (g.R.Stored.place.rows T) c.rows.all.items it.2
-    (all_shown g.R.Stored.place sofar.1.0 sofar.1.1 was T (sees (state g.S.Store c.args.conn.now) was T sofar.0 at) now it.0 shown)
+    all_good (g.R.Stored.IsGood c.args.edition) (g.R.Stored.columns c.args.edition) (g.R.Stored.place c.args.edition).width it.0 ((g.R.Stored.place c.args.edition).rows T) c.rows.all.items it.2
+    (all_shown (g.R.Stored.place c.args.edition) sofar.1.0 sofar.1.1 was T (sees (table_columns_in c.args.edition) (state g.S.Store c.args.conn.now) was T sofar.0 at) now it.0 shown)
 
 pub returns-in_err-stored-clause-read : goal.returns-in_err-stored-clause-read
 returns-in_err-stored-clause-read g c clean T at =
@@ -57,12 +58,12 @@ returns-in_err-stored-clause-read g c clean T at =
     let it = sofar.1.2 in
     let given = (rw (c.in_ok-row.was, c.in-Some.is) at (moved.ok late)) text [] it.0 it.1 in
     let same = unchanged_then old was (state g.S.Store now) sofar.0 (rw c.in_ok-row.was at (moved.same late)) in
-    let whole = some_shown g.R.Stored.place text sofar.1.1 (state g.S.Store now) T (sees old (state g.S.Store now) T same at) (it.0 ++ row ∷ []) (given_begin g.S.Store text [] now (it.0 ++ row ∷ []) given) in
+    let whole = some_shown (g.R.Stored.place c.args.edition) text sofar.1.1 (state g.S.Store now) T (sees (table_columns_in c.args.edition) old (state g.S.Store now) T same at) (it.0 ++ row ∷ []) (given_begin g.S.Store text [] now (it.0 ++ row ∷ []) given) in
     let good = g.R.Stored.IsGood c.args.edition in
     let columns = g.R.Stored.columns c.args.edition in
     let refused = rw c.rows.invariant.edition at c.in_err-stored.ensures.reads in
-    refuses c.from_residual-in_err-stored.result (λ all. all.items) good columns (g.R.Stored.place.rows T) c.in_err-stored.field-0.0 c.from_residual-in_err-stored.ensures.1
-    (λ known. none_good good columns g.R.Stored.place.width it.0 row (g.R.Stored.place.rows T) whole.0 whole.1 (refused known))
+    refuses c.from_residual-in_err-stored.result (λ all. all.items) good columns ((g.R.Stored.place c.args.edition).rows T) c.in_err-stored.field-0.0 c.from_residual-in_err-stored.ensures.1
+    (λ known. none_good good columns (g.R.Stored.place c.args.edition).width it.0 row ((g.R.Stored.place c.args.edition).rows T) whole.0 whole.1 (refused known))
 
 pub rows-preserved : goal.rows-preserved
 rows-preserved g c =
@@ -77,9 +78,9 @@ rows-preserved g c =
       only = only_moved old was now c.next.result c.rows.invariant.only moved.survives (moved.mode c.rows.invariant.only.autocommit) moved.same moved.kept;
       given = λ clean. let sofar = c.rows.invariant.given (omega (arith, moved.survives.clean)) in
           let it = sofar.1.2 in
-          let more = one_more (g.R.Stored.IsGood c.args.edition) (g.R.Stored.columns c.args.edition) g.R.Stored.place.width (g.met.R.Stored.wide c.args.edition) it.0 c.in-Some.row.now c.rows.all.items c.in_ok-stored.stored it.2 read.0 read.1 in (
+          let more = one_more (g.R.Stored.IsGood c.args.edition) (g.R.Stored.columns c.args.edition) (g.R.Stored.place c.args.edition).width (g.met.R.Stored.wide c.args.edition) it.0 c.in-Some.row.now c.rows.all.items c.in_ok-stored.stored it.2 read.0 read.1 in (
             unchanged_then old was now sofar.0 (rw c.in_ok-row.was at (moved.same clean)),
-            (sofar.1.0, sofar.1.1, (it.0 ++ c.in-Some.row.now ∷ [], (rw (c.in_ok-row.was, c.in-Some.is) at (moved.ok clean)) sofar.1.0 [] it.0 it.1, subst (SoFar (g.R.Stored.IsGood c.args.edition) (g.R.Stored.columns c.args.edition) g.R.Stored.place.width (it.0 ++ c.in-Some.row.now ∷ [])) (sym items) more)),
+            (sofar.1.0, sofar.1.1, (it.0 ++ c.in-Some.row.now ∷ [], (rw (c.in_ok-row.was, c.in-Some.is) at (moved.ok clean)) sofar.1.0 [] it.0 it.1, subst (SoFar (g.R.Stored.IsGood c.args.edition) (g.R.Stored.columns c.args.edition) (g.R.Stored.place c.args.edition).width (it.0 ++ c.in-Some.row.now ∷ [])) (sym items) more)),
           );
       edition = c.in_ok-stored.ensures.edition ∙ c.rows.invariant.edition;
     }

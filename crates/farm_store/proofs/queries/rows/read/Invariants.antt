@@ -3,6 +3,7 @@ use Rattle.sqlite.specs.Given.{HasGiven}
 use Rattle.sqlite.specs.Held.{state}
 use Rattle.sqlite.specs.Order.{Row}
 use Rattle.sqlite.specs.State.{HasCleanDisk, IsUnchanged}
+use Rattle.farm_store.specs.Editions.{table_columns_in}
 use Rattle.farm_store.specs.Holds.{ReadsOnly}
 use Rattle.farm_store.specs.Queries.{AsksFor}
 use Rattle.farm_store.proofs.ReadRows.{SoFar}
@@ -16,7 +17,7 @@ invariant-rows g l =
       same_reference : l.rows.conn.ghost_name ≡ l.initial.rows.conn.ghost_name;
       only : ReadsOnly old now;
       given : HasCleanDisk now → IsUnchanged old now
-          × ((text : List ℕ) × AsksFor g.R.Stored.place text
-          × ((given : List Row) × HasGiven g.S.Store text [] l.rows.conn.now given × SoFar (g.R.Stored.IsGood l.fn.edition) (g.R.Stored.columns l.fn.edition) g.R.Stored.place.width given l.all.items));
+          × ((text : List ℕ) × AsksFor (table_columns_in l.fn.edition) (g.R.Stored.place l.fn.edition) text
+          × ((given : List Row) × HasGiven g.S.Store text [] l.rows.conn.now given × SoFar (g.R.Stored.IsGood l.fn.edition) (g.R.Stored.columns l.fn.edition) (g.R.Stored.place l.fn.edition).width given l.all.items));
       edition : l.reader.edition ≡ l.fn.edition;
     }
