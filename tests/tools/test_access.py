@@ -466,6 +466,16 @@ def test_while_the_desk_is_down_a_session_goes_on_and_none_begins(lab: Lab, held
     ends_in_time(lab, number)
 
 
+def test_a_session_waits_for_a_desk_that_starts(lab: Lab, held: Callable[..., int]) -> None:
+    held("ann", "b2")
+    lab.farm.kill()
+    begun = lab.begin("ann", "b2", "say", "x")
+    time.sleep(2)
+    is_there = begun.poll() is None
+    lab.restart_desk()
+    assert (begun.communicate(timeout=120)[0], is_there) == (b"x\n", True)
+
+
 def test_while_the_desk_hangs_a_session_goes_on(lab: Lab, held: Callable[..., int]) -> None:
     number = held("ann", "b2")
     writer(lab)

@@ -207,6 +207,21 @@ def test_who_is_to_begin_asks_by_itself(made: lookout.Lookout) -> None:
     assert len(made.desk.looks) == 3  # type: ignore[attr-defined]
 
 
+def test_who_is_to_begin_asks_again_for_a_while(monkeypatch: pytest.MonkeyPatch) -> None:
+    monkeypatch.setattr(lookout, "AGAIN", 0.0)
+    asked: List[int] = []
+
+    def asks() -> str:
+        asked.append(len(asked))
+        if len(asked) < 4:
+            raise lookout.NoDesk("late")
+        return "told"
+
+    with pytest.raises(lookout.NoDesk, match="^late$"):
+        lookout.asked_again(asks, -1)
+    assert (lookout.asked_again(asks), len(asked)) == ("told", 4)
+
+
 def test_a_look_of_before_a_session_began_says_nothing_of_its_hold(made: lookout.Lookout) -> None:
     made.shared()
     began = time.monotonic()

@@ -1,14 +1,15 @@
 """What the desk says of the boards: one look for all sessions that want one at about the same time.
 
 Who looks last keeps what came in FOLDER/boards.json, with the moment before it asked, by the clock
-that nobody sets. A session that is to begin asks by itself, since an answer of before doesn't do.
+that nobody sets. A session that is to begin asks by itself, since an answer of before doesn't do,
+and again for a while, since a desk may be busy or just start.
 """
 import contextlib
 import dataclasses
 import json
 import os
 import time
-from typing import Any, Dict, NamedTuple, Optional
+from typing import Any, Callable, Dict, NamedTuple, Optional, TypeVar
 
 from farm_access.site import Site
 from fizgruk import calls, settings
@@ -18,9 +19,12 @@ from fizgruk.errors import Refused, Unreachable
 FRESH = 0.25  # seconds for which one look does for all
 STALE = 1.2  # after which nobody waits for who looks
 TIMEOUT = 1.0
+BEGINS_WITHIN = 10.0  # seconds for which what is to begin asks again where no answer comes
+AGAIN = 0.5
 MOST = 16_000_000
 SEEN, TURN = "boards.json", "boards.turn"
 FREE = "none"
+T = TypeVar("T")
 
 
 class NoDesk(Exception):
@@ -102,6 +106,18 @@ class Lookout:
             if 0 <= time.monotonic() - kept["at"] <= seconds and kept["at"] >= since:
                 return {name: Board(**it) for name, it in kept["boards"].items()}
         return None
+
+
+def asked_again(asks: Callable[[], T], seconds: float = BEGINS_WITHIN) -> T:
+    """What the desk answers, which is asked again for so many seconds where no answer comes."""
+    until = time.monotonic() + seconds
+    while True:
+        try:
+            return asks()
+        except NoDesk:
+            if time.monotonic() > until:
+                raise
+        time.sleep(AGAIN)
 
 
 def is_current(hold: str, board: Optional[Board]) -> bool:

@@ -18,7 +18,8 @@ Lets people to the boards that they hold, and to no others: to a board's console
 of its address, and a lab's own commands, which FILE has. It is what an sshd of its own runs, \
 whatever is asked of that, and nobody gets a shell. A session begins once the one before has \
 nothing left at the board, and ends with its hold, within two seconds, with all that it started; \
-while the desk is down a session goes on and none begins. Jobs go by the same locks ('run').
+while the desk is down a session goes on and none begins: one asks for ten seconds. Jobs go by \
+the same locks ('run').
 A board's ways are the tables '[[ways]]' of FILE that its name fits; '{{TAG}}' in a text is the value \
 of the board's tag 'TAG=VALUE', and '{{board}}' its name. A session's words are 'BOARD ways', \
 'BOARD console', 'BOARD console --watch', 'BOARD console --log', 'BOARD power on', 'off', 'cycle' \

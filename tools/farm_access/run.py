@@ -11,11 +11,10 @@ import os
 import shlex
 import signal
 import sys
-import time
 from typing import Callable, Dict, Optional, Sequence, TypeVar
 
 from farm_access import cage, sessions
-from farm_access.lookout import Lookout, NoDesk
+from farm_access.lookout import Lookout, NoDesk, asked_again
 from farm_access.session import At, told_of, wanted_of
 from farm_access.site import Site
 from farm_access.work import BAD_WORDS, INFRA, NOT_YOURS, Refusal, Work, session_of
@@ -114,14 +113,10 @@ def way(site: Site, words: Sequence[str]) -> int:
 
 def patiently(asks: Callable[[], T]) -> T:
     """What comes once the desk answers: a job that was started is to run."""
-    until = time.monotonic() + PATIENCE
-    while True:
-        try:
-            return asks()
-        except NoDesk as fault:
-            if time.monotonic() > until:
-                raise Refusal(INFRA, str(fault)) from fault
-        time.sleep(1)
+    try:
+        return asked_again(asks, PATIENCE)
+    except NoDesk as fault:
+        raise Refusal(INFRA, str(fault)) from fault
 
 
 def holds_of(words: Sequence[str]) -> Dict[str, str]:

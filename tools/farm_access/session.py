@@ -7,7 +7,7 @@ import tty
 from typing import Any, Iterator, List, NamedTuple, Optional, Sequence, Tuple
 
 from farm_access import cage, keys, lines, record
-from farm_access.lookout import FREE, Board, Lookout
+from farm_access.lookout import FREE, Board, Lookout, asked_again
 from farm_access.power import Call, Step, steps_of
 from farm_access.pump import Pump
 from farm_access.site import AFTER, BadWay, Site, Ways, lacks, whole
@@ -51,7 +51,7 @@ def serve(site: Site) -> int:
         raise Refusal(NOT_YOURS, "your key is nobody's any more, or of two")
     wanted = wanted_of(os.environ.get("SSH_ORIGINAL_COMMAND", ""))
     lookout = Lookout(site)
-    board = lookout.look().get(wanted.board)
+    board = asked_again(lookout.look).get(wanted.board)
     if board is None:
         raise Refusal(NOT_YOURS, f"there is no board {wanted.board}")
     ways = site.ways_of(board.name, board.tags)
@@ -75,7 +75,7 @@ def hold_of(lookout: Lookout, board: Board, person: str, is_admin: bool) -> str:
     """The hold by which a person is let in."""
     if is_admin:
         return board.hold or f"admin {person}"
-    if board.hold and lookout.owner_of(board.hold) == person:
+    if board.hold and asked_again(lambda: lookout.owner_of(board.hold)) == person:
         return board.hold
     who = f"`desk reserve name={board.name}`" if board.holder == FREE else f"{board.holder} has it"
     raise Refusal(NOT_YOURS, f"{board.name} isn't yours now: {who}")

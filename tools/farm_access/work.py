@@ -9,7 +9,7 @@ from typing import Callable, Dict, NoReturn, Optional, Sequence
 
 from farm_access import cage, sessions
 from farm_access.boardlock import BoardLock
-from farm_access.lookout import Lookout, NoDesk, is_current
+from farm_access.lookout import Board, Lookout, NoDesk, asked_again, is_current
 from farm_access.sessions import Session
 from farm_access.site import AFTER, Site, whole
 from farm_dispatch import cages
@@ -87,7 +87,7 @@ class Work:
             self.looked = now
             self.own.beat()
             try:
-                told = self.lookout.boards() if at_once else self.lookout.shared(self.began)
+                told = self.boards() if at_once else self.lookout.shared(self.began)
                 holds = self.session.holds.items()
                 self.is_held = all(is_current(hold, told.get(board)) for board, hold in holds)
             except NoDesk:
@@ -95,6 +95,14 @@ class Work:
                     raise
                 self.is_held = True
         return self.is_held
+
+    def boards(self) -> Dict[str, Board]:
+        """The boards as the desk has them now."""
+        def asked() -> Dict[str, Board]:
+            self.own.beat()
+            return self.lookout.boards()
+
+        return asked_again(asked)
 
     def wait(self, seconds: float) -> None:
         """Waits a moment for a board, for which it has waited for so long."""
@@ -132,7 +140,7 @@ class Work:
     def after(self, board: str) -> bool:
         """What the lab runs between two parties, in a cage too. Returns whether the board may be
         used."""
-        seen = self.lookout.boards().get(board)
+        seen = self.boards().get(board)
         command = self.site.ways_of(board, seen.tags if seen else {}).get(AFTER)
         if not command:
             return True
