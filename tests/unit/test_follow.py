@@ -253,6 +253,15 @@ def test_a_log_that_has_other_frames_where_some_were_shipped_lost_commands(pair:
         pair.ship()
 
 
+def opened_below(folder: pathlib.Path) -> int:
+    """How many files this process has open there. (Those that other tests left open are closed at any time.)"""
+    found = 0
+    for it in os.listdir("/proc/self/fd"):
+        with contextlib.suppress(FileNotFoundError):
+            found += os.readlink(f"/proc/self/fd/{it}").startswith(f"{folder}/")
+    return found
+
+
 def test_a_log_that_cant_be_begun_anew_leaves_no_file_open(pair: Pair, monkeypatch: pytest.MonkeyPatch) -> None:
     pair.changes(1, 1)
     pair.ship()
@@ -262,11 +271,11 @@ def test_a_log_that_cant_be_begun_anew_leaves_no_file_open(pair: Pair, monkeypat
     def fails(folder: str) -> None:
         raise OSError(5, "Input/output error")
 
-    before = len(os.listdir("/proc/self/fd"))
+    before = opened_below(pair.folder)
     monkeypatch.setattr(disk, "sync_folder", fails)
     with pytest.raises(OSError, match="Input/output error"):
         pair.ship()
-    assert len(os.listdir("/proc/self/fd")) == before
+    assert opened_below(pair.folder) == before > 0
 
 
 # ---- what a follower tells
