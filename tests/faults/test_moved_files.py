@@ -101,6 +101,7 @@ def test_second_program(farm: Farm, folder: str) -> None:
 
 
 @pytest.mark.slow(15)
+@pytest.mark.timeout(1800)
 def test_carried_log(farm: Farm, folder: str) -> None:
     """The serving goes on where it has carried the log into the file itself."""
     before = os.stat(farm.db).st_mtime_ns

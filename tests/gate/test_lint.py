@@ -28,7 +28,7 @@ def files_of_the_project() -> list[pathlib.Path]:
     try:
         listed = subprocess.run(words, capture_output=True, text=True, check=True).stdout.splitlines()
     except (OSError, subprocess.CalledProcessError):
-        listed = [str(it.relative_to(TOP)) for it in pathlib.Path(TOP).rglob("*") if "out" not in it.parts]
+        listed = [str(it.relative_to(TOP)) for it in pathlib.Path(TOP).rglob("*") if not {"out", "__pycache__"} & set(it.parts)]
     return [it for it in (pathlib.Path(TOP, name) for name in listed) if it.is_file()]
 
 
@@ -61,6 +61,7 @@ def test_shellcheck_finds_nothing_in_shell_scripts() -> None:
 
 
 @pytest.mark.slow(40)
+@pytest.mark.timeout(3600)
 def test_mypy_finds_no_wrong_type() -> None:
     python = wants_python_with("mypy")
     path = ":".join(os.path.join(TOP, it) for it in IMPORTED)

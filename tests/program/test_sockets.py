@@ -3,21 +3,23 @@ from __future__ import annotations
 
 import asyncio
 import contextlib
+import functools
 import json
+import os
 import resource
 import select
 import signal
 import socket
 import subprocess
 import time
-from typing import Any, Callable, Iterator, Optional, Set
+from typing import Any, Callable, Iterator, List, Optional, Set
 
 import pytest
 
 from libraries import made
 from orders import Orders, request
 from ports import free_port
-from served import STARTED, TOP
+from served import STARTED, TOP, wait_until
 from wants import lacks
 
 FIRST_TYPE = request("POST", "/types", {"x-user": "admin", "content-length": "14"}, b'{"name":"bbb"}')
@@ -92,6 +94,9 @@ def start(orders: Orders) -> Start:
     def started(
         connections: int, limit: Optional[int] = None, descriptors: Optional[int] = None, reservations: int = 0
     ) -> Desk:
+        for end in ("", "-wal"):
+            with contextlib.suppress(FileNotFoundError):  # (what a try that took too long has left)
+                os.remove(orders.path(orders.db + end))
         orders.init()
         if reservations:
             orders.fill(reservations)
@@ -127,6 +132,24 @@ def is_open_in_time(client: socket.socket, began: float) -> bool:
     return is_open(client) or time.monotonic() > began + LIMIT
 
 
+def in_time(test: Callable[..., None]) -> Callable[..., None]:
+    """Tries a test again that failed once its clients may have been let go for their time's sake."""
+
+    @functools.wraps(test)
+    def tried(*words: Any, **more: Any) -> None:
+        for left in (3, 2, 1, 0):
+            began = time.monotonic()
+            try:
+                return test(*words, **more)
+            except (AssertionError, ConnectionError):
+                if not left or time.monotonic() < began + LIMIT:
+                    raise
+        return None
+
+    return tried
+
+
+@in_time
 def test_silent_client(start: Start) -> None:
     """Whoever's request is there is answered, at the system's moment; a silent client keeps nobody waiting."""
     desk = start(3)
@@ -140,6 +163,7 @@ def test_silent_client(start: Start) -> None:
     desk.ends()
 
 
+@in_time
 def test_request_in_parts(start: Start) -> None:
     """A request that comes in three parts is answered once it is whole, and no other is kept from its answer."""
     desk = start(3)
@@ -153,6 +177,7 @@ def test_request_in_parts(start: Start) -> None:
     desk.ends()
 
 
+@in_time
 def test_largest_request(start: Start) -> None:
     """A head and a body of the most bytes, whose last byte comes late, wait aside until it came."""
     desk = start(2)
@@ -218,16 +243,22 @@ def test_more_than_was_asked_for(start: Start) -> None:
 def test_own_address(start: Start) -> None:
     """Of what listens at its port, as the system lists it, all is at 127.0.0.1."""
     desk = start(1)
-    found = []
-    for table in ("/proc/net/tcp", "/proc/net/tcp6"):
-        with open(table, encoding="ascii") as file:
-            rows = [line.split() for line in file][1:]
-        found += [row[1] for row in rows if row[3] == "0A" and row[1].endswith(f":{desk.port:04X}")]
-    assert found == [f"0100007F:{desk.port:04X}"]
+
+    def listening() -> List[str]:
+        found = []
+        for table in ("/proc/net/tcp", "/proc/net/tcp6"):
+            with open(table, encoding="ascii") as file:
+                rows = [line.split() for line in file][1:]
+            found += [row[1] for row in rows if row[3] == "0A" and row[1].endswith(f":{desk.port:04X}")]
+        return found
+
+    # (the system may leave out a row, or tell it twice, while others' connections come and go)
+    wait_until("it listens there alone", lambda: listening() == [f"0100007F:{desk.port:04X}"], 20)
     assert answered(desk.client(FIRST_TYPE)) == DONE
     desk.ends()
 
 
+@in_time
 def test_behind_line_ends(start: Start) -> None:
     """Whoever sends more than 256 bytes of line ends is let go before a silent client that came earlier; behind
     256 a request is answered."""
@@ -241,6 +272,7 @@ def test_behind_line_ends(start: Start) -> None:
     desk.ends()
 
 
+@in_time
 def test_answer_that_waits(start: Start) -> None:
     """A list of ten million bytes, more than the system holds for a client, waits aside for one that reads it late,
     and nobody waits with it: whoever comes behind is answered before a silent client is let go. The serving ends
@@ -273,6 +305,7 @@ def test_without_poll(start: Start, folder: str, monkeypatch: pytest.MonkeyPatch
 
 
 @pytest.mark.slow(20)
+@in_time
 def test_client_that_is_too_slow(start: Start) -> None:
     """A client that sends a byte now and then is let go, 10 seconds after it came at the soonest, and the next one
     is answered before."""
@@ -284,7 +317,8 @@ def test_client_that_is_too_slow(start: Start) -> None:
     for byte in FIRST_TYPE[40:]:
         if select.select([slow], [], [], 3)[0]:
             break
-        slow.sendall(bytes([byte]))
+        with contextlib.suppress(ConnectionError):  # (it may be let go just now)
+            slow.sendall(bytes([byte]))
     let_go(slow)
     assert time.monotonic() - begun >= 10
     desk.ends()
@@ -300,7 +334,8 @@ def test_too_slow_without_poll(start: Start, folder: str, monkeypatch: pytest.Mo
     slow = desk.client(b"GET /status HTTP/1.1\r\nx-filler: ")
     behind = desk.client(LOOK)
     while time.monotonic() < begun + 100 and not select.select([slow], [], [], 0.1)[0]:
-        slow.sendall(b"x")
+        with contextlib.suppress(ConnectionError):  # (it may be let go just now)
+            slow.sendall(b"x")
     assert time.monotonic() < begun + 100
     assert answered(behind).startswith(b"HTTP/1.1 200 ")
     desk.ends()
@@ -374,6 +409,7 @@ def test_crowd_that_drips(start: Start) -> None:
 
 
 @pytest.mark.slow(30)
+@pytest.mark.timeout(1800)
 @pytest.mark.usefixtures("many_descriptors")
 def test_busy_crowd(start: Start) -> None:
     """Five hundred clients at once, each with sixteen commands under keys of their own: each is done once, and

@@ -62,7 +62,7 @@ def test_page(program: str, folder: str) -> None:
     assert script.count("\nsame ") >= 10 and SERVES[:8] in script
     ran = subprocess.run(
         ["sh", "-c", script.replace("8080", str(free_port()))], cwd=folder, capture_output=True, text=True, check=False,
-        timeout=120, env=environment(PROGRAM=program),
+        timeout=500, env=environment(PROGRAM=program),
     )
     assert ran.returncode == 0, ran.stdout + ran.stderr
     assert '"code"' not in ran.stdout

@@ -223,9 +223,15 @@ def test_a_command_takes_five_milliseconds_more_at_most_in_processor_time(make_d
     line, fields = door.site.connection()
 
     def spent() -> float:
-        with open(f"/proc/{door.process.pid}/stat", encoding="ascii") as stat:
-            parts = stat.read().rpartition(")")[2].split()
-        return (int(parts[11]) + int(parts[12])) / os.sysconf("SC_CLK_TCK")
+        """But for what the looks at the desk took, which the first thread that it started does."""
+        def ticks(place: str) -> int:
+            with open(f"{place}/stat", encoding="ascii") as stat:
+                parts = stat.read().rpartition(")")[2].split()
+            return int(parts[11]) + int(parts[12])
+
+        own = f"/proc/{door.process.pid}"
+        looks = os.listdir(f"{own}/task")[1]  # (they stand in the order in which they began)
+        return (ticks(own) - ticks(f"{own}/task/{looks}")) / os.sysconf("SC_CLK_TCK")
 
     before = spent()
     for _ in range(80):

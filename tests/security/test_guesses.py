@@ -112,15 +112,15 @@ def test_an_address_that_guesses_is_shut_out_and_others_work_on(machine: Machine
     machine.run("sh", "-c", SET_UP)
 
     def asks(last: int, password: str = "right") -> str:
-        curl = ["curl", "-sk", "-m", "5", "--interface", f"192.0.2.{last}", "-u", f"ann:{password}", "-o", "/dev/null"]
+        curl = ["curl", "-sk", "-m", "60", "--interface", f"192.0.2.{last}", "-u", f"ann:{password}", "-o", "/dev/null"]
         words = [*curl, "-w", "%{http_code}", "--resolve", "farm.test:443:192.0.2.1", "https://farm.test/queue"]
         return machine.run("ip", "netns", "exec", "outside", *words, check=False).stdout
 
     machine.wait("fail2ban", "sh", "-c", "fail2ban-client status farm-site 2> /dev/null | grep 'Currently banned:.0'")
     assert [asks(2), asks(3)] == ["200", "200"]
     machine.write("/tmp/guess.py", GUESS)
-    told, late = machine.run("ip", "netns", "exec", "outside", "python3", "/tmp/guess.py", "25").stdout.split()
-    assert int(told) < 150 and late == "0", "it was told so often, and in its last ten seconds not once"
+    told, late = machine.run("ip", "netns", "exec", "outside", "python3", "/tmp/guess.py", "45").stdout.split()
+    assert int(told) < 300 and late == "0", "it was told so often, and in its last ten seconds not once"
     assert asks(2) == "000", "also with the right password"
     assert asks(3) == "200", "another address"
     assert "192.0.2.2" in machine.run("fail2ban-client", "status", "farm-site").stdout

@@ -201,8 +201,9 @@ def test_a_job_reads_no_password_no_farm_and_no_other_jobs_folder(lab: MachineLa
 
 
 def test_what_a_job_leaves_behind_is_dead_before_its_board_is_given_on(lab: MachineLab) -> None:
-    number = lab.submit(f"{AWAY}\nsleep 8; echo left; exit 3")
+    number = lab.submit(f"{AWAY}\nwhile [ ! -e go ]; do sleep 0.2; done; echo left; exit 3")
     lab.machine.wait("it is away", "pgrep", "-f", GONE_AWAY)
+    lab.machine.run("touch", f"{PLACE}/jobs/{number}/go")
     assert lab.finished(number) == "Incomplete"
     assert lab.processes(GONE_AWAY) == [] and "left" in lab.log(number)
 
@@ -210,8 +211,9 @@ def test_what_a_job_leaves_behind_is_dead_before_its_board_is_given_on(lab: Mach
 @pytest.mark.parametrize("signal", ["KILL", "STOP"])
 def test_a_job_that_ends_or_stops_what_runs_it_ends(lab: MachineLab, signal: str) -> None:
     """Stopped it answers systemd's watchdog no more."""
-    number = lab.submit(f"{AWAY}\nsleep 8; echo began; kill -{signal} $PPID; sleep 300")
+    number = lab.submit(f"{AWAY}\nwhile [ ! -e go ]; do sleep 0.2; done; echo began; kill -{signal} $PPID; sleep 300")
     lab.machine.wait("it is away", "pgrep", "-f", GONE_AWAY)
+    lab.machine.run("touch", f"{PLACE}/jobs/{number}/go")
     lab.said(number, "began")
     until = time.monotonic() + 90
     while lab.processes(GONE_AWAY):
@@ -274,7 +276,7 @@ def test_a_folder_that_grows_unseen_ends_its_job(lab: MachineLab) -> None:
     lab.machine.write("/etc/farm/desk.ini", "[dispatch]\nfolder_limit = 1 MB\n")
     lab.machine.run("systemctl", "restart", "farm-dispatch")
     try:
-        number = lab.submit("mkdir -m 700 own; head -c 5000000 /dev/zero > own/x; sleep 60")
+        number = lab.submit("mkdir -m 700 own; head -c 5000000 /dev/zero > own/x; sleep 600")
         assert lab.finished(number) == "Incomplete"
         assert "the folder limit of 1 MB is over: SIGTERM" in lab.log(number)
     finally:

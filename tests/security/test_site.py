@@ -234,13 +234,19 @@ def test_a_wrong_password_waits_and_a_right_one_doesnt(site: Site) -> None:
 def test_one_address_has_so_many_connections(farm: Farm, make_site: Callable[..., Site]) -> None:
     """With fewer of them, and guesses that wait long, so that these are all there at once."""
     site = make_site(farm, ("farm_connections 200", "farm_connections 4"), ("auth_delay 1s", "auth_delay 5s"))
-    lines = [line_to(site) for _ in range(4)]
-    for line in lines:
-        line.sendall(b"GET /queue HTTP/1.1\r\nhost: localhost\r\n\r\n")
-    time.sleep(0.5)
-    assert site.said("/queue")[0] == 429
-    for line in lines:
-        line.close()
+
+    def is_refused() -> bool:
+        """Whether a fifth is, while four are there (which on a slow machine may have had their answers)."""
+        lines = [line_to(site) for _ in range(4)]
+        for line in lines:
+            line.sendall(b"GET /queue HTTP/1.1\r\nhost: localhost\r\n\r\n")
+        time.sleep(0.5)
+        status = site.said("/queue")[0]
+        for line in lines:
+            line.close()
+        return bool(status == 429)
+
+    wait_until("the fifth is refused", is_refused)
 
 
 def test_one_users_commands_without_end_are_refused_and_anothers_and_looks_are_not(
@@ -248,8 +254,8 @@ def test_one_users_commands_without_end_are_refused_and_anothers_and_looks_are_n
 ) -> None:
     """A site that takes fewer, so that few commands are many."""
     site = make_site(farm, ("rate=2r/s", "rate=1r/m"), ("burst=150 delay=100", "burst=6 delay=6"))
-    statuses = [site.said(*RESERVE, "/reservations")[0] for _ in range(20)]
-    assert statuses == [200] * 7 + [429] * 13
+    statuses = [site.said(*RESERVE, "/reservations")[0] for _ in range(12)]
+    assert statuses == [200] * 7 + [429] * 5
     assert site.said(*RESERVE, "/reservations")[2] == {"code": 429, "text": "Too Many Requests"}
     assert reserved(farm) == 7
     assert [site.said("/queue")[0] for _ in range(10)] == [200] * 10, "her looks"
@@ -332,7 +338,7 @@ def test_many_half_heads_shut_nobody_out_for_long(hasty: Site) -> None:
         lines.append(line)
     assert len(lines) > 400
     try:
-        wait_until("an answer", lambda: hasty.curl("-m", "2", "-o", "/dev/null", "/") == 0, 30)
+        wait_until("an answer", lambda: hasty.curl("-m", "10", "-o", "/dev/null", "/") == 0, 45)
     finally:
         for line in lines:
             line.close()

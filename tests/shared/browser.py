@@ -128,8 +128,9 @@ class Page:
         return self.browser.do(method, self.session, **parameters)
 
     def go(self, address: str) -> None:
+        self.ask("void (window.isLeft = true)")
         self.do("Page.navigate", url=address)
-        there = "location.href !== 'about:blank' && document.readyState"
+        there = "!window.isLeft && location.href !== 'about:blank' && document.readyState"
         wait_until(f"{address} is there", lambda: bool(self.ask(there) == "complete"))
 
     def resize(self, wide: int, high: int) -> None:

@@ -47,11 +47,17 @@ class Starter:
         assert self.process.stdin and self.process.stdout
         with tempfile.TemporaryDirectory() as folder:
             files = [write(folder, name, text) for name, text in (("in", given), ("out", ""), ("err", ""))]
-            self.process.stdin.write(f"{json.dumps([words, surroundings, files])}\n")
-            self.process.stdin.flush()
-            ended = select.select([self.process.stdout], [], [], LIMIT)[0]
-            assert ended, f"desk {' '.join(words)}: not within {LIMIT} s"
-            status = int(self.process.stdout.readline())
+            try:
+                self.process.stdin.write(f"{json.dumps([words, surroundings, files])}\n")
+                self.process.stdin.flush()
+                ended = select.select([self.process.stdout], [], [], LIMIT)[0]
+                assert ended, f"desk {' '.join(words)}: not within {LIMIT} s"
+                status = int(self.process.stdout.readline())
+            except BaseException:
+                # (its status would be taken for the next call's)
+                self.process.kill()
+                starter.cache_clear()
+                raise
             return status, read(files[1]), at_ease(read(files[2]))
 
 

@@ -180,7 +180,7 @@ class Machine:
         for pid in self._children():
             with contextlib.suppress(ProcessLookupError):
                 os.kill(pid, signal.SIGKILL)
-        self.process.wait(timeout=30)
+        self.process.wait(timeout=PATIENCE)
         self.log.close()
         script = 'mount -t cgroup2 cgroup2 "$1" && find "$1/$2" -depth -type d -exec rmdir {} + || :'
         words: Sequence[str] = ["unshare", "--mount", "--propagation", "private", "sh", "-c", script, "sh"]

@@ -93,6 +93,7 @@ class Site:
             ("/var/log/nginx/farm-guesses.log", f"{self.folder}/guesses.log"),
             ("/var/log/farm/audit.log", f"{self.folder}/audit.log"),
             HEADS,
+            ("keepalive_timeout 20s", "keepalive_timeout 300s"),
             *changes,
         ]:
             assert old in site, f"the example has no {old}"

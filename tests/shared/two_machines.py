@@ -2,6 +2,7 @@
 systemctl of its own starts and stops as systemd would, and the standby's folder at a place of its own."""
 from __future__ import annotations
 
+import contextlib
 import json
 import os
 import re
@@ -40,8 +41,12 @@ with open(f"{{place}}/asked", "a") as asked:
 for unit in words[1:]:
     if unit not in units:
         continue
-    if words[0] in ("stop", "disable") and running(unit):
-        os.kill(running(unit), signal.SIGTERM)
+    number = running(unit)
+    if words[0] in ("stop", "disable") and number:
+        try:
+            os.kill(number, signal.SIGTERM)
+        except ProcessLookupError:
+            pass
         while running(unit):
             time.sleep(0.02)
     if words[0] in ("start", "enable") and not running(unit):
@@ -90,7 +95,7 @@ class Machine:
             line = re.sub(rf"{there}(?![\w-])", here, line)
         path = f"{os.path.join(self.place, 'bin')}:{os.environ['PATH']}"
         return subprocess.run(
-            ["sh", "-c", line], capture_output=True, text=True, check=False, timeout=120, env=environment(PATH=path)
+            ["sh", "-c", line], capture_output=True, text=True, check=False, timeout=300, env=environment(PATH=path)
         )
 
     def pid(self, unit: str) -> int:
@@ -115,7 +120,8 @@ class Machine:
         """Power is lost: all that runs here is killed at once."""
         for unit in ("farm", "farm-standby"):
             if self.is_running(unit):
-                os.kill(self.pid(unit), signal.SIGKILL)
+                with contextlib.suppress(ProcessLookupError):  # (it may end by itself meanwhile)
+                    os.kill(self.pid(unit), signal.SIGKILL)
                 wait_until(f"the end of {unit}", lambda: not self.is_running(unit))
 
     def boot(self) -> None:

@@ -21,6 +21,8 @@ from desks import write
 from served import Board, Farm, Tool, read, wait_until
 
 HOUR = 3600
+# What farm-watch tells where the desk takes longer than its five seconds for an answer.
+SLOW = re.compile(r"farm-watch: (no answer from the desk at \S+: timed out|it goes on)\n")
 BOARDS: Sequence[Board] = [("b1", "bbb", ["hdmi"]), ("b2", "bbb", []), ("b3", "ccc", [])]
 SENDMAIL = """#!/bin/sh
 # A sendmail that keeps what it is given, or refuses it, or kills a process then.
@@ -79,8 +81,9 @@ class Mailbox:
         if process is not None:
             os.replace(write(self.folder, "to-kill", str(process)),
                        os.path.join(self.folder, "kill"))
-        elif os.path.exists(os.path.join(self.folder, "kill")):
-            os.unlink(os.path.join(self.folder, "kill"))
+        else:
+            with contextlib.suppress(FileNotFoundError):
+                os.unlink(os.path.join(self.folder, "kill"))
 
     def texts(self, kind: str = "mail") -> List[str]:
         """What was brought, each time. (A file has its name once it is whole, and isn't read again.)"""
@@ -256,6 +259,10 @@ class Watched:
         seen = read(os.path.join(self.folder, "output")).count("sees ")
         self.tool = Tool(self.words(*more), self.folder)
         wait_until("a first look", lambda: self.tool.output().count("sees ") > seen)
+
+    def errors(self) -> str:
+        """What it tells on a machine that isn't as slow as that."""
+        return SLOW.sub("", self.tool.errors())
 
     def looked(self, count: int = 1) -> None:
         """Waits for whole looks that begin from now on."""

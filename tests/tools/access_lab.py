@@ -39,7 +39,8 @@ from farm_access.main import main
 sys.exit(main())
 """
 # A session whose hold has ended has longer to end by itself: a machine that is busy gives it less of that time.
-SLOWLY = "from farm_access import sessions; sessions.GRACE = 3.0"
+# And one that begins waits longer for the desk.
+SLOWLY = "from farm_access import lookout, sessions; sessions.GRACE = 10.0; lookout.asked_again.__defaults__ = (30.0,)"
 # Runs the line `run` of a job's text.
 RUNS = """\
 #!/bin/sh
@@ -188,6 +189,7 @@ class Lab:
             text.replace("Port 2222", f"Port {self.port}\nListenAddress 127.0.0.1")
             .replace("/var/lib/farm-access/ssh_host_ed25519_key", self.path("hostkey"))
             .replace("/usr/bin/farm-access", self.access)
+            .replace("LoginGraceTime 60", "LoginGraceTime 300")
             .replace("AllowUsers board", f"AllowUsers {account}")
             .replace("CommandUser board", f"CommandUser {account}")
         )

@@ -16,6 +16,7 @@ import time
 from typing import Any, Callable, Dict, Iterator, List, Optional, Sequence, Tuple
 
 import pytest
+from farm_dispatch import cages
 from served import MODULES, PATIENCE, STARTED, Board, Farm, Tool, environment, read, wait_until
 
 # Runs the line `run = '..'` of a job's text, and notes that it began and ended.
@@ -162,7 +163,9 @@ class Lab:
         """The process that runs a job's command."""
         words = f"farm_dispatch.runner\0{os.path.join(place or self.place, 'groups', str(number))}\0"
         found = [int(it) for it in os.listdir("/proc") if it.isdigit() and words in read_words(it)]
-        return min(found, default=None)
+        # (its keeper, which it forked, has the same words)
+        found.sort(key=lambda it: (int(cages.started_at(it) or 0), it))
+        return found[0] if found else None
 
     def kill_runner(self, number: int, place: str = "") -> None:
         process = wait_until("its runner is there", lambda: self.runner(number, place))

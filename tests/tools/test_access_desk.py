@@ -9,7 +9,7 @@ from typing import Any, Iterator, List
 import access_lab
 import pytest
 from access_lab import PYTHON, Lab, until
-from served import STARTED, TOOLS, TOP, Farm
+from served import PATIENCE, STARTED, TOOLS, TOP, Farm, read, wait_until
 
 pytestmark = [pytest.mark.xdist_group("access"), pytest.mark.slow(60)]
 NOT_YOURS, LOST = 5, 6
@@ -73,7 +73,7 @@ def begun(lab: Lab, *words: str) -> "subprocess.Popen[bytes]":
 def package(lab: Lab, lines: str) -> Any:
     """What lines of Python leave in `said`."""
     text = PROGRAM.format(source=os.path.join(TOP, "python/src"), server=lab.farm.server, lines=lines)
-    tried = lab.try_words([*desk_words(lab)[:4], PYTHON, "-c", text], 60)
+    tried = lab.try_words([*desk_words(lab)[:4], PYTHON, "-c", text], PATIENCE)
     assert tried.status == 0, tried.errors
     return json.loads(tried.output)
 
@@ -82,8 +82,7 @@ def test_ways_and_power_and_console(lab: Lab) -> None:
     lab.reserve("ann", "b1")
     assert desk(lab, "ways", "b1").output.decode().splitlines()[0] == "console"
     assert desk(lab, "power", "b1", "cycle").status == 0
-    with open(lab.path("power"), encoding="utf-8") as file:
-        assert file.read().splitlines() == ["3 off", "3 on"]
+    wait_until("both", lambda: read(lab.path("power")).splitlines() == ["3 off", "3 on"])
     line = begun(lab, "console", "b1")
     assert line.stdin and line.stdout
     line.stdin.write(b"hello")

@@ -13,7 +13,7 @@ from typing import Any, Iterator
 import access_lab
 import pytest
 from access_lab import PYTHON, Lab, until
-from served import STARTED, TOP, Farm
+from served import PATIENCE, STARTED, TOP, Farm
 from test_boards_run import wants_way
 
 pytestmark = [pytest.mark.xdist_group("access"), pytest.mark.slow(60)]
@@ -120,7 +120,10 @@ def test_what_a_job_leaves_is_gone_before_the_next_one_s_first_byte(lab: Lab) ->
     nasty = f"{PYTHON} {access_lab.HERE}/access_nasty.py {lab.path('b2.tty')} JOBS 0.01"
     number = submit(lab, f"{nasty} & until grep -q {b'JOBS'.hex()} {lab.path('got', 'b2')}; do sleep 0.1; done")
     assert ended(lab, number) == "Complete"
-    until(lambda: time.time() > lab.got("b2")[-1].at + 1)  # (all that reached the board is written)
+    board = os.open(lab.path("b2.tty"), os.O_WRONLY | os.O_NOCTTY)
+    os.write(board, b"END")
+    os.close(board)
+    until(lambda: lab.text("b2").endswith(b"END"))  # (all that came before is written)
     before = lab.text("b2")
     held = lab.reserve("ann", "b2")
     line = lab.begin("ann", "b2", "nasty", "ann", "0.01")
@@ -178,7 +181,7 @@ def test_a_job_waits_for_the_desk(lab: Lab) -> None:
     time.sleep(3)
     assert run.poll() is None
     lab.restart_desk()
-    assert run.communicate(timeout=60)[0] == b"ran\n"
+    assert run.communicate(timeout=PATIENCE)[0] == b"ran\n"
     assert run.returncode == 0
     lab.cancel("ann", held)
 
@@ -209,7 +212,7 @@ def test_what_drives_boards_goes_by_their_ways(lab: Lab, way: str) -> None:
     lab.cancel("ann", held)
     assert ended(lab, number) == "Complete", log_of(lab, number)
     said = lab.text("b1")[before:]
-    assert said.count(b"<after>the board is up") == 1 and said.rindex(b"ann") < said.index(b"<after>"), said
+    assert said.count(b"<after>the board is up") == 1 and said.rfind(b"ann") < said.index(b"<after>"), said
     assert way == "lava" or b"typed by a test" in said
     log = lab.session(lab.farm.job(number)["owner"], "b1", "console", "--log")
     assert b"the board is up" in log.output, log

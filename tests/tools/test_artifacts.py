@@ -44,7 +44,7 @@ def no_settings(monkeypatch: pytest.MonkeyPatch) -> None:
 def line_of(lab: Lab, number: int) -> Dict[str, Any]:
     """A job's line of the history, once it is there."""
     lines: List[Dict[str, Any]] = wait_until(
-        f"the line of {number}", lambda: [it for it in jobs_of(lab) if it["job"] == number], 120
+        f"the line of {number}", lambda: [it for it in jobs_of(lab) if it["job"] == number]
     )
     assert len(lines) == 1
     return lines[0]

@@ -18,7 +18,7 @@ import pytest
 from desks import write
 from farm_backup import copying, standby
 from recorded import recorded, synced
-from served import TOOLS, Board, Farm, Tool, environment, read, wait_until
+from served import PATIENCE, TOOLS, Board, Farm, Tool, environment, read, wait_until
 from streamed import (
     FIRST, Kills, Salts, Stream, Worker, backup, demand_prefix, moment_of, still_farm, words_of
 )
@@ -40,6 +40,7 @@ def left_in(folder: str) -> List[str]:
 
 
 @pytest.mark.slow(40)
+@pytest.mark.timeout(2400)
 @pytest.mark.parametrize("seed", range(FARMS))
 def test_each_copy_has_a_prefix_of_the_commands_with_all_that_were_answered(
     make_farm: Made, folder: str, seed: int
@@ -100,6 +101,7 @@ def turns_in(db: str) -> Tuple[int, int]:
 
 
 @pytest.mark.slow(30)
+@pytest.mark.timeout(2400)
 def test_copies_of_files_that_move_are_the_farm_of_a_moment(make_farm: Made, folder: str) -> None:
     """Each is made again until they stood still, and never has one row without the other's turn before."""
     farm = make_farm(BOARDS)
@@ -368,19 +370,20 @@ def test_a_farm_that_grows_fast_is_copied_and_followed(
     senders = [Sender() for _ in range(2)]
     wait_until("a large farm", lambda: os.path.getsize(farm.db) > 30 << 20, 300)
     follower = start_tool(*words_of(farm, "--follow", f"{folder}/standby", "--every", "0.5"))
-    for _ in range(3):
-        before = farm.look("/status")["count"]
-        turns = len(salts.seen)
+    made, turned, until = 0, 0, time.monotonic() + PATIENCE
+    while made < 3 or (not turned and time.monotonic() < until):
+        before, turns = farm.look("/status")["count"], len(salts.seen)
         status, said, errors = backup(farm, f"{folder}/copies", "--verbose")
         assert (status, errors.count("no copy")) == (0, 0)
         assert count_in(f"{said.strip()}/farm.db") >= before
-        assert len(salts.seen) > turns, "its log began anew meanwhile"
+        made, turned = made + 1, turned + (len(salts.seen) > turns)
+    assert turned, "its log began anew while a copy was made"
     since = time.time()
-    wait_until("a standby", lambda: moment_of(f"{folder}/standby") > since, 120)
+    wait_until("a standby", lambda: moment_of(f"{folder}/standby") > since)
     for it in (*senders, salts):
         it.end()
     since = time.time()
-    wait_until("all of it", lambda: moment_of(f"{folder}/standby") > since, 120)
+    wait_until("all of it", lambda: moment_of(f"{folder}/standby") > since)
     follower.send(signal.SIGTERM)
     assert follower.ends() == 0
     assert count_in(os.path.realpath(f"{folder}/standby/farm.db")) == farm.look("/status")["count"]

@@ -140,7 +140,7 @@ def test_ser2net_takes_its_file_and_nobody_else_gets_to_the_socket(tmp_path: Any
     wait_until("the console's socket", line_of.exists)
     wait_until("its mode, which it gets a moment later", lambda: line_of.stat().st_mode & 0o777 == 0o660)
     with socket.socket(socket.AF_UNIX) as line:
-        line.connect(str(line_of))
+        wait_until("that it listens", lambda: line.connect_ex(str(line_of)) == 0)
         line.sendall(b"typed")
         assert os.read(device, 5) == b"typed"
 

@@ -6,6 +6,7 @@ and keeps what jobs deploy in one folder of the machine, below which each dispat
 """
 from __future__ import annotations
 
+import contextlib
 import functools
 import glob
 import gzip
@@ -174,7 +175,8 @@ def board(folder: str) -> Iterator[Board]:
     made = Board(place)
     yield made
     for process in made.processes():
-        os.kill(int(process), signal.SIGKILL)
+        with contextlib.suppress(ProcessLookupError):
+            os.kill(int(process), signal.SIGKILL)
 
 
 # ---- ways to drive the board

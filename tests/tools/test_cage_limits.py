@@ -183,7 +183,7 @@ def test_a_job_that_meets_its_own_limits(make_lab: MakeLab, cgroup: str) -> None
     lab = make_lab()
     beside = lab.farm.submit("sleep 3")
     takes = lab.farm.submit(lab.script("exec python3 -c 'bytearray(300_000_000)'", "takes"))
-    forks = lab.farm.submit(lab.script("for it in $(seq 60); do sleep 5 & done", "forks"))
+    forks = lab.farm.submit(lab.script("for it in $(seq 60); do sleep 100 & done", "forks"))
     tool = dispatch_in(lab, cgroup, "--memory-limit", "100 MB", "--process-limit", "30")
     assert [lab.finished(it) for it in (takes, forks, beside)] == ["Incomplete", "Incomplete", "Complete"]
     assert f"farm-dispatch: {KILLED}: the limit is 100 MB" in log_of(lab, takes)

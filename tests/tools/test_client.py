@@ -25,7 +25,7 @@ from desks import (
 )
 from fizgruk.desk import main as client
 from ports import free_port
-from served import LIBRARY, Farm, Tool, environment, wait_until
+from served import LIBRARY, PATIENCE, Farm, Tool, environment, wait_until
 
 HEAD = "NAME TYPE HEALTH STATE HOLDER CHECKED TAGS\n"
 COLLECTING = """\
@@ -293,10 +293,10 @@ def test_on_a_terminal_a_line_tells_the_place_in_the_queue_and_is_cleared(farm: 
     said = b""
     # (a second may be passed over where the machine stands still)
     while not re.search(rb"in the queue \([1-9][0-9]* s\)", said):
-        assert select.select([line], [], [], 60)[0], f"no progress within a minute: {said!r}"
+        assert select.select([line], [], [], PATIENCE)[0], f"no progress: {said!r}"
         said += os.read(line, 4096)
     passes(farm)
-    assert process.wait(timeout=60) == 0
+    assert process.wait(timeout=PATIENCE) == 0
     with contextlib.suppress(OSError):  # (which is how a terminal ends that nobody has any more)
         while chunk := os.read(line, 4096):
             said += chunk
@@ -313,7 +313,7 @@ def test_on_a_terminal_it_says_which_desk_is_told_or_refuses_and_not_which_is_as
             while chunk := os.read(line, 4096):
                 text += chunk
         os.close(line)
-        assert process.wait(timeout=60) == (0 if words == ["boards"] else 3)
+        assert process.wait(timeout=PATIENCE) == (0 if words == ["boards"] else 3)
         said.append(text.decode())
     assert [(it.count(where), it.startswith(where)) for it in said] == [(1, True), (1, True), (0, False)]
 

@@ -15,7 +15,7 @@ from typing import Callable, List, Sequence
 import pytest
 from completed import completed
 from desks import BOARDS, Ran, at_a_terminal, desk, prints, write
-from served import TOP, Farm
+from served import PATIENCE, TOP, Farm
 
 EXAMPLE = os.path.join(TOP, "examples", "lab.toml")
 
@@ -76,10 +76,10 @@ def test_at_a_terminal_it_asks_once_before_boards_are_retired(
     said = b""
     if answer:
         while b"[y/N]" not in said:
-            assert select.select([line], [], [], 60)[0], said
+            assert select.select([line], [], [], PATIENCE)[0], said
             said += os.read(line, 4096)
         os.write(line, answer)
-    assert process.wait(timeout=60) == status
+    assert process.wait(timeout=PATIENCE) == status
     os.close(line)
     assert said.count(b"[y/N]") == bool(answer)
     assert [farm.board(it)["health"] for it in ("b1", "b2")] == healths

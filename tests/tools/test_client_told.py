@@ -11,10 +11,10 @@ from typing import Callable, Optional, Sequence
 
 import pytest
 from desks import (
-    BOARDS, GROUP, JOB, at_a_terminal, desk, number_of, passes, prints, tell_at, waiting_tool, waits, write,
+    BOARDS, GROUP, JOB, Ran, at_a_terminal, at_ease, desk, number_of, passes, prints, tell_at, waiting_tool, waits, write,
 )
 from fizgruk import job_file
-from served import Farm, Tool, read, wait_until
+from served import PATIENCE, Farm, Tool, read, wait_until
 
 SIGNALS = (signal.SIGINT, signal.SIGTERM, signal.SIGHUP, signal.SIGQUIT)
 EACH_SIGNAL = pytest.mark.parametrize("number", SIGNALS, ids=[it.name for it in SIGNALS])
@@ -30,14 +30,24 @@ def farm(make_farm: Callable[..., Farm]) -> Farm:
 
 def test_a_new_farm_had_no_pass_yet(make_farm: Callable[..., Farm]) -> None:
     told = "desk: no pass yet: is farm-dispatch running?\n"
-    assert desk(make_farm(), "--json", "queue") == (0, '{"queue":[]}\n', told)
+    assert telling(make_farm(), "--json", "queue") == (0, '{"queue":[]}\n', told)
+
+
+def telling(farm: Farm, *words: str) -> Ran:
+    """What a view comes to, once something is told of the clock (which isn't looked at for longer than five seconds)."""
+    def told() -> Optional[Ran]:
+        ran = desk(farm, *words)
+        return ran if ran[2] else None
+
+    found: Ran = wait_until("what is told", told)
+    return found
 
 
 @pytest.mark.parametrize("view", ["queue", "boards", "reservations"])
 def test_a_clock_that_stands_still_is_a_dispatcher_that_doesnt_pass(make_farm: Callable[..., Farm], view: str) -> None:
     farm = make_farm()
     tell_at(farm, time.time() - 3600, "admin", "/types", b'{"name":"bbb"}')
-    told = desk(farm, view)[2]
+    told = telling(farm, view)[2]
     assert re.fullmatch(r"desk: no pass for 1 hour( \d+ minutes?)?: is farm-dispatch running\?\n", told)
     tell_at(farm, time.time(), "dispatcher", "/pass")
     prints(farm, '{"queue":[]}\n', "--json", "queue")
@@ -46,8 +56,8 @@ def test_a_clock_that_stands_still_is_a_dispatcher_that_doesnt_pass(make_farm: C
 def test_a_farms_clock_that_is_ahead_is_told_once_a_command(farm: Farm, folder: str) -> None:
     tell_at(farm, time.time() + 3 * 86400 + 7200, "dispatcher", "/pass")
     told = "desk: the farm's clock is 3 days 1 hour ahead of this machine's: leases won't end until then\n"
-    assert desk(farm, "--json", "queue") == (0, '{"queue":[]}\n', told)
-    assert desk(farm, "reserve") == (0, "1\n", told)
+    assert telling(farm, "--json", "queue") == (0, '{"queue":[]}\n', told)
+    assert desk(farm, "reserve")[:2] == (0, "1\n")
     tool = waiting_tool(farm, folder, "wait", "1", "--every", "0.1")
     place = "reservation 1 is waiting, place 1 of 1 in the queue\n"
     wait_until("it waits", lambda: place in tool.errors())
@@ -98,7 +108,7 @@ def test_a_terminals_keys_and_its_end_give_the_board_back(farm: Farm, key: Optio
     passes(farm)
     read_until(line, b"begun")
     press(line, key)
-    assert (process.wait(timeout=60), farm.board("b1")["holder"]) == (status, "none")
+    assert (process.wait(timeout=PATIENCE), farm.board("b1")["holder"]) == (status, "none")
 
 
 @pytest.mark.parametrize("words", [["with", "hdmi", "--", "true"], ["reserve", "hdmi", "--wait"]])
@@ -106,14 +116,14 @@ def test_a_terminals_end_ends_what_waits(farm: Farm, words: Sequence[str]) -> No
     process, line = at_a_terminal(farm, *words)
     read_until(line, b"in the queue")
     press(line, None)
-    assert (process.wait(timeout=60), farm.look("/queue")["queue"]) == (129, [])
+    assert (process.wait(timeout=PATIENCE), farm.look("/queue")["queue"]) == (129, [])
 
 
 def read_until(line: int, wanted: bytes) -> None:
     """Reads what a client writes on its terminal until this is among it."""
     said = b""
     while wanted not in said:
-        assert select.select([line], [], [], 60)[0], f"{wanted!r}: not within a minute, only {said!r}"
+        assert select.select([line], [], [], PATIENCE)[0], f"{wanted!r} doesn't come, only {said!r}"
         said += os.read(line, 4096)
 
 
@@ -186,7 +196,8 @@ def test_what_takes_no_notice_is_killed_where_its_board_is_lost(farm: Farm, fold
     tool = with_hdmi(farm, folder, "sh", "-c", CHILD % (f"trap 'echo > {told}' TERM", folder, folder))
     wait_until("its child", lambda: is_running(folder, "child"))
     farm.tell("admin", "/reservations/1/cancel")
-    assert (tool.ends(), is_running(folder, "own"), is_running(folder, "child")) == (125, False, False)
+    assert tool.ends() == 125
+    wait_until("the end of both", lambda: not is_running(folder, "own") and not is_running(folder, "child"))
     assert os.path.exists(told), "it was told before"
 
 
@@ -258,7 +269,7 @@ def test_what_goes_over_several_lines_of_a_terminal_is_erased_whole(farm: Farm) 
     read_until(line, b" s)")
     read_until(line, b"\r\x1b[2A\x1b[J")
     press(line, b"\x03")
-    assert process.wait(timeout=60) == 130
+    assert process.wait(timeout=PATIENCE) == 130
 
 
 def test_a_board_that_is_to_be_checked_first_is_told(make_farm: Callable[..., Farm], folder: str) -> None:
@@ -400,4 +411,4 @@ def test_a_desk_that_gives_no_answer_at_first_is_told_before_it_answers(farm: Fa
     tool = waiting_tool(farm, folder, "--json", "queue")
     wait_until("what it tells", lambda: tool.errors().startswith(f"desk: waiting for the desk at {farm.server}: "))
     farm.start()
-    assert (tool.ends(), tool.output(), tool.errors().count("\n")) == (0, '{"queue":[]}\n', 1)
+    assert (tool.ends(), tool.output(), at_ease(tool.errors()).count("\n")) == (0, '{"queue":[]}\n', 1)

@@ -24,13 +24,23 @@ ONE = BOARDS[:1]
 BEATS = "while true; do date +%s%N > {0}.new; mv {0}.new {0}; sleep 0.02; done"
 # Fails where something of an earlier job beats on.
 LISTENS = "one=$(cat {0}); sleep 0.5; test \"$one\" = \"$(cat {0})\""
+# A runner that stops before it has done anything.
+STOPS_FIRST = f"""
+import os, signal, sys
+os.kill(os.getpid(), signal.SIGSTOP)
+sys.path[:0] = {MODULES!r}
+sys.argv = sys.argv[1:]
+from farm_dispatch import runner
+sys.exit(runner.main(sys.argv[2:]))
+"""
 # A dispatcher that dies as soon as it has started a runner, which is slow.
-DIES_AFTER_LAUNCH = """
-was = G.launch
+DIES_AFTER_LAUNCH = starts(STOPS_FIRST) + """
+launched = G.launch
 def launch(self, views):
-    was(self, views)
-    os.kill(self.groups.runners[self.number].pid, signal.SIGSTOP)
-    note(str(self.groups.runners[self.number].pid))
+    launched(self, views)
+    process = self.groups.runners[self.number].pid
+    os.waitpid(process, os.WUNTRACED)
+    note(str(process))
     die()
 G.launch = launch
 """
@@ -563,7 +573,7 @@ def test_upgrade(lab: Lab) -> None:
     members = [{"job": number, "board": board, "type": "bbb"}]
     write(lab.work(number, "about.json"), json.dumps({"owner": "ann", "name": "test", "members": members}))
     holds = lab.script(f"exec 9<> {lab.work(number)}lock\nflock -n 9 || exit 1\ntouch {lab.folder}/held\n{lab.until('open')}\n"
-                       f"echo status 0 > {lab.work(number)}ended\n")
+                       f"echo status 0 > {lab.work(number)}ended.new\nmv {lab.work(number)}ended.new {lab.work(number)}ended\n")
     process = lab.shell(holds)
     wait_until("the lock is held", lambda: os.path.exists(f"{lab.folder}/held"))
     asked: List[Optional[str]] = []

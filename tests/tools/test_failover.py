@@ -16,6 +16,7 @@ from typing import Any, Callable, Dict, Iterator, List, Tuple
 
 import pytest
 from farm_backup import copying, points, standby
+from fizgruk._tools import disk
 from forks import ReadOnce
 from ports import free_port
 from served import STARTED, TOP, Board, Farm, Tool, read, wait_until
@@ -56,6 +57,11 @@ class Pair:
         """Ends the follower."""
         self.follower.send(signal.SIGTERM)
         assert self.follower.ends() == 0
+
+    def kill(self) -> None:
+        """Kills the follower, and waits until who looks for it has ended, which has the folder's lock as long."""
+        self.follower.kill()
+        wait_until("the folder's lock", lambda: not disk.is_locked(f"{self.to}/.lock"))
 
     def passes(self, times: int) -> None:
         for _ in range(times):
@@ -126,7 +132,7 @@ def pair(make_farm: Made, start_tool: Starts, folder: str) -> Iterator[Pair]:
 def test_a_standby_that_served_is_left_alone_by_the_desk_that_comes_back(pair: Pair) -> None:
     """The old desk has more commands by idle passes alone, of which neither has one of the other's."""
     pair.farm.kill()
-    pair.follower.kill()
+    pair.kill()
     served = pair.serve_standby("/jobs", "/pass", "/pass")
     pair.farm.start()
     pair.passes(10)
@@ -181,7 +187,7 @@ def test_a_standby_without_a_record_is_left_alone(pair: Pair) -> None:
 
 def test_a_follower_goes_on_over_its_standby_without_a_new_copy(pair: Pair) -> None:
     place = os.path.realpath(pair.standby)
-    pair.follower.kill()
+    pair.kill()
     pair.passes(3)
     pair.follow()
     pair.stop()
@@ -366,6 +372,7 @@ def sides(pair: Pair, folder: str) -> Sides:
 
 
 @pytest.mark.slow(60)
+@pytest.mark.timeout(2400)
 def test_a_promotion_that_is_killed_at_any_step_is_run_again(sides: Sides) -> None:
     """At each step the farm at its name is the one that stood there, or the standby, or isn't there; the old desk that
     comes back serves before the mark, and else is set aside with all that it has. Then it ends as it would have."""
@@ -461,7 +468,7 @@ def test_what_cant_be_promoted_is_left_alone(pair: Pair, who: str, why: str) -> 
         pair.serve_standby("/pass")
     if who == "nothing":
         to += "-other"
-    before = contents(pair.to)
+    before = {} if who == "follower" else contents(pair.to)
     status, said, errors = backup(pair.farm, "--promote", to)
     assert (status, said, errors.count("\n")) == (4, "", 1)
     assert why in errors
@@ -556,6 +563,11 @@ class Lab:
         since = time.time()
         wait_until("the standby", lambda: moment_of(self.standby) > since)
 
+    def is_let_go(self) -> None:
+        """Waits until who looked for a follower that was killed has ended too: it has the folder's lock as long."""
+        wait_until("the follower's end", lambda: not self.first.is_running("farm-standby"))
+        wait_until("the folder's lock", lambda: not disk.is_locked(f"{self.standby}/.lock"))
+
     def jobs_at(self, db: str) -> List[str]:
         """The texts of the jobs in a farm that nobody serves."""
         with tempfile.TemporaryDirectory() as place:
@@ -586,6 +598,7 @@ def test_the_page_where_a_machine_is_lost_and_comes_back(lab: Lab) -> None:
     os.kill(lab.first.pid("farm-standby"), signal.SIGSTOP)
     lab.submit(lab.first, "two")
     lab.first.lose()
+    lab.is_let_go()
     said = lab.line(PROMOTES).stdout
     assert "is promoted at " in said and "(generation 2)" in said
     wait_until("a desk", lambda: lab.is_served(lab.other))
@@ -607,8 +620,10 @@ def test_a_desk_that_was_cut_off_ends_before_its_next_answer(lab: Lab) -> None:
     lab.submit(lab.first, "one")
     lab.shipped()
     os.kill(lab.first.pid("farm-standby"), signal.SIGKILL)
+    lab.is_let_go()
     lab.submit(lab.first, "two")
     lab.line(PROMOTES)
+    wait_until("a desk", lambda: lab.is_served(lab.other))
     lab.submit(lab.other, "three")
     lab.submit(lab.first, "four")
     lab.first.run("systemctl start farm-standby")
@@ -630,7 +645,7 @@ def test_a_follower_that_runs_sets_its_farm_aside(lab: Lab, folder: str) -> None
     lab.submit(lab.first, "one")
     lab.shipped()
     copy = os.path.join(folder, "copy")
-    shutil.copytree(lab.standby, copy, symlinks=True)
+    shutil.copytree(lab.standby, copy, symlinks=True, ignore=shutil.ignore_patterns("*.new"))
     assert lab.other.run(f"systemctl stop farm; farm-backup --promote {copy}").returncode == 0
     shutil.copy(f"{copy}/promoted", f"{lab.standby}/new")
     os.rename(f"{lab.standby}/new", f"{lab.standby}/promoted")
@@ -647,6 +662,8 @@ def test_the_page_by_intention_loses_no_command(lab: Lab) -> None:
     for text in ("one", "two"):
         lab.submit(lab.first, text)
     for line in PLANNED:
+        if line[0].startswith("sleep"):
+            lab.shipped()  # (on a slow machine that takes longer than these seconds)
         lab.line(line)
     wait_until("a desk", lambda: lab.is_served(lab.other))
     lab.submit(lab.other, "three")

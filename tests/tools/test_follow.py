@@ -12,6 +12,7 @@ import time
 from typing import Any, Callable, List, Tuple
 
 import pytest
+from fizgruk._tools import disk
 from ports import free_port
 from served import STARTED, Board, Farm, Tool, wait_until
 from streamed import Stream, backup, demand_prefix, moment_of, salts_of, still_farm, text_of, words_of
@@ -35,11 +36,15 @@ class Anew:
         return copy, salts_of(f"{copy}-wal")
 
     def __call__(self) -> bool:
-        before, self.seen = self.seen, self._look()
-        return before[0] == self.seen[0] and b"" not in (before[1], self.seen[1]) and before[1] != self.seen[1]
+        before, now = self.seen, self._look()
+        if not now[1]:
+            return False  # (it begins anew just now: the next look tells)
+        self.seen = now
+        return before[0] == now[0] and before[1] not in (b"", now[1])
 
 
 @pytest.mark.slow(40)
+@pytest.mark.timeout(2400)
 @pytest.mark.parametrize("seed", range(FOLLOWS))
 def test_a_standby_has_a_prefix_with_all_that_was_answered_before_its_moment(
     make_farm: Made, start_tool: Starts, folder: str, seed: int
@@ -52,18 +57,19 @@ def test_a_standby_has_a_prefix_with_all_that_was_answered_before_its_moment(
     for _ in range(2):
         follower = start_tool(*words_of(farm, "--follow", folder, "--every", "0.3"))
         began = time.time()
-        wait_until("a standby", lambda: moment_of(folder) > began, 120)
+        wait_until("a standby", lambda: moment_of(folder) > began)
         # (a desk that is killed and started goes on in the same log)
         farm.kill()
         farm.start()
         wait_until("a standby that began its log anew", Anew(f"{folder}/farm.db"), 300)
         later = time.time() + chance.uniform(0, 2)
-        wait_until("what was answered since", lambda: moment_of(folder) > later, 120)
+        wait_until("what was answered since", lambda: moment_of(folder) > later)
         farm.process.kill()
         follower.send(signal.SIGKILL)
         answered = list(stream.answered)
         farm.kill()
         follower.process.wait()
+        wait_until("the end of who looked for it", lambda: not disk.is_locked(f"{folder}/.lock"))
         # (on a slow machine a whole copy may take its time, which is told)
         assert [it for it in follower.errors().splitlines() if "it goes on, " not in it] == []
         due = sum(it < moment_of(folder) for it in answered)

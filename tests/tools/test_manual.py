@@ -211,7 +211,7 @@ def test_each_command_of_desk_has_a_text_and_its_options_in_both() -> None:
 def copy(folder: str) -> str:
     """A copy of tools and pages."""
     for name in ("docs", "python", "tools"):
-        shutil.copytree(os.path.join(TOP, name), os.path.join(folder, name), symlinks=True)
+        shutil.copytree(os.path.join(TOP, name), os.path.join(folder, name), symlinks=True, ignore=shutil.ignore_patterns("__pycache__"))
     return folder
 
 

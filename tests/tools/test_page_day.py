@@ -61,7 +61,7 @@ def test_at_each_width_nothing_reaches_beyond_it_and_no_row_is_tall(example: Lab
             needed, tallest, reaches = opened.ask(LAID_OUT)
             return bool(needed == wide and tallest <= TALLEST and not reaches)
 
-        wait_until(f"it fits {wide}", fits, 20)
+        wait_until(f"it fits {wide}", fits)
     opened.close()
 
 
@@ -154,14 +154,17 @@ def test_a_reservation_of_the_page_lives_over_a_reload_and_out_of_sight_and_is_t
     lab = make_lab()
     number = lab.reserve("bob", "hdmi")
     lab.passes()
+    lab.farm.tell("bob", f"/reservations/{number}/acquire")  # (so that no lease of it ends)
     opened = lab.opened()
     opened.ask("tags.value = 'hdmi'; reserve.requestSubmit()")
     until(opened, "it waits", lambda it: len(it["reservations"]) == 2)
-    opened.ask("location.reload()")
+    kept = STATE.format("state.reserved.size")
+    wait_until("it is kept", lambda: bool(opened.ask(kept) == 1))
+    opened.ask("window.isOld = true; location.reload()")
 
     def knows_it() -> bool:
         with contextlib.suppress(OSError):  # where the page goes away while it is asked
-            return bool(opened.ask(STATE.format("state.reserved.size")) == 1)
+            return bool(opened.ask(f"window.isOld ? 0 : {kept}") == 1)
         return False
 
     wait_until("it is there again", knows_it)

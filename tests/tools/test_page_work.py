@@ -242,7 +242,6 @@ def test_a_command_without_any_answer_can_be_sent_again_under_its_key(lab: Lab) 
 
 def test_what_was_reserved_here_and_waits_is_extended(make_lab: Callable[..., Lab]) -> None:
     lab = make_lab()
-    lab.date = int(time.time())
     lab.reserve("bob", "hdmi")
     lab.passes()
     lab.reserve("ann", "hdmi")
@@ -250,10 +249,14 @@ def test_what_was_reserved_here_and_waits_is_extended(make_lab: Callable[..., La
     opened.ask("tags.value = 'hdmi'; reserve.requestSubmit()")
     until(opened, "it waits", lambda it: len(it["reservations"]) == 3)
     deadline = int(lab.farm.reservation(3)["deadline"])
+    lab.date = deadline - 60
     wait_until("a second later", lambda: time.time() > deadline - 58)
     lab.given.clear()
     lab.looks_twice()
     assert lab.given == [], "it isn't extended before half of its lease is over"
+    lab.farm.tell("ann", "/reservations/3/refresh")  # (the looks may have taken most of its lease)
+    deadline = int(lab.farm.reservation(3)["deadline"])
+    wait_until("another second later", lambda: time.time() > deadline - 58)
     lab.date = deadline - 20
     wait_until("it is extended", lambda: int(lab.farm.reservation(3)["deadline"]) > deadline)
     lab.looks_twice()
@@ -359,6 +362,7 @@ def test_an_admin_sets_healths(lab: Lab) -> None:
     assert opened.ask(f"{health}.map(it => it.textContent)") == ["Unknown", "Bad", "Maintenance", "Retired"]
     opened.ask(f"{health}[1].click()")
     wait_until("it is Bad", lambda: facts_of(opened, "board")["Health"] == "Bad")
+    wait_until("it is answered", lambda: bool(opened.ask(STATE.format("state.told.size")) == 0))
     assert lab.farm.board("b2")["health"] == "Bad"
     opened.ask(f"{health}[3].click()")
     assert text_of(opened, "#question p") == "Retire b2? That is for good."

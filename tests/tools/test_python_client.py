@@ -20,7 +20,7 @@ from typing import Any, Callable, Dict, Iterator, List, Optional, Tuple, Type, c
 import pytest
 
 import fizgruk
-from fizgruk import reservations, settings, waiting
+from fizgruk import reservations, settings, waiting, watching
 from fizgruk.version import VERSION
 from nginx_site import Site
 from python_front import (  # noqa: F401
@@ -364,9 +364,13 @@ def test_key_of_ones_own(farm: Farm, front: Front) -> None:
 
 def test_proxy_without_a_desk(front: Front) -> None:
     """What a proxy says that reaches no desk is raised, once the patience is over."""
-    front.trouble(*["502"] * 100)
-    with pytest.raises(fizgruk.Unreachable, match=": 502 Bad Gateway$"):
-        client_of(front.url, patience=1).status()
+    for patience in (1, 10, 100):  # (on a slow machine the first answer alone may take a second)
+        front.asked.clear()
+        front.trouble(*["502"] * 1000)
+        with pytest.raises(fizgruk.Unreachable, match=": 502 Bad Gateway$"):
+            client_of(front.url, patience=patience).status()
+        if len(front.asked) > 1:
+            break
     assert len(front.asked) > 1
 
 
@@ -388,6 +392,7 @@ def test_behind_nginx(site: Site, farm: Farm, monkeypatch: pytest.MonkeyPatch) -
         return cast(http.client.HTTPConnection, opened[-1])
 
     monkeypatch.setattr(ann._desk, "_opened", counted)
+    monkeypatch.setattr(watching, "EVERY", 3600.0)  # (a hold's own looks have a connection of their own)
     with Passer(farm):
         for _ in range(10):
             with ann.board("hdmi", every=0.1):
@@ -576,8 +581,8 @@ def test_board_that_is_lost(call: Callable[[], object], farm: Farm, caplog: pyte
     ended: List[bool] = []
     with Passer(farm), pytest.raises(fizgruk.HoldLost, match=LOST):
         with client_of(farm.server).board("hdmi", every=0.1):
-            farm.tell("admin", "/reservations/1/cancel")
             try:
+                farm.tell("admin", "/reservations/1/cancel")
                 call()
             except Exception:
                 pytest.fail("it is no error of the block's")
@@ -618,10 +623,11 @@ def test_board_that_is_lost_in_a_thread(farm: Farm) -> None:
     (SystemExit, SystemExit),
 ])
 def test_board_that_is_lost_at_the_end(
-    fault: Optional[Type[BaseException]], kind: Type[BaseException], farm: Farm
+    fault: Optional[Type[BaseException]], kind: Type[BaseException], farm: Farm, monkeypatch: pytest.MonkeyPatch
 ) -> None:
     """A loss that nobody saw before is raised at the block's end, in the place of its errors; what ends the program
     goes on."""
+    monkeypatch.setattr(watching, "EVERY", 3600.0)  # (nobody looks before)
     with Passer(farm), pytest.raises(kind) as raised:
         with client_of(farm.server).board("hdmi", every=0.1):
             farm.tell("admin", "/reservations/1/cancel")
@@ -659,13 +665,12 @@ def test_signal_that_is_the_programs_own(farm: Farm) -> None:
 def test_desk_that_is_away_while_a_board_is_held(front: Front, farm: Farm) -> None:
     """No board is lost while the desk is away, and looks have a connection of their own that is kept."""
     with Passer(farm), client_of(front.url).board("hdmi", every=0.1):
-        opened = front.connections
         farm.kill()
         wait_until("looks", lambda: front.paths()[-2:] == ["GET /boards"] * 2)
         farm.start()
         seen = len(front.asked)
         wait_until("looks again", lambda: len(front.asked) > seen + 1)
-        assert front.connections == opened + 1
+        assert front.connections == 2, "the client's, and that of its looks"
     assert states(farm) == ["canceled"]
 
 

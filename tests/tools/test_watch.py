@@ -10,7 +10,7 @@ import sqlite3
 import subprocess
 import sys
 import time
-from typing import Dict, List, Tuple
+from typing import Dict, List, Optional, Tuple
 
 import pytest
 from desks import GROUP, desk, write
@@ -324,7 +324,7 @@ def test_one_that_is_started_again_while_passes_come_goes_on(watched: Labs) -> N
     with contextlib.closing(sqlite3.connect(os.path.join(lab.place, "watch.db"))) as file, file:
         file.execute("DELETE FROM seen WHERE kind = 'farm' AND key = 'late'")
     lab.start()
-    assert (lab.tool.errors(), lab.mailbox.told()) == ("", [])
+    assert (lab.errors(), lab.mailbox.told()) == ("", [])
 
 
 def test_a_farm_that_gets_full_is_told_once_a_level(watched: Labs) -> None:
@@ -375,7 +375,7 @@ def test_a_path_whose_room_isnt_known_is_told_as_a_trouble(watched: Labs) -> Non
     lab.start()
     lab.looked(3)
     told = "farm-watch: nobody knows what room there is at /no/such/path: No such file or directory\n"
-    assert (lab.tool.errors(), lab.mailbox.told()) == (told, [])
+    assert (lab.errors(), lab.mailbox.told()) == (told, [])
 
 
 def test_a_look_asks_for_three_views_and_new_jobs(watched: Labs) -> None:
@@ -386,7 +386,9 @@ def test_a_look_asks_for_three_views_and_new_jobs(watched: Labs) -> None:
     )
     lab = watched(rules)
     lab.start()
-    assert [path for _, path in lab.door.asked[:4]] == ["/status", "/types", "/queue", "/boards"]
+    first = [path for _, path in lab.door.asked]
+    # (on a slow machine it may ask for one again)
+    assert list(dict.fromkeys(first[: first.index("/boards") + 1])) == ["/status", "/types", "/queue", "/boards"]
     lab.holds("ann", "b1")
     waits = lab.reserves("bob", "b1")
     job = lab.runs()
@@ -455,11 +457,20 @@ def test_its_folder_is_its_own(watched: Labs) -> None:
 def test_try_tells_the_admins_a_word_by_each_way(watched: Labs) -> None:
     lab = watched(JOBS)
     taken = "mail: told lab@lab.example\n"
-    assert watch("--try", *lab.words()[1:]) == (0, f"{taken}webhook: told 127.0.0.1\n", "")
-    assert lab.mailbox.told() == [("lab@lab.example", "farm: a try")]
+
+    def tried() -> Tuple[int, str, str]:
+        """What a try comes to, once the webhook answers within its seconds."""
+        def once() -> Optional[Tuple[int, str, str]]:
+            ran = watch("--try", *lab.words()[1:])
+            return None if "127.0.0.1: no answer" in ran[2] else ran
+        found: Tuple[int, str, str] = wait_until("a try in time", once)
+        return found
+
+    assert tried() == (0, f"{taken}webhook: told 127.0.0.1\n", "")
+    assert set(lab.mailbox.told()) == {("lab@lab.example", "farm: a try")}
     lab.hook.answer = 500
     told = "farm-watch: webhook: 127.0.0.1: answered 500\n"
-    assert watch("--try", *lab.words()[1:]) == (4, taken, told)
+    assert tried() == (4, taken, told)
 
 
 def text_of_unit(name: str) -> str:

@@ -37,6 +37,7 @@ sys.addaudithook(lambda name, _: name in ("socket.connect", "subprocess.Popen") 
 sys.argv = sys.argv[2:]
 runpy.run_path(sys.argv[0], run_name="__main__")
 """
+DAY = 24 * HOUR
 HOLDS, TURN = 10, 60  # holds, and seconds by which the farm's clock moves from kill to kill
 # How often it is killed, and how often at least by each way and in all; with FARM_FULL=1 more often.
 KILLS, EACH, ALL = (45, 8, 30) if os.environ.get("FARM_FULL") == "1" else (24, 4, 16)
@@ -126,11 +127,15 @@ def test_a_message_that_it_is_at_when_it_is_stopped_is_told_once(watched: Labs) 
     with open(slow, encoding="utf-8") as file:
         text = file.read()
     with open(slow, "w", encoding="utf-8") as file:
-        file.write(text.replace("set -e\n", 'set -e\ntouch "$(dirname "$0")/begun"\nsleep 2\n', 1))
+        file.write(text.replace("set -e\n", 'set -e\nhere=$(dirname "$0")\ntouch "$here/begun"\n'
+                                'while [ ! -e "$here/go" ]; do sleep 0.1; done\n', 1))
     lab.start()
     number = lab.runs()
     wait_until("sendmail", lambda: os.path.exists(os.path.join(lab.mailbox.folder, "begun")))
-    lab.stop()
+    lab.tool.send(signal.SIGTERM)
+    with open(os.path.join(lab.mailbox.folder, "go"), "w", encoding="utf-8"):
+        pass
+    assert lab.tool.ends() == 0
     lab.start()
     lab.looked(3)
     lab.mails([("ann@lab.example", f"farm: {ended(number)}")])
@@ -180,9 +185,11 @@ def test_where_the_desk_has_no_room_for_replies_holds_are_ended_without_keys(wat
 
 
 @pytest.mark.slow(10)
-def test_events_of_an_hour_are_one_mail_over_a_kill(watched: Labs) -> None:
-    """None is told before; the hour's end is noted by hand."""
-    lab = watched("[job]\nended = true\nevery = '1h'\nby = ['mail']\n[board]\nbad = true\nby = ['mail']\n")
+def test_events_of_a_day_are_one_mail_over_a_kill(watched: Labs) -> None:
+    """None is told before; the end of the time is noted by hand. What is told together is due as an hour ends, or a day
+    (by UTC), as here: none ends within the test."""
+    wait_until("a day that goes on", lambda: time.time() % DAY < DAY - 200)
+    lab = watched("[job]\nended = true\nevery = '1d'\nby = ['mail']\n[board]\nbad = true\nby = ['mail']\n")
     lab.start()
     numbers = [lab.runs(), lab.runs("Infra")]
     other = lab.runs(user="bob")
@@ -194,7 +201,7 @@ def test_events_of_an_hour_are_one_mail_over_a_kill(watched: Labs) -> None:
     lab.stop()
     with contextlib.closing(sqlite3.connect(os.path.join(lab.place, "watch.db"))) as line, line:
         waiting = line.execute("SELECT due, every FROM deliveries WHERE done IS NULL").fetchall()
-        assert [(due % 3600, every) for due, every in waiting] == [(0, 3600)] * 3
+        assert [(due % DAY, every) for due, every in waiting] == [(0, DAY)] * 3
         line.execute("UPDATE deliveries SET due = 1 WHERE done IS NULL")
     lab.start()
     wait_until("three mails in all", lambda: len(lab.mailbox.mails()) == 3)
@@ -232,6 +239,7 @@ def test_killed_anywhere_it_tells_each_event_once_by_each_way(watched: Labs) -> 
         told.append((f"user{place}", text))
     wait_until("the last end", lambda: are_ends_told(lab.hook.told("hold-ended"), told))
     lab.looked(3)
+    wait_until("all is told", lambda: is_all_told(lab))
     told += reminders_seen(lab, numbers)
     wait_until("the webhook's messages", lambda: len(lab.hook.messages()) >= len(told), 180)
     wait_until("the mails", lambda: len(lab.mailbox.mails()) >= len(told), 180)
@@ -240,6 +248,12 @@ def test_killed_anywhere_it_tells_each_event_once_by_each_way(watched: Labs) -> 
         (f"{owner or 'lab'}@lab.example", f"farm: {text}") for owner, text in told
     )
     assert all(it >= EACH for it in kills.values()) and sum(kills.values()) >= ALL, kills
+
+
+def is_all_told(lab: Watched) -> bool:
+    """Whether nothing that was noted is still to be told."""
+    with contextlib.closing(sqlite3.connect(os.path.join(lab.place, "watch.db"), timeout=60)) as line:
+        return bool(line.execute("SELECT count(*) FROM deliveries WHERE done IS NULL").fetchone() == (0,))
 
 
 def kill_often(lab: Watched, now: float) -> Tuple[Dict[str, int], Told]:
@@ -261,8 +275,9 @@ def kill_often(lab: Watched, now: float) -> Tuple[Dict[str, int], Told]:
         lab.farm.tell("admin", f"/boards/x{turn}/health", {"health": "Bad"})
         told.append(("", f"board x{turn} is Bad"))
         kills[by] += was_killed(tool)
-    lab.mailbox.kill(None)
-    lab.hook.to_kill = None
+        # (its number may become another process's)
+        lab.mailbox.kill(None)
+        lab.hook.to_kill = None
     return kills, told
 
 

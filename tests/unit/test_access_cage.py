@@ -12,9 +12,9 @@ from farm_access import cage
 from farm_dispatch import cages
 
 
-def until(true: Callable[[], bool]) -> bool:
+def until(true: Callable[[], bool], seconds: float = 240) -> bool:
     since = time.monotonic()
-    while time.monotonic() < since + 20:
+    while time.monotonic() < since + seconds:
         if true():
             return True
         time.sleep(0.02)
@@ -62,7 +62,9 @@ def test_what_went_away_from_a_command_dies_with_its_cage(form: str, tmp_path: p
     file = tmp_path / "beats"
     away = f"trap '' HUP TERM; while :; do echo x >> {file}; sleep 0.05; done"
     started(form, ["sh", "-c", f"setsid env -i PATH=/usr/bin:/bin sh -c \"{away}\" & exit 0"], marks)
-    assert until(lambda: file.exists() and file.stat().st_size > 4) or form == cages.NAMESPACE
+    # (with a namespace it may be gone before its first beat)
+    seconds = 20 if form == cages.NAMESPACE else 240
+    assert until(lambda: file.exists() and file.stat().st_size > 4, seconds) or form == cages.NAMESPACE
     none = cages.Cage(form, "", "", "")
     assert cages.empty(marks[0], none, 60)
     size = file.stat().st_size if file.exists() else 0

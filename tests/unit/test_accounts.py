@@ -21,7 +21,7 @@ def service(tmp_path: pathlib.Path, monkeypatch: pytest.MonkeyPatch) -> Callable
     """Stands in a service's place: greets with these bytes, and keeps what it is sent."""
     place = str(tmp_path / "socket")
     monkeypatch.setattr(accounts, "SOCKET", place)
-    monkeypatch.setattr(accounts, "WITHIN", 5.0)
+    monkeypatch.setattr(accounts, "WITHIN", 240.0)
     listener = socket.socket(socket.AF_UNIX)
     listener.bind(place)
     listener.listen()
@@ -81,7 +81,7 @@ def test_words_without_end_are_no_order() -> None:
 
         def send_on() -> None:
             with contextlib.suppress(OSError):
-                one.settimeout(5)
+                one.settimeout(240)
                 one.sendall(b"x" * 3_000_000)
 
         threading.Thread(target=send_on, daemon=True).start()

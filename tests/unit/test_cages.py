@@ -349,7 +349,7 @@ def test_a_trial_of_a_namespace_leaves_no_process(monkeypatch: pytest.MonkeyPatc
     assert not cages._can_unshare()
     monkeypatch.setattr(cages, "unshare", lambda: True)
     assert not cages._can_unshare(), "the child isn't the first process of a namespace"
-    assert cages._below(os.getpid()) == before
+    assert cages._below(os.getpid()) <= before
 
 
 def test_all_that_lives_below_a_process_is_killed() -> None:

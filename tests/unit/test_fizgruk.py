@@ -18,6 +18,7 @@ import pytest
 import fizgruk
 from fizgruk import calls, holding, models, reservations, settings, waiting
 from fizgruk.calls import Answer, Desk
+from served import wait_until
 
 OWN = settings.Settings("http://127.0.0.1:1/farm/", "ann", None, None, 30.0)
 BOARD: Dict[str, Any] = {
@@ -331,12 +332,19 @@ def test_answer_that_is_cut(cut: bytes, clock: Clock) -> None:
 
 def test_silence_on_a_kept_connection() -> None:
     """A request that nobody answers in time isn't sent again over a new connection before its pause."""
-    server, made = raw(lambda number: FULL if number == 0 else b"")
+    asked: List[int] = []
+
+    def say(number: int) -> bytes:
+        asked.append(number)
+        return FULL if number == 0 else b""
+
+    server, made = raw(say)
     assert made.look("/status") == {"number": 7}
     made.timeout = 0.3
     with pytest.raises(fizgruk.Unreachable, match="timed out"):
         made.look("/status")
-    assert (next(server.asked), len(server.connections)) == (2, 1)
+    wait_until("that the second request is read", lambda: len(asked) > 1)
+    assert (asked, len(server.connections)) == ([0, 1], 1)
     server.is_over.set()
 
 

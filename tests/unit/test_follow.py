@@ -68,7 +68,8 @@ interrupts.catch_signals()
 run = tail.Tail._run
 def slow(followed, *pipes):
     os.kill(os.getpid(), signal.SIGINT)
-    time.sleep(2)
+    while signal.SIGTERM not in signal.sigpending():
+        time.sleep(0.01)
     run(followed, *pipes)
 tail.Tail._run = slow
 followed = tail.Tail.from_beginning(sys.argv[1])
@@ -295,7 +296,10 @@ class Rounds(follow.Follower):
             raise fault
 
 
-def test_a_trouble_is_told_once_and_that_it_goes_on(tmp_path: pathlib.Path, capsys: pytest.CaptureFixture[str]) -> None:
+def test_a_trouble_is_told_once_and_that_it_goes_on(
+    tmp_path: pathlib.Path, monkeypatch: pytest.MonkeyPatch, capsys: pytest.CaptureFixture[str]
+) -> None:
+    monkeypatch.setattr(follow, "RETRY", 3600.0)  # (on a slow machine nothing is told of how far it is behind)
     away = copying.NoCopy("no room")
     found = Rounds(tmp_path, away, away, OSError(5, "Input/output error"), None, None)
     for _ in range(5):

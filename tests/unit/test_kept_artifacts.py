@@ -88,9 +88,13 @@ def test_nothing_is_made_of_nothing(place: Place) -> None:
 
 
 def make_socket(file: pathlib.Path) -> None:
+    before = os.getcwd()
     with socket.socket(socket.AF_UNIX) as made:
-        os.chdir(file.parent)
-        made.bind(file.name)
+        os.chdir(file.parent)  # (its whole path may be too long for a socket's)
+        try:
+            made.bind(file.name)
+        finally:
+            os.chdir(before)
 
 
 def make_deep(file: pathlib.Path) -> None:

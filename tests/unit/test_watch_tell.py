@@ -154,6 +154,9 @@ class Line:
     def __init__(self, said: Any) -> None:
         self.said, self.sock, self.asked = said, None, ("", "", b"", {"": ""})
 
+    def connect(self) -> None:
+        pass
+
     def request(self, method: str, path: str, body: bytes, headers: Dict[str, str]) -> None:
         self.asked = (method, path, body, headers)
 
@@ -184,6 +187,28 @@ def test_a_post_has_the_whole_message_in_its_text(monkeypatch: pytest.MonkeyPatc
     method, path, body, fields = line.asked
     assert (method, path, fields["idempotency-key"]) == ("POST", "/?b=c", "mark-3")
     assert b'"text": "ann: a try\\nIt can."' in body and b'"id": "mark-3"' in body
+
+
+def test_a_connection_that_comes_too_late_is_used_for_nothing(monkeypatch: pytest.MonkeyPatch) -> None:
+    """Whatever answers there might hold that way up for as long as it likes."""
+    is_over = threading.Event()
+    shuts = watch_tell._shut
+
+    def shut(line: Any, late: threading.Event) -> None:
+        shuts(line, late)
+        is_over.set()
+
+    class Slow(Line):
+        def connect(self) -> None:
+            assert is_over.wait(240)
+
+    line = Slow(204)
+    monkeypatch.setattr(watch_tell, "_shut", shut)
+    monkeypatch.setattr(watch_tell, "WEBHOOK_WAITS", 0.01)
+    monkeypatch.setattr(watch_tell, "_line_to", lambda webhook, address: line)
+    with pytest.raises(watch_tell.Undelivered, match="^hook.example: no answer$"):
+        watch_tell.post(Webhook("http://hook.example/a", None), IT)
+    assert line.asked == ("", "", b"", {"": ""})
 
 
 def test_a_connection_that_went_before_its_time_was_over_is_left(monkeypatch: pytest.MonkeyPatch) -> None:

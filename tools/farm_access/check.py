@@ -7,11 +7,11 @@ from typing import Any, Callable, Dict, List, Sequence
 
 from farm_access import cage, keys, lines, power
 from farm_access.boardlock import BoardLock
-from farm_access.lookout import Board, Lookout, NoDesk
+from farm_access.lookout import Board, Lookout, NoDesk, asked_again
 from farm_access.site import AFTER, BadWay, Site, lacks, whole
 from farm_dispatch import commands
 
-PATIENCE = 2.0
+PATIENCE = 10.0
 GOOD, BAD = 0, 1
 
 
@@ -19,7 +19,7 @@ def check(site: Site, names: Sequence[str]) -> int:
     """Prints a line for the site's own parts, and one for each way of each board."""
     faults = _of_site(site)
     try:
-        boards = Lookout(site).boards()
+        boards = asked_again(Lookout(site).boards)
     except NoDesk as fault:
         return _told("desk", str(fault)) and BAD
     wanted = names or sorted(boards)

@@ -11,7 +11,7 @@ from typing import Any, Dict, List, NoReturn, Optional
 
 from farm_access import record, sessions
 from farm_access.boardlock import BoardLock, is_left
-from farm_access.lookout import MOST, Board, Lookout, NoDesk, is_current
+from farm_access.lookout import MOST, Board, Lookout, NoDesk, asked_again, is_current
 from farm_access.session import told_of
 from farm_access.sessions import GRACE, Session
 from farm_access.site import AFTER, Site
@@ -163,7 +163,7 @@ def tidy(site: Site, board: str) -> int:
     """Cleans up behind a board's last hold, where it has ended and nobody has its lock."""
     lookout = Lookout(site)
     lock = BoardLock(site.folder, board, site.log)
-    seen = lookout.boards().get(board)
+    seen = asked_again(lookout.boards).get(board)
     if lock.hold() and is_current(lock.hold(), seen):
         return 0
     is_free = lock.is_free()

@@ -137,6 +137,7 @@ class At:
             kept = record.Record(self.work.site.consoles, self.board, hold, self.work.session.person)
         except record.Busy:
             self.work.end(NOT_YOURS, f"another session of {hold} has the console: console {WATCH}")
+        self.work.heed()
         return self.pump(Pump(lambda: lines.open_console(way), lines.rate_of(way), kept.keep))
 
     def watch(self) -> int:
@@ -155,6 +156,7 @@ class At:
             raise BadWay("access.toml hasn't this port for this board")
         address = f"{whole(way.get('host'), 'host of tcp')}:{port}"
         self.work.begin()
+        self.work.heed()
         return self.pump(Pump(lambda: lines.open_address(address)))
 
     def pump(self, pump: Pump) -> int:

@@ -161,8 +161,7 @@ class Work:
     def wait_for(self, status: Callable[[], Optional[int]]) -> int:
         """Looks after a session until something has ended, and returns its status; or until the
         hold has ended, or who began the session is gone, which ends it."""
-        for number in (signal.SIGHUP, signal.SIGTERM):
-            signal.signal(number, self._told)
+        self.heed()
         gone = select.poll()
         gone.register(1, 0)  # says only that nobody is at the other end
         while True:
@@ -177,6 +176,11 @@ class Work:
                 self.end(LOST, f"{names}: {holds} has ended")
             if gone.poll(0):
                 time.sleep(STEP)
+
+    def heed(self) -> None:
+        """Takes SIGHUP and SIGTERM, from now on, for words to end the session."""
+        for number in (signal.SIGHUP, signal.SIGTERM):
+            signal.signal(number, self._told)
 
     def _told(self, number: int, _frame: object) -> None:
         if self.heeds:

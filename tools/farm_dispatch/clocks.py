@@ -65,7 +65,7 @@ def _said_of_the_clock() -> Sequence[bytes]:
     tell."""
     try:
         said = subprocess.run(
-            ASK, stdin=subprocess.DEVNULL, capture_output=True, timeout=10, check=False
+            ASK, stdin=subprocess.DEVNULL, capture_output=True, timeout=60, check=False
         )
     except (OSError, subprocess.SubprocessError):
         return ()

@@ -45,7 +45,8 @@ def take(server: str, tag: str) -> socket.socket:
     own, whole = desk + (_digest(tag) if tag else "all"), f"{desk}all"
     for left in reversed(range(TRIES)):
         lock = _bound(own)
-        others = {it for it in _names() if it.startswith(desk)} - {own}
+        # (twice, since the kernel may skip a name where another socket goes while its list is read)
+        others = {it for it in _names() | _names() if it.startswith(desk)} - {own}
         if lock and (whole not in others if tag else not others):
             return lock
         if lock:

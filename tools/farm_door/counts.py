@@ -13,7 +13,7 @@ from fizgruk.errors import Refused, Unreachable
 
 EVERY = 2.0
 TOO_OLD = 30.0  # seconds after which nobody knows any more
-FIRST_LOOK = 5.0  # seconds for which what is asked first waits, as long as one call of the desk may take
+FIRST_LOOK = 20.0  # seconds for which what is asked first waits, as long as the calls of a look may take
 HOLDER = re.compile(r"(job|reservation) ([1-9][0-9]*)")
 JOBS, RESERVATIONS = "job", "reservation"
 WORDS = {JOBS: "open_jobs", RESERVATIONS: "open_reservations"}  # of the rules

@@ -129,6 +129,9 @@ def post(webhook: Webhook, it: Delivery) -> str:
     over = threading.Timer(WEBHOOK_WAITS, _shut, [line, late])
     over.start()
     try:
+        line.connect()
+        if late.is_set():  # (there was nothing yet that could be shut)
+            raise socket.timeout("it was connected too late")
         line.request("POST", path, body=body, headers=fields)
         status = line.getresponse().status
     except (OSError, http.client.HTTPException) as fault:

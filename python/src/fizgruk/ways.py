@@ -114,6 +114,7 @@ class Console:
         self.before = ""
         self._words = words_of(to, board, "console")
         self._process: Optional["subprocess.Popen[bytes]"] = None
+        self._reader: Optional[threading.Thread] = None
         self._came = threading.Condition()
         self._said = b""
         self._told = b""  # why it ended
@@ -123,7 +124,8 @@ class Console:
         self._process = subprocess.Popen(
             self._words, stdin=subprocess.PIPE, stdout=subprocess.PIPE, stderr=subprocess.PIPE
         )
-        threading.Thread(target=self._read, args=(self._process.stdout,), daemon=True).start()
+        self._reader = threading.Thread(target=self._read, args=(self._process.stdout,), daemon=True)
+        self._reader.start()
         return self
 
     def __exit__(self, *_: object) -> None:
@@ -139,6 +141,9 @@ class Console:
         except subprocess.TimeoutExpired:
             self._process.kill()
             self._process.wait()
+        if self._reader:
+            # (a descriptor that it reads from isn't to become another file's)
+            self._reader.join(ENDS_WITHIN)
         for stream in (self._process.stdin, self._process.stdout, self._process.stderr):
             if stream:
                 _let_go(stream)
