@@ -1,25 +1,29 @@
 -- What a sound farm of the first edition has, and how the faults of its store are reported.
-use Rattle.std.proofs.Common.{◌≡◌, ◌≢◌, ◌⊎◌, inl, inr, refl, Ok, Err, IsErrAnd, Result, sym, ap, subst, ◌∙◌}
-use Rattle.std.specs.Prelude.{ℕ, Some, IfErr, OnErr, OnOk}
+use Rattle.std.proofs.Common.{◌≡◌, ◌≢◌, ◌⊎◌, inl, inr, refl, Ok, Err, IsErrAnd, Result, arith, sym, ap, subst, ◌∙◌}
+use Rattle.std.specs.Prelude.{ℕ, Some, false, IfErr, OnErr, OnOk}
 use Rattle.std.specs.Result.{result_err}
 use Rattle.sqlite.specs.Effect.{Database}
-use Rattle.sqlite.specs.State.{State}
+use Rattle.sqlite.specs.State.{HasCleanDisk, State}
 use Rattle.sqlite.specs.Tree.{Trees}
 use Rattle.std.proofs.lemmas.Result.{err_from_is_err_and}
-use Rattle.farm_types.specs.Farm.{Farm}
+use Rattle.farm_types.specs.Farm.{Farm, empty_farm, farm_of, put_rows}
 use Rattle.farm_types.specs.Sound.{IsSound}
+use Rattle.farm_types.specs.declared.calls.Rows.{Rows}
 use Rattle.farm_sound.proofs.Collecting.{none_scheduling}
-use Rattle.farm_store.specs.Columns.{IsOfSchema, TableRows, first_rows_of, rows_of, second_schema}
+use Rattle.farm_store.specs.Columns.{IsOfSchema, TableRows, first_rows_of, first_schema, rows_of, second_schema}
 use Rattle.farm_store.specs.Versions.{MayHaveVersion, HasVersion}
-use Rattle.farm_store.specs.Holds.{Holds, LeavesEither, Stands}
+use Rattle.farm_store.specs.Holds.{Holds, KeepsDoubt, LeavesEither, ReadsOnly, SeesSixTables, Stands}
 use Rattle.farm_store.specs.Readable.{IsReadableFirst}
+use Rattle.farm_store.specs.Reading.{ReadsFirst}
+use Rattle.farm_store.specs.Schema.{farm_columns, farm_schema, meta_table}
 use Rattle.farm_store.specs.declared.fault.StoreFault.{StoreFault}
 use Rattle.farm_store.proofs.EditionLemmas.{editions_apart, first_rows_are_old, rows_are_new}
 use Rattle.farm_store.proofs.SoundReadable.{sound_is_readable}
 use Rattle.farm_keep.specs.Faults.{IsMigrateFault, IsOwnFault, fault_of_store}
-use Rattle.farm_keep.specs.First.{HoldsEitherEdition, IsSoundFirst}
+use Rattle.farm_keep.specs.First.{HoldsEitherEdition, IsSoundFirst, Migrates}
 use Rattle.farm_keep.specs.Versions.{LooksAtVersion}
 use Rattle.farm_keep.specs.declared.fault.KeepFault.{KeepFault}
+use Rattle.farm_keep.proofs.PutLemmas.{rows_are}
 
 pub first_of_sound : (F : Farm) → IsSoundFirst F → IsReadableFirst F
 first_of_sound F is = record {
@@ -147,15 +151,6 @@ raise_fault e which = migrate_fault e (by which)
     by (inl memory) is = cc
     by (inr store) is = cc
 
--- where a farm stands in either edition
-pub own_fault : (f : KeepFault) → IsMigrateFault f → f ≢ KeepFault.BadStore → f ≢ KeepFault.NewSchema → IsOwnFault f
-own_fault KeepFault.NoMemory may good ours = tt
-own_fault KeepFault.Store may good ours = tt
-own_fault KeepFault.BadStore may good ours = absurd (good refl)
-own_fault KeepFault.NewSchema may good ours = absurd (ours refl)
-own_fault KeepFault.OldSchema may good ours = absurd may
-own_fault KeepFault.Closed may good ours = absurd may
-
 -- what is said of what was done says nothing of a fault
 pub none_done : {A E : Type 0} (r : Result A E) (P : Type 0) (e : E) → r ≡ Err e → OnOk r P
 none_done (Ok a) P e is = absurd (let h = is in cc)
@@ -164,6 +159,179 @@ none_done (Err f) P e is = tt
 pub on_err : {A E : Type 0} (r : Result A E) (P : Type 0) → P → OnErr r P
 on_err (Ok a) P p = tt
 on_err (Err e) P p = p
+
+-- ---- a migration, whether its tables are raised or made anew
+
+abbrev pub Answer : Type 0
+Answer = Result (Unit {0}) KeepFault
+
+abbrev pub refused : Answer
+refused = Err KeepFault.BadStore
+
+abbrev pub done : Answer
+done = Ok tt
+
+-- it begins by a reading of the first edition's tables
+module _ (old mid : State) (r : Result Rows StoreFault) (only : ReadsOnly old mid)
+    (reads : HasCleanDisk mid → ReadsFirst r old) where
+  -- which failed
+  pub not_read : (s : Answer) (fault : StoreFault) → r ≡ Err fault → r ≢ Err StoreFault.OldSchema
+      → IsErrAnd s (λ f. f ≡ fault_of_store fault) → Migrates old mid s
+  not_read s fault was never reported =
+      let is_reported = err_from_is_err_and s reported in
+      record {
+        autocommit = only.autocommit;
+        clean = only.clean;
+        ok = λ clean. none_done s _ is_reported.0 is_reported.1;
+        only = λ clean. none_done s _ is_reported.0 is_reported.1;
+        ours = none_done s _ is_reported.0 is_reported.1;
+        stop = λ clean F sound at db may. inl (at.left db (only.left clean db may));
+        others = λ clean T at none. only.stands clean _ T at;
+        rests = λ clean other. on_err s _ (λ T at. only.stands clean _ T at);
+        bad = λ clean is F sound at. (reads clean).bad (from_reported r s fault was reported StoreFault.BadStore is) F (first_of_sound F sound) at;
+        newer = λ clean is T at. (reads clean).other (from_reported r s fault was reported StoreFault.NewSchema is) T at;
+        known = λ clean T at is. one_reported r s fault was reported StoreFault.NewSchema StoreFault.Store (((reads clean).schema T at).known is);
+        other = λ clean T at new first. one_reported r s fault was reported StoreFault.BadStore StoreFault.Store (((reads clean).schema T at).other new first);
+        version = λ clean. looks_so r s fault was reported first_schema second_schema StoreFault.NewSchema old.now
+            (reads clean).version.reported (reads clean).version.known (reads clean).version.neither;
+        fault = reported_so r s fault was reported IsMigrateFault (migrate_fault fault (λ is. never (was ∙ ap Err is)));
+      }
+
+  -- which gave rows
+  module _ (rows : Rows) (was : r ≡ Ok rows) where
+    good : HasCleanDisk mid → ReadsFirst (Ok rows) old
+    good clean = subst (λ (q : Result Rows StoreFault). ReadsFirst q old) was (reads clean)
+
+    farm_is : HasCleanDisk mid → (F : Farm) → IsSoundFirst F → Stands old (first_rows_of F) → farm_of rows ≡ F
+    farm_is clean F is at = (good clean).farm F (first_of_sound F is) at
+
+    not_new : {A : Type 0} → HasCleanDisk mid → (T : TableRows) → Stands old T → IsOfSchema second_schema T → A
+    not_new clean T at is = absurd (ok_is_no_err r rows StoreFault.NewSchema StoreFault.Store was (((reads clean).schema T at).known is))
+
+    not_neither : {A : Type 0} → HasCleanDisk mid → (T : TableRows) → Stands old T → ¬ IsOfSchema second_schema T → ¬ IsOfSchema first_schema T → A
+    not_neither clean T at new first = absurd (ok_is_no_err r rows StoreFault.BadStore StoreFault.Store was (((reads clean).schema T at).other new first))
+
+    looked : HasCleanDisk mid → (s : Answer) → s ≢ Err KeepFault.NewSchema
+        → LooksAtVersion first_schema second_schema KeepFault.NewSchema (result_err s) old.now
+    looked clean s never =
+        let version = (reads clean).version in
+        looks_read r rows s was first_schema second_schema StoreFault.NewSchema old.now never version.known version.neither
+
+    -- of no sound farm
+    pub no_farm : ¬ IsSound (farm_of rows) → Migrates old mid refused
+    no_farm unsound = record {
+      autocommit = only.autocommit;
+      clean = only.clean;
+      ok = λ clean. tt;
+      only = λ clean. tt;
+      ours = tt;
+      stop = λ clean F sound at db may. inl (at.left db (only.left clean db may));
+      others = λ clean T at none. only.stands clean _ T at;
+      rests = λ clean other T at. only.stands clean _ T at;
+      bad = λ clean is F sound at. unsound (subst IsSound (sym (farm_is clean F sound at)) sound.sound);
+      newer = λ clean e. absurd (let h = e in cc);
+      known = λ clean T at newer. not_new clean T at newer;
+      other = λ clean T at new first. inl refl;
+      version = λ clean. looked clean refused (λ e. let h = e in cc);
+      fault = tt;
+    }
+
+    -- of a sound farm: they were written, or the store failed
+    module _ (end : State) (sound : IsSound (farm_of rows)) (none : rows.meta.collector ≡ 0)
+        (outside : end.in_transaction ≡ false) (keeps : KeepsDoubt mid end)
+        (stops : HasCleanDisk end → Stands mid (first_rows_of (farm_of rows))
+        → LeavesEither end (first_rows_of (farm_of rows)) (rows_of (farm_of rows))) where
+      early : HasCleanDisk end → HasCleanDisk mid
+      early is = omega (arith, keeps)
+
+      first : IsSoundFirst (farm_of rows)
+      first = record { sound = sound; none = none }
+
+      stood : HasCleanDisk end → (F : Farm) → Stands old (first_rows_of F) → farm_of rows ≡ F → Stands mid (first_rows_of (farm_of rows))
+      stood is F at same = subst (λ G. Stands mid (first_rows_of G)) (sym same) (only.stands (early is) _ (first_rows_of F) at)
+
+      left : HasCleanDisk end → (F : Farm) → IsSoundFirst F → Stands old (first_rows_of F) → LeavesEither end (first_rows_of F) (rows_of F)
+      left is F sound_first at =
+          let same = farm_is (early is) F sound_first at in
+          subst (λ G. LeavesEither end (first_rows_of G) (rows_of G)) same (stops is (stood is F at same))
+
+      no_others : {A : Type 0} → HasCleanDisk end → (T : TableRows) → Stands old T → ((F : Farm) → IsSoundFirst F → T ≢ first_rows_of F) → A
+      no_others is T at others = absurd (others (farm_of rows) first (sym ((good (early is)).rows T at)))
+
+      pub written : old.now.schema ≡ farm_schema
+          → (HasCleanDisk end → Stands mid (first_rows_of (farm_of rows)) → Stands end (rows_of (farm_of rows)))
+          → Migrates old end done
+      written shows puts = record {
+        autocommit = outside;
+        clean = omega (arith, only.clean, keeps);
+        ok = λ is F sound_first at.
+            let same = farm_is (early is) F sound_first at in
+            subst (λ G. Stands end (rows_of G)) same (puts is (stood is F at same));
+        only = λ is T at. (farm_of rows, first, sym ((good (early is)).rows T at));
+        ours = shows;
+        stop = left;
+        others = λ is T at alone. no_others is T at alone;
+        rests = λ is other. tt;
+        bad = λ is e. absurd (let h = e in cc);
+        newer = λ is e. absurd (let h = e in cc);
+        known = λ is T at newer. not_new (early is) T at newer;
+        other = λ is T at new older. not_neither (early is) T at new older;
+        version = λ is. looked (early is) done (λ e. let h = e in cc);
+        fault = tt;
+      }
+
+      pub not_written : (w : Result (Unit {0}) StoreFault) (s : Answer) (fault : StoreFault) → w ≡ Err fault → IsErrAnd s (λ f. f ≡ fault_of_store fault)
+          → (fault ≡ StoreFault.NoMemory) ⊎ (fault ≡ StoreFault.Store) → (w ≡ Err StoreFault.NoMemory → end ≡ mid) → Migrates old end s
+      not_written w s fault failed reported which memory =
+          let is_reported = err_from_is_err_and s reported in
+          record {
+            autocommit = outside;
+            clean = omega (arith, only.clean, keeps);
+            ok = λ is. none_done s _ is_reported.0 is_reported.1;
+            only = λ is. none_done s _ is_reported.0 is_reported.1;
+            ours = none_done s _ is_reported.0 is_reported.1;
+            stop = left;
+            others = λ is T at alone. no_others is T at alone;
+            rests = λ is other.
+                let same = memory (only_memory w s fault failed reported which other) in
+                on_err s _ (λ T at. subst (λ (e : State). Stands e T) (sym same) (only.stands (early is) _ T at));
+            bad = λ is e. absurd (never_reported w s fault failed reported StoreFault.BadStore bad_is_another which e);
+            newer = λ is e. absurd (never_reported w s fault failed reported StoreFault.NewSchema new_is_another which e);
+            known = λ is T at newer. not_new (early is) T at newer;
+            other = λ is T at new older. not_neither (early is) T at new older;
+            version = λ is. looked (early is) s (never_reported w s fault failed reported StoreFault.NewSchema new_is_another which);
+            fault = reported_so w s fault failed reported IsMigrateFault (raise_fault fault which);
+          }
+
+-- the six tables of a sound farm's rows are made anew
+module _ (mid end : State) (rows : Rows) (sound : IsSound (farm_of rows)) where
+  sees_six : (T : TableRows) → Stands mid T → SeesSixTables mid
+  sees_six T at open_is =
+      let same = (at.shown open_is).schema in
+      (farm_columns.types, farm_columns.boards, farm_columns.jobs, farm_columns.reservations, farm_columns.kept, meta_table.columns, same)
+
+  pub made_anew : (HasCleanDisk end → SeesSixTables mid → Stands end (rows_of (put_rows empty_farm rows)))
+      → HasCleanDisk end → Stands mid (first_rows_of (farm_of rows)) → Stands end (rows_of (farm_of rows))
+  made_anew ok clean at = subst (λ F. Stands end (rows_of F)) (rows_are rows sound) (ok clean (sees_six (first_rows_of (farm_of rows)) at))
+
+  pub left_anew : (HasCleanDisk end → SeesSixTables mid → (db : Trees) → end.may_leave db
+      → mid.may_leave db ⊎ Holds db (rows_of (put_rows empty_farm rows)))
+      → HasCleanDisk end → Stands mid (first_rows_of (farm_of rows)) → LeavesEither end (first_rows_of (farm_of rows)) (rows_of (farm_of rows))
+  left_anew stop clean at db may = by (stop clean (sees_six (first_rows_of (farm_of rows)) at) db may)
+    where
+      by : mid.may_leave db ⊎ Holds db (rows_of (put_rows empty_farm rows))
+          → Holds db (first_rows_of (farm_of rows)) ⊎ Holds db (rows_of (farm_of rows))
+      by (inl before) = inl (at.left db before)
+      by (inr made) = inr (subst (λ F. Holds db (rows_of F)) (rows_are rows sound) made)
+
+-- where a farm stands in either edition
+pub own_fault : (f : KeepFault) → IsMigrateFault f → f ≢ KeepFault.BadStore → f ≢ KeepFault.NewSchema → IsOwnFault f
+own_fault KeepFault.NoMemory may good ours = tt
+own_fault KeepFault.Store may good ours = tt
+own_fault KeepFault.BadStore may good ours = absurd (good refl)
+own_fault KeepFault.NewSchema may good ours = absurd (ours refl)
+own_fault KeepFault.OldSchema may good ours = absurd may
+own_fault KeepFault.Closed may good ours = absurd may
 
 -- ---- a store that stands for a farm's tables of the one edition or of the other
 

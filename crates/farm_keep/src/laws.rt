@@ -9,7 +9,7 @@ ghost use Rattle.farm_store.specs.Holds.{Holds};
 ghost use Rattle.farm_types.specs.Farm.{Farm as Plain, empty_farm, farm_of, put_rows};
 ghost use Rattle.farm_types.specs.Small.{AreSmall};
 ghost use Rattle.farm_types.specs.Sound.{IsSound};
-ghost use Rattle.farm_keep.specs.First.{HoldsEitherEdition, IsSoundFirst};
+ghost use Rattle.farm_keep.specs.First.{HoldsEitherEdition, IsSoundFirst, Migrates};
 ghost use Rattle.farm_keep.specs.Headline.{IsAlwaysClean, Runs};
 ghost use Rattle.farm_keep.specs.KeeperState.{KeeperState, KeepsOwnFarm};
 ghost use Rattle.farm_keep.specs.Lives.{Life, AreLived, GivesFarm, GivesRestarts, GivesRun};
@@ -24,7 +24,8 @@ ghost use Rattle.farm_keep.specs.Restarts.{Restart, run_all, calls_of_restarts, 
 use crate::fault::KeepFault;
 use crate::reading::{found, migrate};
 use farm_core::Farm;
-use farm_store::opened_stands;
+use farm_sound::is_sound;
+use farm_store::{load_first, opened_stands, rebuild};
 use sqlite::{Alter, Connection};
 use std::alloc::Global;
 
@@ -100,6 +101,21 @@ pub fn restarts_find_a_prefix<S: Alter>(
 {
     opened_stands(conn);
     found(alloc, conn)
+}
+
+/// `migrate` by `farm_store`'s `rebuild` in the place of `raise`: it makes all six tables anew, and so
+/// takes tables of any columns, but writes each row. Its contract is that of `migrate`, so a version
+/// whose tables have other columns needs a reader of the version before, and nothing else.
+pub fn rebuild_migrates<S: Alter>(alloc: Global, conn: &mut Connection<S>) -> Result<(), KeepFault>
+    requires { conn.old.in_transaction ≡ false }
+    ensures { Migrates (state S.Store conn.old) (state S.Store conn.new) result }
+{
+    let rows = load_first(alloc, conn)?;
+    if !is_sound(&rows) {
+        return Err(KeepFault::BadStore);
+    }
+    rebuild(alloc, conn, &rows)?;
+    Ok(())
 }
 
 /// An upgrade that was stopped anywhere and is begun again, on a store that was opened on what the

@@ -26,6 +26,6 @@ pub use fault::KeepFault;
 
 // What is proved of keepers: functions that only proofs read.
 pub use laws::{
-    acts_once, found_after_stop, found_after_upgrade, memory_is_clean, restarts_find_a_prefix,
-    restarts_join, rows_put_are_the_farm, runs_join,
+    acts_once, found_after_stop, found_after_upgrade, memory_is_clean, rebuild_migrates,
+    restarts_find_a_prefix, restarts_join, rows_put_are_the_farm, runs_join,
 };

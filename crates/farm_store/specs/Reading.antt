@@ -128,3 +128,7 @@ pub record ReadsEdition (edition : Edition) (result : Result Rows StoreFault) (s
   -- the version is looked at before anything else: of our tables, and of any store
   pub schema : (T : TableRows) → StandsIn edition s T → LooksAtSchema edition result T
   pub version : LooksFirst edition result s.now
+
+-- the same of the first edition's
+abbrev pub ReadsFirst : Result Rows StoreFault → State → Type 0
+ReadsFirst = ReadsEdition Edition.First

@@ -7,7 +7,8 @@ ghost use Rattle.sqlite.specs.State.{HasCleanDisk};
 ghost use Rattle.farm_store.specs.Columns.{TableRows};
 ghost use Rattle.farm_store.specs.Editions.{IsCollectorIn, meta_rows_in, table_columns_in, version_fault};
 ghost use Rattle.farm_store.specs.Holds.{ReadsOnly};
-ghost use Rattle.farm_store.specs.Reading.{ReadsEdition, ReadsFarm, IsNoVersionFault, StandsIn};
+ghost use Rattle.farm_store.specs.Reading.{ReadsEdition, ReadsFarm, ReadsFirst, IsNoVersionFault};
+ghost use Rattle.farm_store.specs.Reading.{StandsIn};
 ghost use Rattle.farm_store.specs.Schema.{farm_schema, schema_with};
 ghost use Rattle.farm_store.specs.declared.edition.Edition.TheVariants.{First, Second};
 
@@ -127,7 +128,7 @@ pub fn load_first<S: Alter>(alloc: Global, conn: &mut Connection<S>) -> Result<R
     requires autocommit { conn.old.in_transaction ≡ false }
     ensures only { ReadsOnly (state S.Store conn.old) (state S.Store conn.new) }
     ensures reads { HasCleanDisk (state S.Store conn.new)
-        → ReadsEdition First result (state S.Store conn.old) }
+        → ReadsFirst result (state S.Store conn.old) }
     ensures none { IfOk result (λ rows. rows.meta.collector ≡ 0) }
     ensures ours { OnOk result ((state S.Store conn.old).now.schema
         ≡ schema_with (table_columns_in First)) }
