@@ -10,7 +10,7 @@ import subprocess
 import sys
 import threading
 import time
-from typing import Callable, List, Sequence
+from typing import Callable, List, Sequence, Type
 
 import pytest
 from completed import completed
@@ -330,22 +330,34 @@ def test_what_a_stranger_sends_is_nothing_to_a_shell(folder: str, shell: str) ->
 class NoDesk(Stranger):
     """Another program that answers in JSON."""
 
+    body = b'{"status":"up"}'
+
     def do_GET(self) -> None:
         self.rfile.read(int(self.headers.get("content-length", 0)))
         self.send_response(200)
-        self.send_header("content-length", "15")
+        self.send_header("content-length", str(len(self.body)))
         self.end_headers()
-        self.wfile.write(b'{"status":"up"}')
+        self.wfile.write(self.body)
 
     do_POST = do_GET
 
 
+class Likeness(NoDesk):
+    """Another program, whose answers have a desk's names and nothing else of a desk's."""
+
+    body = json.dumps({
+        "boards": [7], "queue": [[]], "types": ["x"], "reservations": [None], "number": "7", "state": 7, "clock": "now",
+        "count": [], "jobs": {},
+    }).encode()
+
+
+@pytest.mark.parametrize("program", [NoDesk, Likeness])
 @pytest.mark.parametrize("words", [
     "boards", "queue", "jobs", "jobs 1", "types", "reservations", "reserve name=b1", "acquire 1", "cancel 1", "resubmit 1", "wait 1",
     "artifacts 1", "with hdmi -- true", "health b1 Good", "add-type bbb",
 ])
-def test_what_another_program_answers_is_told_in_a_line(words: str) -> None:
-    with http.server.ThreadingHTTPServer(("127.0.0.1", 0), NoDesk) as server:
+def test_what_another_program_answers_is_told_in_a_line(words: str, program: Type[NoDesk]) -> None:
+    with http.server.ThreadingHTTPServer(("127.0.0.1", 0), program) as server:
         threading.Thread(target=server.serve_forever, daemon=True).start()
         address = f"http://127.0.0.1:{server.server_port}"
         ran = subprocess.run(
@@ -354,4 +366,5 @@ def test_what_another_program_answers_is_told_in_a_line(words: str) -> None:
         )
         server.shutdown()
     assert (ran.returncode, ran.stdout) == (125 if words.startswith("with") else 4, "")
-    assert re.fullmatch(rf"desk: (no answer from the desk at )?{address}: the answer isn't a desk's(: it lacks [a-z]+)?\n", ran.stderr)
+    told = f"{address}: the answer isn't a desk's"
+    assert re.fullmatch(rf"desk: (no answer from the desk at )?{told}(: it lacks [a-z]+|: [a-z ]+ is .+)?\n", ran.stderr)

@@ -2,6 +2,7 @@
 from __future__ import annotations
 
 import http.client
+import json
 import signal
 import ssl
 import types
@@ -168,6 +169,32 @@ def test_what_lacks_what_a_desks_has_is_no_answer(line: Line) -> None:
         with pytest.raises(Unreachable, match=f"^{SERVER}: the answer isn't a desk's: it lacks {name}$") as fault:
             assert row[name]
         assert isinstance(fault.value, KeyError)
+
+
+@pytest.mark.parametrize("path, told, fault", [
+    ("/boards", {"boards": {}}, "boards is {}"), ("/boards", {"boards": [3]}, "a row is 3"),
+    ("/boards", {"boards": [{"tags": ["hdmi"], "holder": "none"}, {"holder": "job x"}]}, "holder is 'job x'"),
+    ("/boards", {"boards": [{"tags": [1]}]}, r"tags is \[1\]"), ("/types", {"types": [{"every": None}]}, "every is None"),
+    ("/queue", {"queue": [{"boards": "2"}]}, "boards is '2'"),
+    ("/reservations", {"reservations": [{"deadline": 10**30}]}, "deadline is 10+"),
+    ("/jobs/3", {"number": "3"}, "number is '3'"), ("/status", {"clock": "x" * 99}, r"clock is 'x+\.\.\.x+'"),
+    ("/history.json", {"jobs": [{"tests": 7}]}, "tests is 7"),
+])
+def test_a_view_whose_fields_are_of_other_kinds_is_no_answer(
+    line: Line, path: str, told: Dict[str, Any], fault: str,
+) -> None:
+    line.answers = [Answer(200, json.dumps(told).encode())]
+    with pytest.raises(Unreachable, match=f"^{SERVER}: the answer isn't a desk's: {fault}$"):
+        desk_of().look(path)
+
+
+@pytest.mark.parametrize("path, told", [
+    ("/boards", {"boards": [{"name": "b1", "shelf": [3]}], "queue": 7}), ("/status", {"boards": 3, "uptime": "long"}),
+    ("/jobs/3", {"number": 3, "boards": 7}), ("/notes.json", {"boards": 7}), ("/history.json", {"jobs": [{"submitted": None}]}),
+])
+def test_what_a_later_desk_tells_too_is_no_fault(line: Line, path: str, told: Dict[str, Any]) -> None:
+    line.answers = [Answer(200, json.dumps(told).encode())]
+    assert desk_of().look(path) == told
 
 
 @pytest.mark.parametrize("answer, told", [

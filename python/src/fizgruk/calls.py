@@ -5,6 +5,7 @@ import copy
 import http.client
 import json
 import os
+import reprlib
 import secrets
 import socket
 import ssl
@@ -12,6 +13,7 @@ import time
 import urllib.parse
 from typing import Any, Callable, Dict, Iterable, Iterator, List, NamedTuple, Optional, Protocol, Tuple, Type, Union
 
+from fizgruk import models
 from fizgruk.bounds import MOST_WANTS
 from fizgruk.errors import Code, Refused, Unreachable
 from fizgruk.settings import Settings, address_of
@@ -28,6 +30,12 @@ MOST_IDLE = 4
 BLOCK = 65536
 TOKEN_MARK = "farm_token_"
 NO_DESKS = "the answer isn't a desk's"
+# What each view shows rows of, and under which name.
+LISTS: Dict[str, Tuple[str, Callable[..., object]]] = {
+    "/types": ("types", models.TypeView), "/boards": ("boards", models.BoardView),
+    "/queue": ("queue", models.Claim), "/reservations": ("reservations", models.ReservationView),
+    "/history.json": ("jobs", models.PastJob),
+}
 Row = Dict[str, Any]
 Body = Union[bytes, Row, None]
 
@@ -40,7 +48,11 @@ class Answer(NamedTuple):
     body: bytes
 
 
-class Lacks(Unreachable, KeyError):
+class NoDesks(Unreachable):
+    """An answer isn't a desk's, since what it has is of another kind."""
+
+
+class Lacks(NoDesks, KeyError):
     """An answer isn't a desk's, since it lacks what a desk's has."""
 
     __str__ = Exception.__str__
@@ -146,7 +158,11 @@ class Desk:
 
     def look(self, path: str) -> Row:
         """What a view shows."""
-        return self._answer("GET", path, None, {}, True)
+        told = self._answer("GET", path, None, {}, True)
+        fault = fault_of(path, told)
+        if fault:
+            raise NoDesks(f"{NO_DESKS}: {fault}", self.server)
+        return told
 
     def tell(self, path: str, body: Body = None, key: Optional[str] = None) -> Row:
         """Gives a command, again and again under its key until an answer comes; without a key it is
@@ -326,6 +342,19 @@ def tell_with_room(desk: Desk, path: str, body: Body, key: str) -> Row:
 
 
 # ---- what is answered
+
+
+def fault_of(path: str, told: Row) -> str:
+    """What isn't of its kind in a view, if anything. What it lacks is found where it is used."""
+    if path in LISTS:
+        name, kind = LISTS[path]
+        rows = told.get(name, [])
+        if not isinstance(rows, list):
+            return f"{name} is {reprlib.repr(rows)}"
+        return next(filter(None, (models.fault_of(kind, it) for it in rows)), "")
+    if path == "/status":
+        return models.fault_of(models.Status, told)
+    return models.fault_of(models.JobView, told) if path.startswith("/jobs/") else ""
 
 
 def number_of(desk: "Desk", said: Row) -> int:

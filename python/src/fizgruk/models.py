@@ -5,6 +5,8 @@ that it has as 0 is None. Moments are in UTC.
 """
 import dataclasses
 import datetime
+import functools
+import reprlib
 from typing import Any, Callable, Dict, Literal, NamedTuple, Optional, Tuple, TypeVar, cast
 
 from fizgruk.errors import Unreachable
@@ -233,23 +235,47 @@ def view_of(kind: Callable[..., View], told: object) -> View:
         try:
             values[field.name] = value_of(value, field.type)
         except ValueError:
-            text = f"the answer isn't a desk's: {field.name} is {value!r}"
+            text = f"the answer isn't a desk's: {field.name} is {reprlib.repr(value)}"
             raise Unreachable(text) from None
     return kind(**values)
 
 
+@functools.lru_cache(maxsize=None)
+def _plain_kinds(kind: Callable[..., object]) -> Tuple[Tuple[str, Any, Optional[type]], ...]:
+    """The fields of a view, their kinds, and what Python has for those of a plain one."""
+    others = (Tags, Held, Moment, *MAYBE)
+    return tuple(
+        (it.name, it.type, None if it.type in others else int if it.type is int else str)
+        for it in dataclasses.fields(cast(Any, kind))
+    )
+
+
+def fault_of(kind: Callable[..., object], told: object) -> str:
+    """What isn't of its kind in a view, if anything. What it lacks is no fault."""
+    if not isinstance(told, dict):
+        return f"a row is {reprlib.repr(told)}"
+    for name, field, plain in _plain_kinds(kind):
+        if name not in told or type(told[name]) is plain:
+            continue
+        try:
+            value_of(told[name], field)
+        except (ValueError, Unreachable):
+            return f"{name} is {reprlib.repr(told[name])}"
+    return ""
+
+
 def value_of(value: object, kind: object) -> object:
     """What the wire has, as a field of this kind. Raises ValueError where it is none."""
-    if kind == Tags:
+    if kind is Tags:
         if isinstance(value, list) and all(isinstance(it, str) for it in value):
             return tuple(value)
-    elif kind == Held:
+    elif kind is Held:
         return holder_of(value)
     elif kind in MAYBE:
         return None if value is None else view_of(MAYBE[kind], value)
     elif kind in (int, Moment) and isinstance(value, int) and not isinstance(value, bool):
-        return moment_of(value) if kind == Moment else value
-    elif kind == Moment and value is None:
+        return moment_of(value) if kind is Moment else value
+    elif kind is Moment and value is None:
         return None
     elif kind not in (int, Moment) and isinstance(value, str):
         return value

@@ -45,12 +45,14 @@ class Watch:
 
     def look(self, teller: Callable[[str], None] = tell) -> None:
         """Looks, where it is time to, and tells what it sees; a desk that gives no answer tells
-        that elsewhere."""
+        that elsewhere. Raises NoDesks where what answers is no desk."""
         if time.monotonic() < self.due:
             return
         self.due = time.monotonic() + EVERY
         try:
             status = self.desk.look("/status")
+        except calls.NoDesks:
+            raise
         except (Unreachable, Refused):
             return
         ahead, quiet = clocks.ahead(status, clocks.NO_END), self._quiet(status)

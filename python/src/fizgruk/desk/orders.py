@@ -38,6 +38,7 @@ def submit_text(
         said = desk.tell("/jobs", text, key or calls.fresh_key())
     except Refused as refusal:
         raise job_file.why_refused(desk, refusal, text)
+    calls.number_of(desk, said)
     options.clock.note_own()
     print_number(options, said)
     return await_end(desk, options, said["number"]) if options.wait else 0
