@@ -18,9 +18,10 @@ import time
 from typing import Any, Callable, Dict, List, NamedTuple, Optional, Sequence, Tuple
 
 import counting
+from beside_root import that_sees_the_project
 from ports import free_port
 from served import LASTING, PATIENCE, STARTED, TOOLS, TOP, Farm, wait_until
-from wants import wants
+from wants import lacks, wants
 
 PEOPLE = ("ann", "bob", "eve")
 BOARDS = ("b1", "b2")
@@ -104,6 +105,8 @@ class Byte(NamedTuple):
 def make(make_farm: Callable[..., Farm], guard: bool = True, **more: Any) -> "Lab":
     """A lab of the boards b1 and b2, which runs."""
     wants("ssh", "sshd", "ser2net", "pdudaemon", "ssh-keygen", "unshare", "setpriv")
+    if os.geteuid() == 0 and subprocess.run(["unshare", "--mount", "true"], capture_output=True, check=False).returncode:
+        lacks("no mounts can be made that are seen here alone")
     outlets = {"b1": 3, "b2": 4}
     farm = make_farm([(it, "bbb", ["power=bench", f"outlet={outlets[it]}"]) for it in BOARDS])
     LASTING.append(farm.process)
@@ -214,7 +217,9 @@ class Lab:
             return plain
         script = 'mount --bind "$1" /etc/passwd && shift && exec "$@"'
         ids = [f"--reuid={UID}", f"--regid={UID}", f"--groups={UID},{TTY}"]
-        return ["unshare", "--mount", "sh", "-c", script, "sh", self.path("passwd"), "setpriv", *ids, *plain]
+        return that_sees_the_project(
+            "unshare", "--mount", "sh", "-c", script, "sh", self.path("passwd"), "setpriv", *ids, *plain,
+        )
 
     def start(self, name: str, *words: str) -> "subprocess.Popen[bytes]":
         with open(self.path(f"{name}.said"), "ab") as said:

@@ -13,6 +13,7 @@ import time
 from typing import Dict, List, Optional, Tuple
 
 import pytest
+from beside_root import that_sees_the_project
 from dispatch_lab import BOARDS, CAGES, Lab, MakeLab, Proxy, end_commands, jobs_of, starts
 from dispatch_lab import lab_fixture, make_lab_fixture  # noqa: F401
 from farm_dispatch import cages
@@ -268,8 +269,8 @@ def test_without_root(program: str) -> None:
         words = ["--server", lab.farm.server, "--folder", lab.place, "--every", "0.3", "--cage", "namespace", lab.command]
         with open(os.path.join(folder, "errors"), "ab") as told:
             dispatcher = subprocess.Popen(
-                [*nobody, sys.executable, f"{TOOLS}/farm-dispatch", *words], stdout=told, stderr=told,
-                stdin=subprocess.DEVNULL, env=environment(RUNS=os.path.join(lab.place, "runs")),
+                that_sees_the_project(*nobody, sys.executable, f"{TOOLS}/farm-dispatch", *words),
+                stdout=told, stderr=told, stdin=subprocess.DEVNULL, env=environment(RUNS=os.path.join(lab.place, "runs")),
             )
         STARTED.append(dispatcher)
         try:
