@@ -26,6 +26,7 @@ from wants import lacks, wants
 PEOPLE = ("ann", "bob", "eve")
 BOARDS = ("b1", "b2")
 UID, TTY = 64321, 5  # an account that there isn't, and the group of terminals
+AS_NOBODY = ("setpriv", f"--reuid={UID}", f"--regid={UID}", "--clear-groups")
 HERE = os.path.dirname(os.path.abspath(__file__))
 SLOW = "slow"  # a board as slow as a serial line of 115200 baud
 PYTHON = "/usr/bin/python3"
@@ -102,11 +103,22 @@ class Byte(NamedTuple):
     said: bytes
 
 
+def fails(*words: str) -> bool:
+    return subprocess.run(words, capture_output=True, check=False).returncode != 0
+
+
+def wants_all(cgroup: str = "") -> None:
+    """Skips the test where the machine lacks what a lab is made of; a chroot does."""
+    wants("ssh", "sshd", "ser2net", "pdudaemon", "ssh-keygen", "unshare", "setpriv")
+    if os.geteuid() == 0 and fails("unshare", "--mount", "true"):
+        lacks("no mounts can be made that are seen here alone")
+    if not cgroup and fails(*(AS_NOBODY if os.geteuid() == 0 else ()), "unshare", "-Up", "--fork", "true"):
+        lacks("accounts without rights make no namespace here")
+
+
 def make(make_farm: Callable[..., Farm], guard: bool = True, **more: Any) -> "Lab":
     """A lab of the boards b1 and b2, which runs."""
-    wants("ssh", "sshd", "ser2net", "pdudaemon", "ssh-keygen", "unshare", "setpriv")
-    if os.geteuid() == 0 and subprocess.run(["unshare", "--mount", "true"], capture_output=True, check=False).returncode:
-        lacks("no mounts can be made that are seen here alone")
+    wants_all(more.get("cgroup", ""))
     outlets = {"b1": 3, "b2": 4}
     farm = make_farm([(it, "bbb", ["power=bench", f"outlet={outlets[it]}"]) for it in BOARDS])
     LASTING.append(farm.process)

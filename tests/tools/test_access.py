@@ -588,6 +588,7 @@ def paste(line: "subprocess.Popen[bytes]", text: bytes) -> None:
 def test_handovers_under_kills_mix_no_bytes_and_without_the_lock_they_do(program: str, without: str) -> None:
     """A few, by the script that makes hundreds; on a busy machine ends take longer than on an idle one. (Without the
     lock what a hold left writes on for so long.)"""
+    access_lab.wants_all()
     script = os.path.join(os.path.dirname(os.path.abspath(__file__)), "access_handovers.py")
     more = ["--without", without, "--kills", "stop"] if without else []
     words = [access_lab.PYTHON, script, "--farm", program, "--within", "10" if without else "30", *more, "10"]
