@@ -65,7 +65,9 @@ class Front:
             ("/etc/ssl/certs/labs.pem", self.certificate),
             ("/etc/ssl/private/labs.key", f"{self.folder}/front.key"),
             ("/etc/ssl/certs/ca-certificates.crt", f"{self.folder}/sites.pem"),
-            *((f"https://{lab}.lab.example/", f"{self.sites[lab].server}/") for lab in LABS),
+            # (localhost may be ::1 too, where no site listens)
+            *((f"proxy_pass https://{lab}.lab.example/;",
+               f"proxy_pass https://127.0.0.1:{self.sites[lab].port}/; proxy_ssl_name localhost;") for lab in LABS),
         ]:
             assert old in site, f"the example has no {old}"
             site = site.replace(old, new)
