@@ -218,6 +218,28 @@ def test_what_is_no_line_of_a_history(line: bytes) -> None:
     assert records.row_of(line) is None
 
 
+HEALTH: Dict[str, Any] = {"kind": "health", "board": "b1", "from": "Good", "to": "Bad", "at": 100, "reason": "by the admin"}
+HOLD: Dict[str, Any] = {
+    "kind": "hold", "key": "k-1.2.3", "reservation": 2, "owner": "ann", "board": "b1", "type": "bbb", "began": 100,
+    "ended": 200, "reason": "",
+}
+
+
+@pytest.mark.parametrize("row", [job(1), job(1, submitted=90), job(1, boards=[]), HEALTH, HOLD])
+def test_what_is_a_line_of_a_history(row: Dict[str, Any]) -> None:
+    assert records.row_of(json.dumps(row).encode()) == row
+
+
+@pytest.mark.parametrize("row", [
+    job(1, job="1"), job(1, group=True), job(1, owner=None), job(1, boards="b1"), job(1, boards=[1]), job(1, type=3),
+    job(1, name=["boot"]), job(1, submitted="100"), job(1, began=1.5), job(1, began=-1), job(1, ended=None),
+    job(1, ended=10**400), job(1, outcome=[]), job(1, reason=0), {**HEALTH, "board": ["b1"]}, {**HEALTH, "from": None},
+    {**HEALTH, "to": 1}, {**HEALTH, "at": "100"}, {**HOLD, "key": 1}, {**HOLD, "reservation": "2"}, {**HOLD, "began": None},
+])
+def test_a_line_whose_fields_are_of_other_kinds_is_none(row: Dict[str, Any]) -> None:
+    assert records.row_of(json.dumps(row).encode()) is None
+
+
 def test_the_last_bytes_of_a_history_have_its_last_lines(place: str) -> None:
     History(place, set()).add_jobs([job(1), job(2), job(3)])
     file = os.path.join(place, "history.jsonl")

@@ -3,10 +3,10 @@ beside the desk, as /history.json. The desk itself doesn't."""
 import time
 from typing import Any, Dict, List, Optional
 
-from fizgruk import calls
+from fizgruk import calls, records
 from fizgruk.errors import Refused, Unreachable
 
-PATH = "/history.json"
+PATH = f"/{records.NEWEST}"
 ABSENT = 600.0  # where it isn't served it is left for so many seconds
 
 

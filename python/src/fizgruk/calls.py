@@ -13,7 +13,7 @@ import time
 import urllib.parse
 from typing import Any, Callable, Dict, Iterable, Iterator, List, NamedTuple, Optional, Protocol, Tuple, Type, Union
 
-from fizgruk import models
+from fizgruk import models, records
 from fizgruk.bounds import MOST_WANTS
 from fizgruk.errors import Code, Refused, Unreachable
 from fizgruk.settings import Settings, address_of
@@ -34,7 +34,7 @@ NO_DESKS = "the answer isn't a desk's"
 LISTS: Dict[str, Tuple[str, Callable[..., object]]] = {
     "/types": ("types", models.TypeView), "/boards": ("boards", models.BoardView),
     "/queue": ("queue", models.Claim), "/reservations": ("reservations", models.ReservationView),
-    "/history.json": ("jobs", models.PastJob),
+    f"/{records.NEWEST}": ("jobs", models.PastJob),
 }
 Row = Dict[str, Any]
 Body = Union[bytes, Row, None]

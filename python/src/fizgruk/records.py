@@ -8,7 +8,7 @@ import collections
 import json
 import os
 import time
-from typing import Any, Deque, Dict, Iterable, List, NamedTuple, Optional, Set, Tuple
+from typing import Any, Callable, Deque, Dict, Iterable, List, NamedTuple, Optional, Set, Tuple
 
 from fizgruk._tools import disk
 
@@ -20,14 +20,38 @@ CHECK = "health check"  # the name of a job that the desk makes itself
 BY_ADMIN = "by the admin"
 BLOCK = 65536
 ALL_HEALTHS = ("Good", "Unknown", "Maintenance")
-# The kinds of lines, each with its fields.
-FIELDS = {
-    "job": (
-        "job", "group", "owner", "boards", "type", "name", "submitted", "began", "ended", "outcome",
-        "reason",
-    ),
-    "health": ("board", "from", "to", "at", "reason"),
-    "hold": ("key", "reservation", "owner", "board", "type", "began", "ended", "reason"),  # of farm-watch
+
+
+def _is_text(told: object) -> bool:
+    return isinstance(told, str)
+
+
+def _is_number(told: object) -> bool:
+    return isinstance(told, int) and not isinstance(told, bool) and 0 <= told < 2**63
+
+
+def _is_number_if_known(told: object) -> bool:
+    return told is None or _is_number(told)
+
+
+def _are_names(told: object) -> bool:
+    return isinstance(told, list) and all(map(_is_text, told))
+
+
+# The kinds of lines, each with its fields and what each of them is.
+FIELDS: Dict[str, Dict[str, Callable[[object], bool]]] = {
+    "job": {
+        "job": _is_number, "group": _is_number, "owner": _is_text, "boards": _are_names,
+        "type": _is_text, "name": _is_text, "submitted": _is_number_if_known, "began": _is_number,
+        "ended": _is_number, "outcome": _is_text, "reason": _is_text,
+    },
+    "health": {
+        "board": _is_text, "from": _is_text, "to": _is_text, "at": _is_number, "reason": _is_text,
+    },
+    "hold": {  # of farm-watch
+        "key": _is_text, "reservation": _is_number, "owner": _is_text, "board": _is_text,
+        "type": _is_text, "began": _is_number, "ended": _is_number, "reason": _is_text,
+    },
 }
 
 
@@ -174,10 +198,12 @@ def rows_of(file: str, last: int = 0) -> Iterable[Dict[str, Any]]:
 
 
 def row_of(line: bytes) -> Optional[Dict[str, Any]]:
-    """What a line of a history says, or None where it isn't one."""
+    """What a line of a history says, or None where it isn't one: where it lacks a field, or has one
+    that isn't of its kind."""
     row = disk.object_of(line)
-    wanted = FIELDS.get(str(row.get("kind")), ())
-    return row if wanted and all(it in row for it in wanted) else None
+    wanted = FIELDS.get(str(row.get("kind")), {})
+    is_line = all(name in row and is_so(row[name]) for name, is_so in wanted.items())
+    return row if wanted and is_line else None
 
 
 def append(file: str, rows: List[Dict[str, Any]]) -> None:
