@@ -1,5 +1,6 @@
 -- Where a search ends among rows in order, and what `put` does there.
-use Rattle.std.proofs.Common.{◌≡◌, ℕ, zero, suc, ◌+◌, ◌<◌, ◌≤◌, List, [], ◌∷◌, length, get_or, set, Result, Ok, Err, MatchResult, Bool, true, false, cond, Option, Some, None, IsSome, sym, ap, ◌∙◌, refl, subst, arith}
+use Rattle.std.proofs.Common.{◌≡◌, ℕ, zero, suc, ◌+◌, ◌<◌, ◌≤◌, List, [], ◌∷◌, length, get_or, set, Result, Ok, Err, MatchResult, Bool, true, false, cond}
+use Rattle.std.proofs.Common.{Option, Some, None, IsSome, sym, ap, ◌∙◌, refl, subst, arith}
 use Rattle.std.specs.List.{insert, AllByRecursion, find, filter}
 use Rattle.std.specs.List.Sorted.{IsStrictlySortedBy, IsSortedBy, IsSearchInRange, IsBinarySearchResult}
 use Rattle.std.proofs.lemmas.List.Sorted.{searchable_from_sorted}

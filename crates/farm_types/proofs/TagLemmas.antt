@@ -1,17 +1,16 @@
 -- The key of a tag, by the place of the first '=', and what a tag is by it.
-use Rattle.std.proofs.Common.{◌≡◌, ℕ, ◌+◌, ◌<◌, ◌≤◌, ◌==◌, ◌&&◌, ◌||◌, Bool, true, false, cond, not, List, [], ◌∷◌, length, take, drop, Some, None, sym, ap, ◌∙◌, refl, arith, suc, add-one, ◌++◌, append_assoc, get_or}
+use Rattle.std.proofs.Common.{◌≡◌, ℕ, ◌+◌, ◌<◌, ◌≤◌, ◌==◌, ◌&&◌, ◌||◌, Bool, true, false, cond, not, List, [], ◌∷◌, length, take, drop, Some, None, sym, ap}
+use Rattle.std.proofs.Common.{◌∙◌, refl, arith, suc, add-one, ◌++◌, append_assoc, get_or}
 use Rattle.std.specs.List.{position, prefix_len, list_all, slice_split, onto_first}
-use Rattle.std.proofs.lemmas.List.{take_all, take_more}
+use Rattle.std.proofs.lemmas.List.{take_all, take_more, length-take}
 use Rattle.farm_types.specs.Tags.{tags_text, tag_parts}
 use mathlib.Core.Bool.{true≢false}
 use Rattle.std.proofs.lemmas.Bool.Decides.{nat_tests}
 use Rattle.std.specs.Prelude.{nat_lt}
-use Rattle.std.specs.Str.{bytes_eq, IsUtf8}
-use Rattle.std.proofs.lemmas.List.{length-take}
+use Rattle.std.specs.Str.{bytes_eq, IsUtf8, IsAscii}
 use Rattle.std.proofs.Math.Bool.{and-true, and-false}
 use Rattle.std.proofs.lemmas.Slice.Eq.{bytes_eq-Decides}
 use Rattle.farm_types.proofs.WordLemmas.{below_ascii, name_bytes, and_parts}
-use Rattle.std.specs.Str.{IsAscii}
 use Rattle.std.proofs.lemmas.Str.Ascii.{IsAscii-nil, IsAscii-cons}
 use Rattle.std.proofs.lemmas.Str.{IsUtf8-from_ascii}
 use Rattle.farm_types.specs.Words.{tag_key, is_tag, is_word, is_name_byte}

@@ -16,3 +16,4 @@ pub mod Change
 pub mod Machine
 pub mod Sound
 pub mod Agreed
+pub mod Names

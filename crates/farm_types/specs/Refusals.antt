@@ -125,61 +125,50 @@ write_fault = 81
 
 -- ---- the table
 
-pub record RefusalLine : Type 0 where
-  pub code : ℕ
-  pub status : Option ℕ
-  pub text : List ℕ
-
-abbrev pub entry : ℕ → ℕ → List ℕ → RefusalLine
-entry code status text = record { code = code; status = Some status; text = text }
-
--- a fault that is never answered over HTTP
-abbrev pub fault : ℕ → List ℕ → RefusalLine
-fault code text = record { code = code; status = None; text = text }
-
-abbrev pub refusal_table : List RefusalLine
+-- a number, the status of its answer, where it is ever answered over HTTP, and its text
+abbrev pub refusal_table : List (ℕ × Option ℕ × List ℕ)
 refusal_table =
-    entry no_memory 503 (codes "no memory")
-    ∷ entry bad_moment 400 (codes "bad moment")
-    ∷ entry forbidden 403 (codes "forbidden")
-    ∷ entry full 409 (codes "full")
-    ∷ entry bad_name 400 (codes "bad name")
-    ∷ entry bad_tag 400 (codes "bad tag")
-    ∷ entry bad_count 400 (codes "bad count")
-    ∷ entry no_type 404 (codes "no such type")
-    ∷ entry type_exists 409 (codes "type exists")
-    ∷ entry no_board 404 (codes "no such board")
-    ∷ entry board_exists 409 (codes "board exists")
-    ∷ entry board_is_held 409 (codes "board is held")
-    ∷ entry board_is_retired 409 (codes "board is retired")
-    ∷ entry no_job 404 (codes "no such job")
-    ∷ entry wrong_job_state 409 (codes "wrong job state")
-    ∷ entry no_such_boards 409 (codes "no such boards")
-    ∷ entry bad_priority 400 (codes "bad priority")
-    ∷ entry no_reservation 404 (codes "no such reservation")
-    ∷ entry reservation_expired 409 (codes "reservation expired")
-    ∷ entry wrong_reservation_state 409 (codes "wrong reservation state")
-    ∷ entry key_reused 409 (codes "key reused")
-    ∷ entry bad_key 400 (codes "bad key")
-    ∷ entry bad_request 400 (codes "bad request")
-    ∷ entry too_large 413 (codes "too large")
-    ∷ entry no_route 404 (codes "no such route")
-    ∷ entry wrong_method 405 (codes "wrong method")
-    ∷ entry bad_coding 501 (codes "bad coding")
-    ∷ entry store_fault 503 (codes "store fault")
-    ∷ entry closed 503 (codes "closed")
-    ∷ fault bad_store (codes "bad store")
-    ∷ fault old_schema (codes "old schema")
-    ∷ fault new_schema (codes "new schema")
-    ∷ entry bad_job_file 400 (codes "bad job file")
-    ∷ fault bad_lab_file (codes "bad lab file")
-    ∷ fault read_fault (codes "read fault")
-    ∷ fault write_fault (codes "write fault")
+    (no_memory, Some 503, codes "no memory")
+    ∷ (bad_moment, Some 400, codes "bad moment")
+    ∷ (forbidden, Some 403, codes "forbidden")
+    ∷ (full, Some 409, codes "full")
+    ∷ (bad_name, Some 400, codes "bad name")
+    ∷ (bad_tag, Some 400, codes "bad tag")
+    ∷ (bad_count, Some 400, codes "bad count")
+    ∷ (no_type, Some 404, codes "no such type")
+    ∷ (type_exists, Some 409, codes "type exists")
+    ∷ (no_board, Some 404, codes "no such board")
+    ∷ (board_exists, Some 409, codes "board exists")
+    ∷ (board_is_held, Some 409, codes "board is held")
+    ∷ (board_is_retired, Some 409, codes "board is retired")
+    ∷ (no_job, Some 404, codes "no such job")
+    ∷ (wrong_job_state, Some 409, codes "wrong job state")
+    ∷ (no_such_boards, Some 409, codes "no such boards")
+    ∷ (bad_priority, Some 400, codes "bad priority")
+    ∷ (no_reservation, Some 404, codes "no such reservation")
+    ∷ (reservation_expired, Some 409, codes "reservation expired")
+    ∷ (wrong_reservation_state, Some 409, codes "wrong reservation state")
+    ∷ (key_reused, Some 409, codes "key reused")
+    ∷ (bad_key, Some 400, codes "bad key")
+    ∷ (bad_request, Some 400, codes "bad request")
+    ∷ (too_large, Some 413, codes "too large")
+    ∷ (no_route, Some 404, codes "no such route")
+    ∷ (wrong_method, Some 405, codes "wrong method")
+    ∷ (bad_coding, Some 501, codes "bad coding")
+    ∷ (store_fault, Some 503, codes "store fault")
+    ∷ (closed, Some 503, codes "closed")
+    ∷ (bad_store, None, codes "bad store")
+    ∷ (old_schema, None, codes "old schema")
+    ∷ (new_schema, None, codes "new schema")
+    ∷ (bad_job_file, Some 400, codes "bad job file")
+    ∷ (bad_lab_file, None, codes "bad lab file")
+    ∷ (read_fault, None, codes "read fault")
+    ∷ (write_fault, None, codes "write fault")
     ∷ []
 
 -- the status and the text of a number, where the table has it
 abbrev pub line_of : ℕ → Option (Option ℕ × List ℕ)
-line_of code = option_map (λ e. (e.status, e.text)) (find (λ e. e.code == code) refusal_table)
+line_of code = option_map (λ e. (e.1, e.2)) (find (λ e. e.0 == code) refusal_table)
 
 abbrev pub refusal_text : ℕ → List ℕ
 refusal_text code = option_map_or (λ line. line.1) (line_of code) []

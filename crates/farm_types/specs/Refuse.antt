@@ -1,11 +1,13 @@
 -- Why a call is refused: the first code that applies.
-use Rattle.std.specs.Prelude.{ℕ, ◌==◌, ◌&&◌, ◌||◌, Bool, true, false, not, nat_le, nat_lt, List, [], ◌∷◌, length, max, Option, Some, None, is_some, is_none, if◌then◌else◌, codes}
+use Rattle.std.specs.Prelude.{ℕ, ◌==◌, ◌&&◌, ◌||◌, Bool, true, false, not, nat_le, nat_lt, List, [], ◌∷◌, length, max, Option, Some, None, is_some, is_none}
+use Rattle.std.specs.Prelude.{if◌then◌else◌, codes}
 use Rattle.std.specs.List.{filter, list_any}
 use Rattle.std.specs.Option.{option_map_or, option_or}
 use Rattle.std.specs.Bool.{then_some}
 use Rattle.std.specs.Str.{bytes_eq}
 use Rattle.farm_types.specs.Limits.{last_moment, most_boards, most_boards_of_type, most_commands, most_replies, most_reservations, most_types, numbers_end}
-use Rattle.farm_types.specs.Refusals.{bad_moment, board_exists, board_is_held, board_is_retired, forbidden, full, key_reused, no_board, no_job, no_reservation, no_such_boards, no_type, reservation_expired, type_exists, wrong_job_state, wrong_reservation_state}
+use Rattle.farm_types.specs.Refusals.{bad_moment, board_exists, board_is_held, board_is_retired, forbidden, full, key_reused, no_board, no_job, no_reservation}
+use Rattle.farm_types.specs.Refusals.{no_such_boards, no_type, reservation_expired, type_exists, wrong_job_state, wrong_reservation_state}
 use Rattle.farm_types.specs.Codes.{same_health, same_job_state, same_res_state}
 use Rattle.farm_types.specs.Farm.{Farm, type_of, board_of, job_of, res_of, kept_of, members}
 use Rattle.farm_types.specs.Pick.{is_nobody, least, not_retired, waits}

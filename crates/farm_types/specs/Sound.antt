@@ -1,10 +1,12 @@
 -- What every farm that the machine reaches keeps.
-use Rattle.std.specs.Prelude.{◌≡◌, ◌≢◌, ℕ, ◌+◌, ◌-◌, ◌<◌, ◌≤◌, ◌↔◌, ◌==◌, ◌++◌, true, false, List, [], ◌∷◌, length, Option, Some, None, unwrap_or, is_some, IsTrue, IsSome, IsNone, IfSome, IsSomeAnd, codes}
+use Rattle.std.specs.Prelude.{◌≡◌, ◌≢◌, ℕ, ◌+◌, ◌-◌, ◌<◌, ◌≤◌, ◌↔◌, ◌==◌, ◌++◌, true, false, List, [], ◌∷◌, length, Option, Some, None, unwrap_or, is_some}
+use Rattle.std.specs.Prelude.{IsTrue, IsSome, IsNone, IfSome, IsSomeAnd, codes}
 use Rattle.std.specs.List.{find, filter, AllByRecursion, filter_map}
 use Rattle.std.specs.List.Sorted.{IsStrictlySortedBy}
 use Rattle.std.specs.Option.{option_map_or}
 use Rattle.std.specs.Str.{bytes_eq}
-use Rattle.farm_types.specs.Limits.{highest_priority, last_kind, last_moment, lease, longest_text, most_boards, most_boards_of_type, most_commands, most_jobs, most_jobs_since, most_replies, most_reservations, most_types, most_wants, numbers_end}
+use Rattle.farm_types.specs.Limits.{highest_priority, last_kind, last_moment, lease, longest_text, most_boards, most_boards_of_type, most_commands, most_jobs}
+use Rattle.farm_types.specs.Limits.{most_jobs_since, most_replies, most_reservations, most_types, most_wants, numbers_end}
 use Rattle.farm_types.specs.Words.{IsName, IsKey, IsTags, IsText}
 use Rattle.farm_types.specs.Proper.{is_frequency, has_no_name_tag, is_priority, is_want}
 use Rattle.farm_types.specs.Table.{type_cmp, board_cmp, job_cmp, res_cmp, kept_cmp}

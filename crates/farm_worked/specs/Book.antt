@@ -2,37 +2,27 @@
 use Rattle.std.specs.Prelude.{◌≡◌, ◌==◌, ℕ, List, [], ◌∷◌, map, replicate, Some, None, Result, Ok, Err, codes, refl, true, false, option_map}
 use Rattle.std.specs.Str.{is_utf8, chars}
 use Rattle.std.specs.declared.cmp.Ordering.TheVariants.{Less}
-use Rattle.farm_types.specs.Words.{is_word, is_tag, is_tags, text_cmp, word_or}
-use Rattle.farm_types.specs.Table.{put, put_all, change_where, type_cmp, kept_cmp}
-use Rattle.farm_types.specs.Reads.{OrNoMemory, by_code, refused_code, ◌>>=◌}
-use Rattle.farm_types.specs.Tags.{tags_of, tags_text, tags_among, tags_read}
-use Rattle.farm_types.specs.Codes.{job_state_code, job_state_with, outcome_with, job_state_word}
-use Rattle.farm_types.specs.Called.{health_called, outcome_called, priority_called, holder_text}
-use Rattle.farm_types.specs.Refusals.{line_of, reason_of}
-use Rattle.farm_types.specs.Proper.{is_proper_cmd}
-use Rattle.farm_types.specs.Farm.{Farm, members, job_of, res_of}
-use Rattle.farm_types.specs.Pick.{fits, serves, is_free, meets, names_cmp, least, queue}
-use Rattle.farm_types.specs.Pass.{is_due_by, claims_taken}
-use Rattle.farm_types.specs.Machine.{Denied, run}
-use Rattle.farm_types.specs.Change.{reply_of}
-use Rattle.farm_types.specs.Sound.{holds, IsHeldOnce, AreGroupsInPhase}
-use Rattle.farm_types.specs.Small.{IsSmall, every_of, held_by}
-use Rattle.farm_worked.specs.Worked.{answers, call_under, a_board}
-use Rattle.farm_types.specs.declared.rows.Check.{Check}
-use Rattle.farm_types.specs.declared.rows.Health.{Health}
-use Rattle.farm_types.specs.declared.rows.State.{State}
-use Rattle.farm_types.specs.declared.rows.Holder.{Holder}
-use Rattle.farm_types.specs.declared.rows.JobState.{JobState}
-use Rattle.farm_types.specs.declared.rows.Want.{Want}
-use Rattle.farm_types.specs.declared.rows.TypeRow.{TypeRow}
+use Rattle.farm_types.specs.Names.{AreGroupsInPhase, by_code, change_where, claims_taken, Denied, every_of, Farm, fits, health_called, held_by, holder_text}
+use Rattle.farm_types.specs.Names.{holds, is_due_by, is_free, is_proper_cmd, is_tag, is_tags, is_word, IsHeldOnce, IsSmall, job_of, job_state_code}
+use Rattle.farm_types.specs.Names.{job_state_with, job_state_word, kept_cmp, least, line_of, meets, members, names_cmp, OrNoMemory, outcome_called}
+use Rattle.farm_types.specs.Names.{outcome_with, priority_called, put, put_all, queue, reason_of, refused_code, reply_of, res_of, run, serves, tags_among}
+use Rattle.farm_types.specs.Names.{tags_of, tags_read, tags_text, text_cmp, type_cmp, word_or, ◌>>=◌}
 use Rattle.farm_types.specs.declared.rows.BoardRow.{BoardRow}
+use Rattle.farm_types.specs.declared.calls.Call.{Call}
+use Rattle.farm_types.specs.declared.rows.Check.{Check}
+use Rattle.farm_types.specs.declared.calls.Cmd.{Cmd}
+use Rattle.farm_types.specs.declared.rows.Health.{Health}
+use Rattle.farm_types.specs.declared.rows.Holder.{Holder}
 use Rattle.farm_types.specs.declared.rows.JobRow.{JobRow}
+use Rattle.farm_types.specs.declared.rows.JobState.{JobState}
 use Rattle.farm_types.specs.declared.rows.KeptRow.{KeptRow}
 use Rattle.farm_types.specs.declared.refusal.Refusal.{Refusal}
+use Rattle.farm_types.specs.declared.rows.State.{State}
+use Rattle.farm_types.specs.declared.rows.TypeRow.{TypeRow}
+use Rattle.farm_types.specs.declared.rows.Want.{Want}
 use Rattle.farm_types.specs.declared.fault.WordFault.{WordFault}
+use Rattle.farm_worked.specs.Worked.{answers, call_under, a_board}
 use Rattle.farm_types.specs.declared.fault.WordFault.TheVariants.{Refused, NoMemory}
-use Rattle.farm_types.specs.declared.calls.Cmd.{Cmd}
-use Rattle.farm_types.specs.declared.calls.Call.{Call}
 use Rattle.farm_worked.specs.Groups.{after_group_starts, after_one_member_ends, after_first_member_collects}
 use Rattle.farm_worked.specs.Reservations.{after_one_counter, after_lease_begins}
 use Rattle.farm_worked.specs.Limits.{board_named, many_types}

@@ -2,23 +2,18 @@
 use Rattle.std.specs.Prelude.{◌≡◌, ℕ, ◌+◌, ◌/◌, ◌%◌, List, [], ◌∷◌, map, length, Some, None, codes, refl}
 use Rattle.std.specs.List.{range_with_len}
 use Rattle.std.specs.Str.{is_utf8, chars}
-use Rattle.farm_types.specs.Words.{is_word, is_tag, is_tags}
-use Rattle.farm_types.specs.Proper.{is_proper_cmd}
-use Rattle.farm_types.specs.Farm.{Farm, empty_farm}
-use Rattle.farm_types.specs.Pass.{checks, new_job}
-use Rattle.farm_types.specs.Machine.{Denied, Repeated, run}
-use Rattle.farm_types.specs.Change.{new_res, reply_of}
-use Rattle.farm_worked.specs.Worked.{answers, call_under, did, by_admin, by_ann, new_type, a_board, pair, any_board}
-use Rattle.farm_types.specs.declared.rows.Check.{Check}
-use Rattle.farm_types.specs.declared.rows.Health.{Health}
-use Rattle.farm_types.specs.declared.rows.JobState.{JobState}
-use Rattle.farm_types.specs.declared.rows.ResState.{ResState}
-use Rattle.farm_types.specs.declared.rows.Outcome.{Outcome}
-use Rattle.farm_types.specs.declared.rows.JobRow.{JobRow}
-use Rattle.farm_types.specs.declared.rows.ResRow.{ResRow}
-use Rattle.farm_types.specs.declared.rows.KeptRow.{KeptRow}
-use Rattle.farm_types.specs.declared.calls.Cmd.{Cmd}
+use Rattle.farm_types.specs.Names.{checks, Denied, empty_farm, Farm, is_proper_cmd, is_tag, is_tags, is_word, new_job, new_res, Repeated, reply_of, run}
 use Rattle.farm_types.specs.declared.calls.Call.{Call}
+use Rattle.farm_types.specs.declared.rows.Check.{Check}
+use Rattle.farm_types.specs.declared.calls.Cmd.{Cmd}
+use Rattle.farm_types.specs.declared.rows.Health.{Health}
+use Rattle.farm_types.specs.declared.rows.JobRow.{JobRow}
+use Rattle.farm_types.specs.declared.rows.JobState.{JobState}
+use Rattle.farm_types.specs.declared.rows.KeptRow.{KeptRow}
+use Rattle.farm_types.specs.declared.rows.Outcome.{Outcome}
+use Rattle.farm_types.specs.declared.rows.ResRow.{ResRow}
+use Rattle.farm_types.specs.declared.rows.ResState.{ResState}
+use Rattle.farm_worked.specs.Worked.{answers, call_under, did, by_admin, by_ann, new_type, a_board, pair, any_board}
 use Rattle.farm_worked.specs.Limits.{board_named}
 
 -- canceled before they had a board

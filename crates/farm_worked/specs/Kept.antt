@@ -1,15 +1,11 @@
 -- Worked scripts of kept replies.
 use Rattle.std.specs.Prelude.{◌≡◌, List, [], ◌∷◌, codes, refl}
 use Rattle.std.specs.Str.{is_utf8, chars}
-use Rattle.farm_types.specs.Words.{is_word, is_tag, is_tags}
-use Rattle.farm_types.specs.Proper.{is_proper_cmd}
-use Rattle.farm_types.specs.Farm.{empty_farm}
-use Rattle.farm_types.specs.Machine.{Denied, Repeated, run}
-use Rattle.farm_types.specs.Change.{reply_of}
-use Rattle.farm_worked.specs.Worked.{answers, did, by_admin, call_under, new_type, new_board, single, any_board}
+use Rattle.farm_types.specs.Names.{Denied, empty_farm, is_proper_cmd, is_tag, is_tags, is_word, Repeated, reply_of, run}
+use Rattle.farm_types.specs.declared.calls.Call.{Call}
 use Rattle.farm_types.specs.declared.rows.Check.{Check}
 use Rattle.farm_types.specs.declared.calls.Cmd.{Cmd}
-use Rattle.farm_types.specs.declared.calls.Call.{Call}
+use Rattle.farm_worked.specs.Worked.{answers, did, by_admin, call_under, new_type, new_board, single, any_board}
 use Rattle.farm_worked.specs.WorkedWhole.{all_kept, each_did, every_kind}
 
 -- a refused command keeps no reply, and its key is free for another

@@ -1,19 +1,15 @@
 -- Worked scripts of rows that are added out of order, and of a group of four.
 use Rattle.std.specs.Prelude.{◌≡◌, ℕ, List, [], ◌∷◌, Some, None, codes, map, refl}
 use Rattle.std.specs.Str.{is_utf8, chars}
-use Rattle.farm_types.specs.Change.{new_board as board_row}
-use Rattle.farm_types.specs.Words.{is_word, is_tag, is_tags}
-use Rattle.farm_types.specs.Proper.{is_proper_cmd}
-use Rattle.farm_types.specs.Farm.{Farm, empty_farm}
-use Rattle.farm_types.specs.Machine.{run}
-use Rattle.farm_worked.specs.Worked.{answers, did, by_admin, by_ann, a_board, single}
+use Rattle.farm_types.specs.Names.{empty_farm, Farm, is_proper_cmd, is_tag, is_tags, is_word, new_board as board_row, run}
+use Rattle.farm_types.specs.declared.calls.Call.{Call}
 use Rattle.farm_types.specs.declared.rows.Check.{Check}
+use Rattle.farm_types.specs.declared.calls.Cmd.{Cmd}
 use Rattle.farm_types.specs.declared.rows.Health.{Health}
-use Rattle.farm_types.specs.declared.rows.State.{State}
 use Rattle.farm_types.specs.declared.rows.Holder.{Holder}
 use Rattle.farm_types.specs.declared.rows.JobRow.{JobRow}
-use Rattle.farm_types.specs.declared.calls.Cmd.{Cmd}
-use Rattle.farm_types.specs.declared.calls.Call.{Call}
+use Rattle.farm_types.specs.declared.rows.State.{State}
+use Rattle.farm_worked.specs.Worked.{answers, did, by_admin, by_ann, a_board, single}
 
 -- texts stand in byte order: a capital letter before a small one, and b10 before b2
 unfoldable pub types_and_boards : List Call

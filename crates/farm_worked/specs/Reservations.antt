@@ -1,23 +1,18 @@
 -- Worked scripts of reservations beside jobs: one counter of numbers, and deadlines.
 use Rattle.std.specs.Prelude.{◌≡◌, ℕ, List, [], ◌∷◌, Some, None, codes, refl}
 use Rattle.std.specs.Str.{is_utf8, chars}
-use Rattle.farm_types.specs.Pass.{new_job}
-use Rattle.farm_types.specs.Change.{new_res, new_board as board_row}
-use Rattle.farm_types.specs.Words.{is_word, is_tag, is_tags}
-use Rattle.farm_types.specs.Proper.{is_proper_cmd}
-use Rattle.farm_types.specs.Farm.{Farm, empty_farm}
-use Rattle.farm_types.specs.Machine.{run}
-use Rattle.farm_worked.specs.Worked.{answers, did, passed, by_admin, by_dispatcher, by_ann, by_bob, new_type, new_board, set, a_board, single, pair, any_board}
-use Rattle.farm_types.specs.declared.rows.Check.{Check}
-use Rattle.farm_types.specs.declared.rows.Health.{Health}
-use Rattle.farm_types.specs.declared.rows.State.{State}
-use Rattle.farm_types.specs.declared.rows.Holder.{Holder}
-use Rattle.farm_types.specs.declared.rows.JobState.{JobState}
-use Rattle.farm_types.specs.declared.rows.ResState.{ResState}
-use Rattle.farm_types.specs.declared.rows.JobRow.{JobRow}
-use Rattle.farm_types.specs.declared.rows.ResRow.{ResRow}
-use Rattle.farm_types.specs.declared.calls.Cmd.{Cmd}
+use Rattle.farm_types.specs.Names.{empty_farm, Farm, is_proper_cmd, is_tag, is_tags, is_word, new_board as board_row, new_job, new_res, run}
 use Rattle.farm_types.specs.declared.calls.Call.{Call}
+use Rattle.farm_types.specs.declared.rows.Check.{Check}
+use Rattle.farm_types.specs.declared.calls.Cmd.{Cmd}
+use Rattle.farm_types.specs.declared.rows.Health.{Health}
+use Rattle.farm_types.specs.declared.rows.Holder.{Holder}
+use Rattle.farm_types.specs.declared.rows.JobRow.{JobRow}
+use Rattle.farm_types.specs.declared.rows.JobState.{JobState}
+use Rattle.farm_types.specs.declared.rows.ResRow.{ResRow}
+use Rattle.farm_types.specs.declared.rows.ResState.{ResState}
+use Rattle.farm_types.specs.declared.rows.State.{State}
+use Rattle.farm_worked.specs.Worked.{answers, did, passed, by_admin, by_dispatcher, by_ann, by_bob, new_type, new_board, set, a_board, single, pair, any_board}
 
 -- jobs and reservations draw their numbers from one counter
 unfoldable pub one_counter : List Call

@@ -1,11 +1,11 @@
 -- Which commands are proper at a limit of words and numbers, and which aren't: no row comes of those.
 use Rattle.std.specs.Prelude.{◌≡◌, ◌++◌, ℕ, List, [], ◌∷◌, map, Some, None, codes, true, false}
 use Rattle.std.specs.List.{range_with_len}
-use Rattle.farm_types.specs.Proper.{is_proper, is_proper_cmd}
-use Rattle.farm_worked.specs.Worked.{new_type, a_board, single}
+use Rattle.farm_types.specs.Names.{is_proper, is_proper_cmd}
 use Rattle.farm_types.specs.declared.rows.Check.{Check}
-use Rattle.farm_types.specs.declared.rows.Outcome.{Outcome}
 use Rattle.farm_types.specs.declared.calls.Cmd.{Cmd}
+use Rattle.farm_types.specs.declared.rows.Outcome.{Outcome}
+use Rattle.farm_worked.specs.Worked.{new_type, a_board, single}
 
 -- sixteen bytes, and with them a name, a key and a tag of the greatest length
 abbrev pub sixteen : List ℕ

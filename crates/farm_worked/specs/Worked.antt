@@ -1,20 +1,17 @@
 -- Worked scripts: the calls, and what is looked at afterwards.
 use Rattle.std.specs.Prelude.{◌≡◌, ℕ, List, [], ◌∷◌, Option, Some, None, codes, true}
 use Rattle.std.specs.Option.{option_map}
-use Rattle.farm_types.specs.Proper.{is_proper}
-use Rattle.farm_types.specs.Farm.{Farm, board_of, job_of, res_of}
-use Rattle.farm_types.specs.Machine.{Answered, Changed, answer, step}
-use Rattle.farm_types.specs.Change.{reply_of}
+use Rattle.farm_types.specs.Names.{answer, Answered, board_of, Changed, Farm, is_proper, job_of, reply_of, res_of, step}
+use Rattle.farm_types.specs.declared.calls.Call.{Call}
 use Rattle.farm_types.specs.declared.rows.Check.{Check}
+use Rattle.farm_types.specs.declared.calls.Cmd.{Cmd}
 use Rattle.farm_types.specs.declared.rows.Health.{Health}
-use Rattle.farm_types.specs.declared.rows.State.{State}
 use Rattle.farm_types.specs.declared.rows.Holder.{Holder}
 use Rattle.farm_types.specs.declared.rows.JobState.{JobState}
-use Rattle.farm_types.specs.declared.rows.ResState.{ResState}
 use Rattle.farm_types.specs.declared.rows.Outcome.{Outcome}
+use Rattle.farm_types.specs.declared.rows.ResState.{ResState}
+use Rattle.farm_types.specs.declared.rows.State.{State}
 use Rattle.farm_types.specs.declared.rows.Want.{Want}
-use Rattle.farm_types.specs.declared.calls.Cmd.{Cmd}
-use Rattle.farm_types.specs.declared.calls.Call.{Call}
 
 -- a call without a key
 abbrev pub asks : (caller : List ℕ) (now : ℕ) (cmd : Cmd) → is_proper caller None cmd ≡ true → Call

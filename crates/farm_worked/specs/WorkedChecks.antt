@@ -1,18 +1,15 @@
 -- Worked scripts of health checks.
 use Rattle.std.specs.Prelude.{◌≡◌, List, [], ◌∷◌, Some, codes, refl}
 use Rattle.std.specs.Str.{is_utf8, chars}
-use Rattle.farm_types.specs.Words.{is_word, is_tag, is_tags}
-use Rattle.farm_types.specs.Proper.{is_proper_cmd}
-use Rattle.farm_types.specs.Farm.{empty_farm}
-use Rattle.farm_types.specs.Machine.{run}
-use Rattle.farm_worked.specs.Worked.{answers, board_shows, did, passed, by_admin, by_dispatcher, by_ann, new_type, new_board, set, single}
+use Rattle.farm_types.specs.Names.{empty_farm, is_proper_cmd, is_tag, is_tags, is_word, run}
+use Rattle.farm_types.specs.declared.calls.Call.{Call}
 use Rattle.farm_types.specs.declared.rows.Check.{Check}
+use Rattle.farm_types.specs.declared.calls.Cmd.{Cmd}
 use Rattle.farm_types.specs.declared.rows.Health.{Health}
-use Rattle.farm_types.specs.declared.rows.State.{State}
 use Rattle.farm_types.specs.declared.rows.Holder.{Holder}
 use Rattle.farm_types.specs.declared.rows.Outcome.{Outcome}
-use Rattle.farm_types.specs.declared.calls.Cmd.{Cmd}
-use Rattle.farm_types.specs.declared.calls.Call.{Call}
+use Rattle.farm_types.specs.declared.rows.State.{State}
+use Rattle.farm_worked.specs.Worked.{answers, board_shows, did, passed, by_admin, by_dispatcher, by_ann, new_type, new_board, set, single}
 
 -- a check goes ahead of the highest priority, and its good end frees the board for the job
 unfoldable pub check_goes_first : List Call

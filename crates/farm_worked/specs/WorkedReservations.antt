@@ -1,19 +1,17 @@
 -- Worked scripts of reservations.
 use Rattle.std.specs.Prelude.{◌≡◌, List, [], ◌∷◌, Some, None, codes, refl}
 use Rattle.std.specs.Str.{is_utf8, chars}
-use Rattle.farm_types.specs.Words.{is_word, is_tag, is_tags}
-use Rattle.farm_types.specs.Proper.{is_proper_cmd}
-use Rattle.farm_types.specs.Farm.{empty_farm}
-use Rattle.farm_types.specs.Machine.{Denied, run}
-use Rattle.farm_worked.specs.Worked.{answers, job_shows, res_shows, board_shows, did, passed, by_admin, by_dispatcher, by_ann, by_bob, new_type, new_board, set, single, any_board}
+use Rattle.farm_types.specs.Names.{Denied, empty_farm, is_proper_cmd, is_tag, is_tags, is_word, run}
+use Rattle.farm_types.specs.declared.calls.Call.{Call}
 use Rattle.farm_types.specs.declared.rows.Check.{Check}
+use Rattle.farm_types.specs.declared.calls.Cmd.{Cmd}
 use Rattle.farm_types.specs.declared.rows.Health.{Health}
-use Rattle.farm_types.specs.declared.rows.State.{State}
 use Rattle.farm_types.specs.declared.rows.Holder.{Holder}
 use Rattle.farm_types.specs.declared.rows.JobState.{JobState}
 use Rattle.farm_types.specs.declared.rows.ResState.{ResState}
-use Rattle.farm_types.specs.declared.calls.Cmd.{Cmd}
-use Rattle.farm_types.specs.declared.calls.Call.{Call}
+use Rattle.farm_types.specs.declared.rows.State.{State}
+use Rattle.farm_worked.specs.Worked.{answers, job_shows, res_shows, board_shows, did, passed, by_admin, by_dispatcher, by_ann, by_bob, new_type, new_board, set}
+use Rattle.farm_worked.specs.Worked.{single, any_board}
 
 -- reservations and jobs stand in one queue
 unfoldable pub reservation_before_job : List Call

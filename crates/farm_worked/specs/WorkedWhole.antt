@@ -1,22 +1,19 @@
 -- Worked scripts of the whole machine.
 use Rattle.std.specs.Prelude.{◌≡◌, List, [], ◌∷◌, Some, None, codes, refl}
 use Rattle.std.specs.Str.{is_utf8, chars}
-use Rattle.farm_types.specs.Words.{is_word, is_tag, is_tags}
-use Rattle.farm_types.specs.Proper.{is_proper_cmd}
-use Rattle.farm_types.specs.Farm.{empty_farm}
-use Rattle.farm_types.specs.Machine.{Answered, Repeated, Denied, run}
-use Rattle.farm_types.specs.Change.{reply_of}
-use Rattle.farm_worked.specs.Worked.{with_key, call_under, answers, job_shows, res_shows, board_shows, did, passed, by_admin, by_dispatcher, by_ann, new_type, new_board, set, a_board, single, any_board}
+use Rattle.farm_types.specs.Names.{Answered, Denied, empty_farm, is_proper_cmd, is_tag, is_tags, is_word, Repeated, reply_of, run}
+use Rattle.farm_types.specs.declared.calls.Call.{Call}
 use Rattle.farm_types.specs.declared.rows.Check.{Check}
+use Rattle.farm_types.specs.declared.calls.Cmd.{Cmd}
 use Rattle.farm_types.specs.declared.rows.Health.{Health}
-use Rattle.farm_types.specs.declared.rows.State.{State}
 use Rattle.farm_types.specs.declared.rows.Holder.{Holder}
 use Rattle.farm_types.specs.declared.rows.JobState.{JobState}
-use Rattle.farm_types.specs.declared.rows.ResState.{ResState}
-use Rattle.farm_types.specs.declared.rows.Outcome.{Outcome}
 use Rattle.farm_types.specs.declared.rows.KeptRow.{KeptRow}
-use Rattle.farm_types.specs.declared.calls.Cmd.{Cmd}
-use Rattle.farm_types.specs.declared.calls.Call.{Call}
+use Rattle.farm_types.specs.declared.rows.Outcome.{Outcome}
+use Rattle.farm_types.specs.declared.rows.ResState.{ResState}
+use Rattle.farm_types.specs.declared.rows.State.{State}
+use Rattle.farm_worked.specs.Worked.{with_key, call_under, answers, job_shows, res_shows, board_shows, did, passed, by_admin, by_dispatcher, by_ann, new_type}
+use Rattle.farm_worked.specs.Worked.{new_board, set, a_board, single, any_board}
 
 -- every command once
 unfoldable pub all_fourteen_commands : List Call

@@ -1,9 +1,5 @@
 use Rattle.std.proofs.Common.{refl}
-use Rattle.farm_types.specs.Words.{is_word, is_tag, is_tags}
-use Rattle.farm_types.specs.Pick.{least}
-use Rattle.farm_types.specs.Refuse.{refusal, early_refusal, own_refusal}
-use Rattle.farm_types.specs.Change.{change}
-use Rattle.farm_types.specs.Machine.{answer, step}
+use Rattle.farm_types.specs.Names.{answer, change, early_refusal, is_tag, is_tags, is_word, least, own_refusal, refusal, step}
 use Rattle.farm_worked.specs.WorkedWhole.{all_fourteen_commands, pass_on_empty_farm, same_type_twice, keyed_type_twice, last_moment}
 use Rattle.farm_worked.proofs.laws.all_as_worked.Goals as goal
 

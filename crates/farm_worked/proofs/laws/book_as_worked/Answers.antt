@@ -2,12 +2,7 @@ use Rattle.std.proofs.Common.{◌==◌, is_ok, refl, sym, ap}
 use Rattle.std.proofs.lemmas.Bool.{true≢false, le-leb}
 use Rattle.std.proofs.Math.Dec.{lit≤}
 use Rattle.std.specs.Fmt.{digits}
-use Rattle.farm_types.specs.Words.{is_word, is_tag, is_tags}
-use Rattle.farm_types.specs.Tags.{tags_of, tags_among, tags_read}
-use Rattle.farm_types.specs.Pick.{least}
-use Rattle.farm_types.specs.Refuse.{refusal, early_refusal, own_refusal}
-use Rattle.farm_types.specs.Change.{change}
-use Rattle.farm_types.specs.Machine.{answer, step}
+use Rattle.farm_types.specs.Names.{answer, change, early_refusal, is_tag, is_tags, is_word, least, own_refusal, refusal, step, tags_among, tags_of, tags_read}
 use Rattle.farm_worked.specs.Book.{reasons_in_order}
 use Rattle.farm_worked.proofs.laws.book_as_worked.Goals as goal
 

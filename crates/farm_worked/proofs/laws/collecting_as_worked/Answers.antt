@@ -1,10 +1,7 @@
 use Rattle.std.proofs.Common.{refl}
-use Rattle.farm_types.specs.Words.{is_word, is_tag, is_tags}
-use Rattle.farm_types.specs.Pick.{least}
-use Rattle.farm_types.specs.Refuse.{refusal, early_refusal, own_refusal}
-use Rattle.farm_types.specs.Change.{change}
-use Rattle.farm_types.specs.Machine.{answer, step}
-use Rattle.farm_worked.specs.WorkedCollecting.{group_collects, collector_is_served, higher_group_collects_next, collector_is_canceled, one_pass_more, collector_is_not_started, collector_swaps, types_collect, types_are_served}
+use Rattle.farm_types.specs.Names.{answer, change, early_refusal, is_tag, is_tags, is_word, least, own_refusal, refusal, step}
+use Rattle.farm_worked.specs.WorkedCollecting.{group_collects, collector_is_served, higher_group_collects_next, collector_is_canceled, one_pass_more}
+use Rattle.farm_worked.specs.WorkedCollecting.{collector_is_not_started, collector_swaps, types_collect, types_are_served}
 use Rattle.farm_worked.proofs.laws.collecting_as_worked.Goals as goal
 
 pub returns : goal.returns

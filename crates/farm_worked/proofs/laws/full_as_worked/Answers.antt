@@ -1,12 +1,9 @@
 use Rattle.std.proofs.Common.{◌≡◌, ◌∷◌, [], length, refl}
-use Rattle.farm_types.specs.Words.{is_word, is_tag, is_tags}
-use Rattle.farm_types.specs.Pick.{least}
-use Rattle.farm_types.specs.Pass.{checks}
-use Rattle.farm_types.specs.Refuse.{refusal, early_refusal, own_refusal}
-use Rattle.farm_types.specs.Change.{change, reply_of}
-use Rattle.farm_types.specs.Machine.{Denied, Repeated, run, answer, step}
+use Rattle.farm_types.specs.Names.{answer, change, checks, Denied, early_refusal, is_tag, is_tags, is_word, least, own_refusal, refusal, Repeated, reply_of}
+use Rattle.farm_types.specs.Names.{run, step}
 use Rattle.farm_worked.specs.Worked.{answers, did}
-use Rattle.farm_worked.specs.Full.{farm_of_jobs, with_due_board, with_reservations, with_kept, one_more_group, one_more_reservation, one_more_key, first_key, without_a_key}
+use Rattle.farm_worked.specs.Full.{farm_of_jobs, with_due_board, with_reservations, with_kept, one_more_group, one_more_reservation, one_more_key, first_key}
+use Rattle.farm_worked.specs.Full.{without_a_key}
 use Rattle.farm_worked.proofs.laws.full_as_worked.Goals as goal
 
 jobs_beyond : answers (farm_of_jobs 99999) one_more_group ≡ Denied 4 ∷ []

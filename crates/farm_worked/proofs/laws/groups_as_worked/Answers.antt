@@ -1,10 +1,7 @@
 use Rattle.std.proofs.Common.{refl}
-use Rattle.farm_types.specs.Words.{is_word, is_tag, is_tags}
-use Rattle.farm_types.specs.Pick.{least}
-use Rattle.farm_types.specs.Refuse.{refusal, early_refusal, own_refusal}
-use Rattle.farm_types.specs.Change.{change}
-use Rattle.farm_types.specs.Machine.{answer, step}
-use Rattle.farm_worked.specs.Groups.{group_asks, group_is_served, group_starts, one_member_ends, the_other_ends, canceled_while_it_waits, first_member_collects, boards_are_taken_back, canceled_while_it_collects}
+use Rattle.farm_types.specs.Names.{answer, change, early_refusal, is_tag, is_tags, is_word, least, own_refusal, refusal, step}
+use Rattle.farm_worked.specs.Groups.{group_asks, group_is_served, group_starts, one_member_ends, the_other_ends, canceled_while_it_waits, first_member_collects}
+use Rattle.farm_worked.specs.Groups.{boards_are_taken_back, canceled_while_it_collects}
 use Rattle.farm_worked.proofs.laws.groups_as_worked.Goals as goal
 
 pub returns : goal.returns

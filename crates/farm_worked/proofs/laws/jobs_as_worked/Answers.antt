@@ -1,10 +1,7 @@
 use Rattle.std.proofs.Common.{refl}
-use Rattle.farm_types.specs.Words.{is_word, is_tag, is_tags}
-use Rattle.farm_types.specs.Pick.{least}
-use Rattle.farm_types.specs.Refuse.{refusal, early_refusal, own_refusal}
-use Rattle.farm_types.specs.Change.{change}
-use Rattle.farm_types.specs.Machine.{answer, step}
-use Rattle.farm_worked.specs.WorkedJobs.{higher_priority_first, least_list_by_tag, least_of_three_boards, cancel_half_of_a_group, cancel_before_the_start, retire_a_held_board, more_boards_than_there_are, wrong_callers_and_rows}
+use Rattle.farm_types.specs.Names.{answer, change, early_refusal, is_tag, is_tags, is_word, least, own_refusal, refusal, step}
+use Rattle.farm_worked.specs.WorkedJobs.{higher_priority_first, least_list_by_tag, least_of_three_boards, cancel_half_of_a_group, cancel_before_the_start}
+use Rattle.farm_worked.specs.WorkedJobs.{retire_a_held_board, more_boards_than_there_are, wrong_callers_and_rows}
 use Rattle.farm_worked.proofs.laws.jobs_as_worked.Goals as goal
 
 pub returns : goal.returns

@@ -1,10 +1,7 @@
 use Rattle.std.proofs.Common.{refl}
-use Rattle.farm_types.specs.Words.{is_word, is_tag, is_tags}
-use Rattle.farm_types.specs.Pick.{least}
-use Rattle.farm_types.specs.Refuse.{refusal, early_refusal, own_refusal}
-use Rattle.farm_types.specs.Change.{change}
-use Rattle.farm_types.specs.Machine.{answer, step}
-use Rattle.farm_worked.specs.WorkedReservations.{reservation_before_job, lease_ends, acquire_at_deadline, clock_never_falls_back, acquired_outlives_deadline, refreshed_too_late, canceled_and_expired, cancel_an_acquired_one}
+use Rattle.farm_types.specs.Names.{answer, change, early_refusal, is_tag, is_tags, is_word, least, own_refusal, refusal, step}
+use Rattle.farm_worked.specs.WorkedReservations.{reservation_before_job, lease_ends, acquire_at_deadline, clock_never_falls_back, acquired_outlives_deadline}
+use Rattle.farm_worked.specs.WorkedReservations.{refreshed_too_late, canceled_and_expired, cancel_an_acquired_one}
 use Rattle.farm_worked.proofs.laws.reservations_as_worked.Goals as goal
 
 pub returns : goal.returns

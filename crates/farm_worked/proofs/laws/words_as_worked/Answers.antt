@@ -1,8 +1,7 @@
 use Rattle.std.proofs.Common.{refl}
 use Rattle.std.specs.Char.{encode_utf8}
 use Rattle.std.specs.Str.{is_utf8, chars}
-use Rattle.farm_types.specs.Words.{is_word, is_tag, is_tags}
-use Rattle.farm_types.specs.Proper.{is_proper_cmd}
+use Rattle.farm_types.specs.Names.{is_proper_cmd, is_tag, is_tags, is_word}
 use Rattle.farm_worked.proofs.laws.words_as_worked.Goals as goal
 
 pub returns : goal.returns
