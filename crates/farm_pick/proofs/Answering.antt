@@ -1,14 +1,13 @@
 -- From short lists of places to the least list.
-use Rattle.std.proofs.Common.{◌≡◌, ◌≢◌, ℕ, zero, suc, ◌<◌, ◌≤◌, Bool, true, false, List, [], ◌∷◌, ◌==◌, length, map, set, take, get_or, Bor, refl, sym, ap, ◌∙◌, inl, inr, subst, arith, Option, Some, None}
+use Rattle.std.proofs.Common.{◌≡◌, ◌≢◌, ℕ, zero, suc, ◌<◌, ◌≤◌, Bool, true, false, List, [], ◌∷◌, ◌==◌, length, map, set, take, get_or, Bor, refl, sym, ap, ◌∙◌}
+use Rattle.std.proofs.Common.{inl, inr, subst, arith, Option, Some, None}
 use Rattle.std.specs.Prelude.{All, AllPairs, IfSome, IfNone, MatchOption, option_map}
-use Rattle.std.specs.List.{AllZip, AllByRecursion}
-use Rattle.std.proofs.lemmas.Bool.{false≢true, eqb-false, or_parts}
+use Rattle.farm_pick.proofs.Names.{AllByRecursion, AllZip, BoardRow, eqb-false, IsTotalOrder, or_parts, Want}
+use Rattle.std.proofs.lemmas.Bool.{false≢true}
 use Rattle.std.proofs.lemmas.List.{take_all}
 use Rattle.std.proofs.lemmas.List.Elements.{All-nil, All-cons}
 use Rattle.std.proofs.lemmas.List.Kept.{AllPairs-cons}
-use Rattle.farm_types.specs.Pick.{AreAmong, least, IsLeast, meets, names_cmp}
-use Rattle.farm_types.specs.declared.rows.Want.{Want}
-use Rattle.farm_types.specs.declared.rows.BoardRow.{BoardRow}
+use Rattle.farm_types.specs.Names.{AreAmong, board_cmp, IsLeast, least, meets, names_cmp}
 use Rattle.farm_sound.proofs.Least.{IsLeast-least, none_meets}
 use Rattle.farm_pick.specs.Choice.{has, Ascends, Chooses, IsLeastChoice, IsShortlist, candidate_at}
 use Rattle.farm_pick.specs.Least.{boards_at}
@@ -16,10 +15,8 @@ use Rattle.farm_pick.proofs.Choices.{Found, from_lists, into_lists, length-chose
 use Rattle.farm_pick.proofs.Ordered.{tied_same}
 use Rattle.farm_pick.proofs.Places.{AreInNameOrder, AreAt, candidate_within, board_total}
 use Rattle.farm_pick.proofs.Meeting.{boards_from_choice, choice_from_boards, not_before}
-use Rattle.std.specs.Cmp.{IsTotalOrder}
 use Rattle.std.specs.Cmp.Lexicographic.{lists_total}
 use Rattle.std.specs.declared.cmp.Ordering.TheVariants.{Equal}
-use Rattle.farm_types.specs.Table.{board_cmp}
 
 -- ---- there is one least list at most
 

@@ -1,17 +1,15 @@
 -- The types of the queues.
-use Rattle.std.proofs.Common.{◌≡◌, ◌∙◌, ◌||◌, ◌==◌, ◌<◌, ◌≤◌, ◌+◌, ◌++◌, ◌⊎◌, ℕ, zero, suc, List, [], ◌∷◌, length, map, Bool, true, false, Some, None, slice_get, get_or, inl, inr, refl, sym, ap, subst, arith, add-one, Option}
+use Rattle.std.proofs.Common.{◌≡◌, ◌∙◌, ◌||◌, ◌==◌, ◌<◌, ◌≤◌, ◌+◌, ◌++◌, ◌⊎◌, ℕ, zero, suc, List, [], ◌∷◌, length, map, Bool, true, false, Some, None}
+use Rattle.std.proofs.Common.{slice_get, get_or, inl, inr, refl, sym, ap, subst, arith, add-one, Option}
 use Rattle.std.specs.Prelude.{unwrap_or}
 use mathlib.Core.Bool.{true≢false}
-use Rattle.std.specs.List.{AllByRecursion, list_any, position, position_or_len}
+use Rattle.farm_pick.proofs.Names.{AllByRecursion, bytes_eq, bytes_eq-Decides, differs, differs_more, list_any, nat_list_eq_equiv, nat_tests, option_map_or}
+use Rattle.farm_pick.proofs.Names.{same_Some}
+use Rattle.std.specs.List.{position, position_or_len}
 use Rattle.std.proofs.lemmas.List.Quantifiers.{position-Some}
 use Rattle.std.proofs.lemmas.List.Sums.{fails_before_first}
-use Rattle.std.specs.Option.{option_map_or}
-use Rattle.std.specs.Str.{bytes_eq}
-use Rattle.std.specs.Cmp.Lexicographic.{nat_list_eq_equiv}
-use Rattle.std.proofs.lemmas.Bool.Decides.{Decides-eqb, nat_tests, same_from_decides}
-use Rattle.std.proofs.lemmas.Option.{same_Some, slice_get-get_or}
-use Rattle.std.proofs.lemmas.Slice.Eq.{bytes_eq-Decides}
-use Rattle.farm_sound.proofs.Own.{differs, differs_more}
+use Rattle.std.proofs.lemmas.Bool.Decides.{Decides-eqb, same_from_decides}
+use Rattle.std.proofs.lemmas.Option.{slice_get-get_or}
 use Rattle.farm_pick.specs.Queued.{is_open, same_kind}
 use Rattle.farm_pick.specs.Index.{kind_at, AreKinds, IsIdle, shown_idle}
 use Rattle.farm_pick.specs.Heads.{queue_open}

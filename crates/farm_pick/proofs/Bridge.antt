@@ -1,10 +1,8 @@
 -- The place of the claim tried last, and which claims come after it.
 use Rattle.std.proofs.Common.{◌+◌, ◌≡◌, ◌≤◌, None, Option, Some, ap, arith, refl, sym, ℕ}
-use Rattle.std.specs.Ordering.{is_lt, nat_cmp, ordering_then}
-use Rattle.std.specs.Cmp.{nat_cmp_is}
+use Rattle.farm_pick.proofs.Names.{is_lt, nat_cmp, nat_cmp_is, ordering_then}
 use Rattle.std.specs.declared.cmp.Ordering.TheVariants.{Less}
-use Rattle.farm_types.specs.Limits.{highest_priority}
-use Rattle.farm_types.specs.Pick.{Claimed, shown_claim}
+use Rattle.farm_types.specs.Names.{Claimed, highest_priority, shown_claim}
 use Rattle.farm_pick.specs.Heads.{is_later, last_spot}
 use Rattle.farm_pick.specs.Merged.{comes_after}
 

@@ -1,32 +1,27 @@
 -- The queues after a call of put or take, as callers see them.
-use Rattle.std.proofs.Common.{◌≡◌, ◌∙◌, ◌==◌, ◌≤◌, ◌++◌, ℕ, List, [], ◌∷◌, length, map, arith, cond, not, Option, Some, None, Result, Ok, Err, refl, sym, ap, subst, Bool, false, ◌<◌, zero, suc, get_or}
+use Rattle.std.proofs.Common.{◌≡◌, ◌∙◌, ◌==◌, ◌≤◌, ◌++◌, ℕ, List, [], ◌∷◌, length, map, arith, cond, not, Option, Some, None, Result, Ok, Err, refl, sym, ap}
+use Rattle.std.proofs.Common.{subst, Bool, false, ◌<◌, zero, suc, get_or}
 use Rattle.std.specs.Prelude.{OnOk, OnErr, unwrap_or}
-use Rattle.std.specs.List.{AllByRecursion, filter, find, remove}
-use Rattle.std.specs.BTreeMap.{insert_entry}
-use Rattle.std.specs.Ordering.{is_eq, nat_cmp}
-use Rattle.farm_types.specs.Table.{put}
-use Rattle.farm_types.specs.declared.claims.Claim.{Claim}
+use Rattle.farm_pick.proofs.Names.{AllByRecursion, AllByRecursion-weaker, bytes_eq, bytes_eq-Decides, Claim, filter_all, find, found_passes, insert_entry}
+use Rattle.farm_pick.proofs.Names.{is_eq, IsTotalOrder, nat_cmp, nat_list_cmp_total, nat_list_eq_equiv, on_total, same_names, text_itself}
+use Rattle.std.specs.List.Sorted.{IsStrictlySortedBy}
+use Rattle.std.specs.List.{filter, remove}
+use Rattle.farm_types.specs.Names.{put}
 use Rattle.farm_pick.specs.Queued.{Queued, QueueLists}
-use Rattle.farm_pick.specs.Index.{spot_cmp, queued_cmp, kind_at, shown_claims, claim_at, place_at, AreQueues, AreKinds, AreIdle, IsIdle, IsWell, shown_idle, TakesOrStays, idle_cmp, named_cmp}
+use Rattle.farm_pick.specs.Index.{spot_cmp, queued_cmp, kind_at, shown_claims, claim_at, place_at, AreQueues, AreKinds, AreIdle, IsIdle, IsWell, shown_idle}
+use Rattle.farm_pick.specs.Index.{TakesOrStays, idle_cmp, named_cmp}
 use Rattle.farm_pick.specs.declared.spot.Spot.{Spot}
 use Rattle.farm_pick.specs.declared.spot.Place.{Place}
 use Rattle.farm_pick.specs.declared.idle.IdleRow.{IdleRow}
-use Rattle.farm_types.proofs.Put.{AllByRecursion-put, AllByRecursion-weaker, put_sorted, found_passes}
-use Rattle.std.specs.Cmp.{IsTotalOrder, on_total}
-use Rattle.std.specs.Str.{bytes_eq}
+use Rattle.farm_types.proofs.Put.{AllByRecursion-put, put_sorted}
 use Rattle.std.proofs.lemmas.List.Kept.{IsStrictlySortedBy-filter}
 use Rattle.std.proofs.lemmas.Result.{on_err_weaker, on_ok_weaker}
-use Rattle.farm_sound.proofs.Lists.{filter_all, all_fail}
-use Rattle.std.specs.Cmp.Lexicographic.{nat_list_cmp_total, nat_list_eq_equiv}
-use Rattle.std.specs.List.Sorted.{IsStrictlySortedBy}
+use Rattle.farm_sound.proofs.Lists.{all_fail}
 use Rattle.std.specs.declared.cmp.Ordering.TheVariants.{Less}
 use Rattle.farm_pick.proofs.Entries.{filter_seen, put_seen, all_pass}
 use Rattle.farm_pick.proofs.Keeping.{are_more, kind_more, long, shown_more, no_place, no_claim, after_put, shown_put, none_taken, after_take, shown_take}
 use Rattle.std.proofs.lemmas.Bool.{not_from_false}
 use Rattle.std.proofs.lemmas.Map.Keys.{Less-from_sorted}
-use Rattle.std.proofs.lemmas.Slice.Eq.{bytes_eq-Decides}
-use Rattle.farm_types.proofs.Searched.{same_names}
-use Rattle.farm_sound.proofs.Own.{text_itself}
 
 -- ---- the free boards without one of them
 

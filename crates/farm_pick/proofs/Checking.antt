@@ -1,24 +1,12 @@
 -- The checks of a pass take no place in the queue.
 use Rattle.std.proofs.Common.{◌&&◌, ◌++◌, ◌+◌, ◌<◌, ◌==◌, ◌∙◌, ◌∷◌, ◌≡◌, ◌≤◌, Bool, List, ap, arith, cond, false, inr, map, refl, subst, sym, true, ℕ, []}
-use Rattle.std.specs.Cmp.{nat_cmp_is}
-use Rattle.std.specs.List.{AllByRecursion, filter, fold}
-use Rattle.std.specs.Str.{bytes_eq}
+use Rattle.farm_pick.proofs.Names.{all_join, AllByRecursion, AllByRecursion-both, AllByRecursion-weaker, and-false, append-nil, append_assoc, BoardRow}
+use Rattle.farm_pick.proofs.Names.{bytes_eq, differs_more, fold, Holder, itself, JobRow, nat_cmp_is, none_pass, State}
+use Rattle.std.specs.List.{filter}
 use Rattle.std.specs.declared.cmp.Ordering.TheVariants.{Greater}
-use Rattle.std.proofs.Math.Bool.{and-false}
-use Rattle.std.proofs.lemmas.List.{append-nil, append_assoc}
-use Rattle.farm_types.specs.Farm.{Farm}
-use Rattle.farm_types.specs.Pass.{check_job, check_one, checks, has_room, held_board, is_due}
-use Rattle.farm_types.specs.Pick.{IsAmong, claim_cmp, claims, group_claim, leads_claim, queue, waits}
-use Rattle.farm_types.specs.Sound.{IsSound}
-use Rattle.farm_types.specs.Table.{change_where, job_cmp, put, put_all}
-use Rattle.farm_types.specs.declared.rows.BoardRow.{BoardRow}
-use Rattle.farm_types.specs.declared.rows.Holder.{Holder}
-use Rattle.farm_types.specs.declared.rows.JobRow.{JobRow}
-use Rattle.farm_types.specs.declared.rows.State.{State}
-use Rattle.farm_types.proofs.Put.{AllByRecursion-weaker}
-use Rattle.farm_sound.proofs.Lists.{all_join, among_append, none_pass}
-use Rattle.farm_sound.proofs.Own.{differs_more, itself}
-use Rattle.farm_sound.proofs.Where.{AllByRecursion-both}
+use Rattle.farm_types.specs.Names.{change_where, check_job, check_one, checks, claim_cmp, claims, Farm, group_claim, has_room, held_board, is_due, IsAmong}
+use Rattle.farm_types.specs.Names.{IsSound, job_cmp, leads_claim, put, put_all, queue, waits}
+use Rattle.farm_sound.proofs.Lists.{among_append}
 use Rattle.farm_pick.proofs.Putting.{claims_added, put_behind}
 use Rattle.farm_pick.proofs.Entries.{among_itself}
 use Rattle.farm_pick.proofs.Taking.{one_fails}

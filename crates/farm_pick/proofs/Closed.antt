@@ -1,17 +1,11 @@
 -- A claim whose queue is closed is not met.
 use Rattle.std.proofs.Common.{◌∙◌, ◌∷◌, ◌≡◌, ◌≤◌, Bool, List, None, Option, Some, ap, arith, cond, false, length, map, refl, sym, true, ℕ, []}
 use mathlib.Core.Bool.{true≢false, false≢true}
-use Rattle.std.specs.List.{filter, list_any}
+use Rattle.farm_pick.proofs.Names.{BoardRow, both, bytes_eq, list_any, option_map_or, Want}
 use Rattle.std.specs.List.Sorted.{IsStrictlySortedBy}
-use Rattle.std.specs.Option.{option_map_or}
-use Rattle.std.specs.Str.{bytes_eq}
-use Rattle.farm_types.specs.Farm.{Farm}
-use Rattle.farm_types.specs.Pick.{IsAmong, Claimed, fits, is_free, least}
-use Rattle.farm_types.specs.Table.{board_cmp}
-use Rattle.farm_types.specs.declared.rows.BoardRow.{BoardRow}
-use Rattle.farm_types.specs.declared.rows.Want.{Want}
+use Rattle.std.specs.List.{filter}
+use Rattle.farm_types.specs.Names.{board_cmp, Claimed, Farm, fits, is_free, IsAmong, least}
 use Rattle.farm_sound.proofs.Least.{IsLeast-least}
-use Rattle.farm_sound.proofs.Tests.{both}
 use Rattle.farm_pick.proofs.Meeting.{meets_parts}
 use Rattle.farm_pick.specs.Queued.{IdleBoard, first_kind, idle_board, idle_boards, is_open, queue_kind}
 

@@ -1,23 +1,14 @@
 -- A group that collects stays in the queue.
 use Rattle.std.proofs.Common.{◌&&◌, ◌==◌, ◌∙◌, ◌∷◌, ◌≡◌, List, Some, ap, inl, inr, nat_le, length, map, not, refl, sym, true, ℕ, []}
 use mathlib.Core.Bool.{true≢false}
-use Rattle.std.specs.List.{AllByRecursion, fold, list_all}
-use Rattle.std.proofs.Math.Bool.{and-true}
-use Rattle.farm_types.specs.Farm.{Farm, job_of, members}
-use Rattle.farm_types.specs.Pass.{collect, give_member, may_collect, pass_over, placed_job}
-use Rattle.farm_types.specs.Pick.{IsAmong, Claimed, is_waiting, queue, waits}
-use Rattle.farm_types.specs.Sound.{IsSound}
-use Rattle.farm_types.specs.declared.rows.BoardRow.{BoardRow}
-use Rattle.farm_types.specs.declared.rows.JobRow.{JobRow}
-use Rattle.farm_types.specs.declared.rows.JobState.{JobState}
-use Rattle.farm_types.proofs.Put.{AllByRecursion-weaker}
-use Rattle.farm_sound.proofs.Claims.{IsClaim, IsGroupClaim, queue_claims}
+use Rattle.farm_pick.proofs.Names.{all_true, AllByRecursion, AllByRecursion-both, AllByRecursion-weaker, among_has, and-true, BoardRow, both, by_cases}
+use Rattle.farm_pick.proofs.Names.{filter_all, fold, given, IsClaim, IsGroupClaim, JobRow, JobState, list_all, map_id, only_job, own_job, queue_claims}
+use Rattle.farm_pick.proofs.Names.{same_number}
+use Rattle.farm_types.specs.Names.{Claimed, collect, Farm, give_member, is_waiting, IsAmong, IsSound, job_of, may_collect, members, pass_over, placed_job}
+use Rattle.farm_types.specs.Names.{queue, waits}
 use Rattle.farm_sound.proofs.Collect.{collect_is, pairs_for, pairs_of}
-use Rattle.farm_sound.proofs.Group.{given, jobs_given}
-use Rattle.farm_sound.proofs.Lists.{all_tested, among_has, filter_all}
-use Rattle.farm_sound.proofs.Own.{only_job, own_job}
-use Rattle.farm_sound.proofs.Tests.{both, same_number}
-use Rattle.farm_sound.proofs.Where.{AllByRecursion-both, all_true, by_cases, map_id}
+use Rattle.farm_sound.proofs.Group.{jobs_given}
+use Rattle.farm_sound.proofs.Lists.{all_tested}
 use Rattle.farm_pick.proofs.Taking.{given_claim, queue_stays}
 
 abbrev S : JobState

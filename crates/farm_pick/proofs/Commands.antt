@@ -1,43 +1,27 @@
 -- What each command leaves of the queue.
-use Rattle.std.proofs.Common.{◌&&◌, ◌+◌, ◌==◌, ◌||◌, ◌∙◌, ◌∷◌, ◌≡◌, ◌≢◌, ◌≤◌, Bool, List, None, Option, Some, ap, arith, cond, false, is_none, length, not, refl, sym, true, ℕ, []}
-use Rattle.std.specs.List.{AllByRecursion}
-use Rattle.std.specs.Option.{option_map_or}
-use Rattle.std.specs.Str.{bytes_eq}
-use Rattle.std.proofs.Math.Bool.{and-true}
-use Rattle.std.proofs.lemmas.Bool.Decides.{nat_tests}
-use Rattle.std.proofs.lemmas.Simd.{map-map}
-use Rattle.farm_types.specs.Limits.{longest_key, longest_name}
-use Rattle.farm_types.specs.Refusals.{forbidden, no_job, no_reservation, reservation_expired, wrong_job_state, wrong_reservation_state}
-use Rattle.farm_types.specs.Change.{act, after_check, after_job, cancel_group, done_with, finish_one, in_state, is_unstarted, farm_at_call, new_res, start_group}
-use Rattle.farm_types.specs.Codes.{same_job_state, same_res_state}
-use Rattle.farm_types.specs.Farm.{Farm, board_of, job_of, put_board, res_of}
-use Rattle.farm_types.specs.Pass.{giving_back, change_jobs, change_res, freed_board, is_dead, unplaced_job}
-use Rattle.farm_types.specs.Pick.{is_waiting, queue, res_claim, waits}
-use Rattle.farm_types.specs.Proper.{is_proper_cmd}
-use Rattle.farm_types.specs.Refuse.{first_code, is_alive, moment, own_refusal, owned_by, reasons, refusal, res_is, res_reasons}
-use Rattle.farm_types.specs.Sound.{IsSound, phase}
-use Rattle.farm_types.specs.Words.{is_word}
+use Rattle.std.proofs.Common.{◌&&◌, ◌+◌, ◌==◌, ◌||◌, ◌∙◌, ◌∷◌, ◌≡◌, ◌≢◌, ◌≤◌, Bool, List, None, Option, Some, ap, arith, cond, false, is_none, length, not}
+use Rattle.std.proofs.Common.{refl, sym, true, ℕ, []}
+use Rattle.farm_pick.proofs.Names.{all_true, AllByRecursion, AllByRecursion-weaker, and-true, BoardRow, both, by_cases, bytes_eq, found_has, found_passes}
+use Rattle.farm_pick.proofs.Names.{JobRow, JobState, map-map, map_id, nat_tests, only_job, option_map_or, ResRow, same_number, State, Want}
+use Rattle.farm_types.specs.Names.{act, after_check, after_job, board_of, cancel_group, change_jobs, change_res, done_with, Farm, farm_at_call, finish_one}
+use Rattle.farm_types.specs.Names.{first_code, forbidden, freed_board, giving_back, in_state, is_alive, is_dead, is_proper_cmd, is_unstarted, is_waiting}
+use Rattle.farm_types.specs.Names.{is_word, IsSound, job_of, longest_key, longest_name, moment, new_res, no_job, no_reservation, own_refusal, owned_by, phase}
+use Rattle.farm_types.specs.Names.{put_board, queue, reasons, refusal, res_claim, res_is, res_of, res_reasons, reservation_expired, same_job_state}
+use Rattle.farm_types.specs.Names.{same_res_state, start_group, unplaced_job, waits, wrong_job_state, wrong_reservation_state}
 use Rattle.farm_types.specs.declared.calls.Call.{Call}
 use Rattle.farm_types.specs.declared.calls.Cmd.{Cmd}
-use Rattle.farm_types.specs.declared.rows.BoardRow.{BoardRow}
-use Rattle.farm_types.specs.declared.rows.JobRow.{JobRow}
-use Rattle.farm_types.specs.declared.rows.JobState.{JobState}
 use Rattle.farm_types.specs.declared.rows.Outcome.{Outcome}
-use Rattle.farm_types.specs.declared.rows.ResRow.{ResRow}
 use Rattle.farm_types.specs.declared.rows.ResState.{ResState}
-use Rattle.farm_types.specs.declared.rows.State.{State}
-use Rattle.farm_types.specs.declared.rows.Want.{Want}
-use Rattle.farm_types.proofs.Put.{AllByRecursion-weaker, found_has, found_passes}
 use Rattle.farm_sound.proofs.Answered.{unrefused}
 use Rattle.farm_sound.proofs.Clear.{first_clear, passes, some_of}
-use Rattle.farm_sound.proofs.Own.{only_job, only_res}
+use Rattle.farm_sound.proofs.Own.{only_res}
 use Rattle.farm_sound.proofs.Step.{IsSound-moved_to}
-use Rattle.farm_sound.proofs.Tests.{acquired_from, allocated_from, both, same_number, scheduled_from, scheduling_from, started_from}
-use Rattle.farm_sound.proofs.Where.{all_true, by_cases, map_id}
+use Rattle.farm_sound.proofs.Tests.{acquired_from, allocated_from, scheduled_from, scheduling_from, started_from}
 use Rattle.farm_sound.proofs.Whole.{Alike}
 use Rattle.farm_pick.specs.Follow.{queue_after, queue_without}
 use Rattle.farm_pick.proofs.Putting.{reserve_puts, submit_puts}
-use Rattle.farm_pick.proofs.Taking.{SameClaim, and_other, other, queue_stays, queue_takes, reservations_go, same_claim, same_then, takes_reservations, groups_differ, reservations_differ}
+use Rattle.farm_pick.proofs.Taking.{SameClaim, and_other, other, queue_stays, queue_takes, reservations_go, same_claim, same_then, takes_reservations}
+use Rattle.farm_pick.proofs.Taking.{groups_differ, reservations_differ}
 
 -- ---- states
 

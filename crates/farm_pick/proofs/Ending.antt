@@ -1,17 +1,10 @@
 -- The claims of the reservations that end leave the queue.
 use Rattle.std.proofs.Common.{◌==◌, ◌≡◌, Bool, Some, ap, false, not, refl, ℕ}
-use Rattle.std.specs.List.{AllByRecursion, filter, list_any}
-use Rattle.farm_types.specs.Farm.{Farm, res_of}
-use Rattle.farm_types.specs.Pass.{expire, is_dead}
-use Rattle.farm_types.specs.Pick.{IsAmong, queue}
-use Rattle.farm_types.specs.Sound.{IsSound}
-use Rattle.farm_types.specs.declared.rows.ResRow.{ResRow}
+use Rattle.farm_pick.proofs.Names.{AllByRecursion, AllByRecursion-both, AllByRecursion-weaker, filter_all, itself, list_any, own_job, ResRow, same_number}
+use Rattle.std.specs.List.{filter}
+use Rattle.farm_types.specs.Names.{expire, Farm, is_dead, IsAmong, IsSound, queue, res_of}
 use Rattle.farm_types.specs.declared.rows.ResState.{ResState}
-use Rattle.farm_types.proofs.Put.{AllByRecursion-weaker}
-use Rattle.farm_sound.proofs.Lists.{filter_all}
-use Rattle.farm_sound.proofs.Own.{itself, only_res, own_job, own_res}
-use Rattle.farm_sound.proofs.Tests.{same_number}
-use Rattle.farm_sound.proofs.Where.{AllByRecursion-both}
+use Rattle.farm_sound.proofs.Own.{only_res, own_res}
 use Rattle.farm_pick.proofs.Entries.{among_itself}
 use Rattle.farm_pick.proofs.Taking.{any_own, none_any, reservations_go, reservations_differ}
 

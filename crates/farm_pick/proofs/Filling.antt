@@ -1,25 +1,19 @@
 -- The queue as the queues show it while they are filled: what is put and taken, and which numbers stand there.
-use Rattle.std.proofs.Common.{◌+◌, ◌<◌, ◌==◌, ◌∙◌, ◌∷◌, ◌≡◌, ◌≤◌, Bool, IsNone, IsTrue, List, Some, add-one, ap, arith, drop, get_or, inl, inr, length, map, refl, subst, suc, sym, true, zero, ℕ, []}
+use Rattle.std.proofs.Common.{◌+◌, ◌<◌, ◌==◌, ◌∙◌, ◌∷◌, ◌≡◌, ◌≤◌, Bool, IsNone, IsTrue, List, Some, add-one, ap, arith, drop, get_or, inl, inr, length, map}
+use Rattle.std.proofs.Common.{refl, subst, suc, sym, true, zero, ℕ, []}
 use mathlib.Core.Bool.{true≢false}
 use Rattle.std.specs.Prelude.{nat_le}
-use Rattle.std.specs.List.{AllByRecursion, filter}
+use Rattle.farm_pick.proofs.Names.{AllByRecursion, AllByRecursion-map, AllByRecursion-weaker, claim_total, found_has, IsClaim, IsGroupClaim}
 use Rattle.std.specs.List.Sorted.{IsStrictlySortedBy}
+use Rattle.farm_pick.proofs.Names.{JobRow, nat_tests, Ordering, queue_claims, queue_sorted, ResRow}
+use Rattle.std.specs.List.{filter}
 use Rattle.std.specs.Ordering.{match_ordering}
-use Rattle.std.specs.declared.cmp.Ordering.{Ordering}
 use Rattle.std.specs.declared.cmp.Ordering.TheVariants.{Less}
-use Rattle.std.proofs.lemmas.Bool.Decides.{nat_tests}
 use Rattle.std.proofs.lemmas.List.{drop_more}
-use Rattle.farm_types.specs.Limits.{highest_priority}
-use Rattle.farm_types.specs.Farm.{Farm, job_of, res_of}
-use Rattle.farm_types.specs.Pick.{Claimed, claim_cmp, group_claim, queue, res_claim}
-use Rattle.farm_types.specs.Sound.{EachTwo, IsJobRow, IsResRow, IsSound, IsSteady}
-use Rattle.farm_types.specs.Table.{put}
-use Rattle.farm_types.specs.declared.rows.JobRow.{JobRow}
-use Rattle.farm_types.specs.declared.rows.ResRow.{ResRow}
-use Rattle.farm_types.proofs.Put.{AllByRecursion-weaker, found_has}
-use Rattle.farm_sound.proofs.Claims.{IsClaim, IsGroupClaim, IsResClaim, claim_total, leads, queue_claims, queue_sorted}
+use Rattle.farm_types.specs.Names.{claim_cmp, Claimed, EachTwo, Farm, group_claim, highest_priority, IsJobRow, IsResRow, IsSound, IsSteady, job_of, put, queue}
+use Rattle.farm_types.specs.Names.{res_claim, res_of}
+use Rattle.farm_sound.proofs.Claims.{IsResClaim, leads}
 use Rattle.farm_sound.proofs.Lists.{each_weaker, each_with}
-use Rattle.farm_sound.proofs.Where.{AllByRecursion-map}
 use Rattle.farm_pick.specs.Index.{queued_cmp}
 use Rattle.farm_pick.specs.Queued.{Queued, queued_of}
 use Rattle.farm_pick.proofs.Entries.{filter_seen, put_seen}

@@ -1,21 +1,27 @@
 -- The first claim of several queues.
-use Rattle.std.proofs.Common.{◌≡◌, ◌∙◌, ◌<◌, ◌+◌, ◌⊎◌, ℕ, List, [], ◌∷◌, Bool, true, false, Option, Some, None, refl, sym, ap, arith}
+use Rattle.std.proofs.Common.{◌≡◌, ◌∙◌, ◌<◌, ◌+◌, ◌⊎◌, ℕ, List, [], ◌∷◌, Bool, true, false, Option, Some, None, IsSome, refl, sym, ap, arith}
 use mathlib.Core.Bool.{true≢false}
-use Rattle.std.specs.Cmp.{IsTotalOrder, back_total, nat_cmp_total, on_total, then_total}
-use Rattle.std.specs.List.{AllByRecursion}
-use Rattle.std.specs.Ordering.{is_eq, is_gt, nat_cmp, ordering_then, ordering_reverse}
-use Rattle.std.specs.declared.cmp.Ordering.{Ordering}
+use Rattle.farm_pick.proofs.Names.{AllByRecursion, among_has, Claim, is_eq, is_gt, IsTotalOrder, nat_cmp, nat_cmp_total, on_total, Ordering, ordering_reverse}
+use Rattle.farm_pick.proofs.Names.{ordering_then, then_total}
+use Rattle.std.specs.Cmp.{back_total}
 use Rattle.std.specs.declared.cmp.Ordering.TheVariants.{Less}
 use Rattle.std.proofs.lemmas.Cmp.{tied_itself}
-use Rattle.farm_types.specs.Pick.{IsAmong, shown_cmp}
-use Rattle.farm_types.specs.Sound.{EachTwo}
-use Rattle.farm_types.specs.declared.claims.Claim.{Claim}
-use Rattle.farm_sound.proofs.Lists.{among_has}
+use Rattle.farm_types.specs.Names.{EachTwo, IsAmong, shown_cmp}
 use Rattle.farm_pick.specs.Index.{spot_cmp, claim_at, IsKeyed}
-use Rattle.farm_pick.specs.Heads.{IsFirstBehind, IsFirst, rank_cmp}
+use Rattle.farm_pick.specs.Heads.{IsFirstBehind, rank_cmp}
 use Rattle.farm_pick.specs.declared.spot.Spot.{Spot}
 use Rattle.farm_pick.proofs.Entries.{found_entry}
 use Rattle.farm_pick.proofs.Keeping.{tied}
+
+-- of the first n queues those that pass: the first of their claims that come after a spot
+abbrev pub IsFirst : List (Spot × Claim) → (ℕ → Bool) → ℕ → Spot → Option Claim → Type 0
+IsFirst es test n last None = (t : Spot) → t.queue < n → test t.queue ≡ true
+    → rank_cmp last t ≡ Less → claim_at es t ≡ None
+IsFirst es test n last (Some c) =
+    (s : Spot) × (s.queue < n) × (test s.queue ≡ true) × (rank_cmp last s ≡ Less)
+    × (claim_at es s ≡ Some c)
+    × ((t : Spot) → t.queue < n → test t.queue ≡ true → rank_cmp last t ≡ Less
+    → IsSome (claim_at es t) → rank_cmp t s ≡ Less → ⊥)
 
 pub rank_total : IsTotalOrder rank_cmp
 rank_total = then_total (on_total (λ (s : Spot). s.priority) (back_total nat_cmp_total)) (on_total (λ (s : Spot). s.number) nat_cmp_total)

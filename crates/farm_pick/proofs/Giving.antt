@@ -1,31 +1,17 @@
 -- A claim that is given boards leaves the queue, and they are free no more.
-use Rattle.std.proofs.Common.{◌&&◌, ◌==◌, ◌||◌, ◌∙◌, ◌∷◌, ◌≡◌, ◌≤◌, Bool, List, Some, ap, arith, cond, false, inl, inr, length, map, not, refl, subst, sym, true, ℕ, []}
-use Rattle.std.specs.Cmp.Lexicographic.{nat_list_eq_equiv}
-use Rattle.std.specs.List.{filter, fold, list_any, zip}
-use Rattle.std.specs.Str.{bytes_eq}
-use Rattle.std.proofs.Math.Bool.{and-false, and-true}
-use Rattle.std.proofs.lemmas.List.{length-map}
-use Rattle.farm_types.specs.Farm.{Farm, job_of, members}
-use Rattle.farm_types.specs.Pass.{allocated_reservation, give, give_group, give_member, give_res, held_board, placed_job}
-use Rattle.farm_types.specs.Pick.{IsAmong, Claimed, group_claim, is_free, is_nobody, is_waiting, least, queue, res_claim, serves, waits}
-use Rattle.farm_types.specs.Sound.{IsSound}
-use Rattle.farm_types.specs.Table.{change_where}
-use Rattle.farm_types.specs.declared.rows.BoardRow.{BoardRow}
-use Rattle.farm_types.specs.declared.rows.Holder.{Holder}
-use Rattle.farm_types.specs.declared.rows.JobRow.{JobRow}
-use Rattle.farm_types.specs.declared.rows.JobState.{JobState}
-use Rattle.farm_types.specs.declared.rows.ResRow.{ResRow}
-use Rattle.farm_types.specs.declared.rows.State.{State}
+use Rattle.std.proofs.Common.{◌&&◌, ◌==◌, ◌||◌, ◌∙◌, ◌∷◌, ◌≡◌, ◌≤◌, Bool, List, Some, ap, arith, cond, false, inl, inr, length, map, not, refl, subst, sym}
+use Rattle.std.proofs.Common.{true, ℕ, []}
+use Rattle.farm_pick.proofs.Names.{all_true, AllByRecursion-both, AllByRecursion-weaker, among_has, and-false, and-true, BoardRow, by_cases, bytes_eq, fold}
+use Rattle.farm_pick.proofs.Names.{given, Holder, IsClaim, IsGroupClaim, itself, JobRow, JobState, length-map, list_any, map_id, nat_list_eq_equiv, only_job}
+use Rattle.farm_pick.proofs.Names.{own_job, queue_claims, ResRow, same_number, State}
+use Rattle.std.specs.List.{filter, zip}
+use Rattle.farm_types.specs.Names.{allocated_reservation, change_where, Claimed, Farm, give, give_group, give_member, give_res, group_claim, held_board}
+use Rattle.farm_types.specs.Names.{is_free, is_nobody, is_waiting, IsAmong, IsSound, job_of, least, members, placed_job, queue, res_claim, serves, waits}
 use Rattle.farm_types.specs.declared.rows.TypeRow.{TypeRow}
-use Rattle.farm_types.proofs.Put.{AllByRecursion-weaker}
-use Rattle.farm_sound.proofs.Claims.{IsClaim, IsGroupClaim, IsResClaim, queue_claims}
+use Rattle.farm_sound.proofs.Claims.{IsResClaim}
 use Rattle.farm_sound.proofs.Free.{free_boards}
-use Rattle.farm_sound.proofs.Group.{given, jobs_given}
-use Rattle.farm_sound.proofs.Lists.{among_has}
-use Rattle.farm_sound.proofs.Own.{itself, only_job, own_job}
+use Rattle.farm_sound.proofs.Group.{jobs_given}
 use Rattle.farm_sound.proofs.Serve.{res_kept}
-use Rattle.farm_sound.proofs.Tests.{same_number}
-use Rattle.farm_sound.proofs.Where.{AllByRecursion-both, all_true, by_cases, map_id}
 use Rattle.farm_pick.specs.Follow.{queue_without}
 use Rattle.farm_pick.specs.Queued.{IdleBoard, idle_board, idle_boards}
 use Rattle.farm_pick.proofs.Entries.{among_itself}

@@ -1,12 +1,11 @@
 -- The heads of the queues, one after the other, as callers see them.
-use Rattle.std.proofs.Common.{◌≡◌, ◌∙◌, ◌&&◌, ◌||◌, ◌==◌, ◌≤◌, ◌<◌, ◌+◌, ◌-◌, ℕ, zero, suc, List, [], ◌∷◌, length, map, Bool, true, false, Option, Some, None, inl, inr, refl, sym, ap, subst, arith, ◌++◌}
-use Rattle.std.specs.List.{AllByRecursion, cons_option, filter_map, list_any, range_with_len}
-use Rattle.std.proofs.lemmas.Bool.{cases_Bool, eqb-false, or_left, or_right}
-use Rattle.farm_types.specs.Sound.{EachTwo}
-use Rattle.farm_types.specs.declared.claims.Claim.{Claim}
-use Rattle.farm_sound.proofs.Own.{differs_more, itself}
-use Rattle.farm_sound.proofs.Tests.{both, same_number}
-use Rattle.farm_sound.proofs.Where.{AllByRecursion-map}
+use Rattle.std.proofs.Common.{◌≡◌, ◌∙◌, ◌&&◌, ◌||◌, ◌==◌, ◌≤◌, ◌<◌, ◌+◌, ◌-◌, ℕ, zero, suc, List, [], ◌∷◌, length, map, Bool, true, false, Option, Some, None}
+use Rattle.std.proofs.Common.{inl, inr, refl, sym, ap, subst, arith, ◌++◌}
+use Rattle.farm_pick.proofs.Names.{AllByRecursion, AllByRecursion-map, append-nil, both, cases_Bool, Claim, differs_more, eqb-false, is_lt, IsPermutation}
+use Rattle.farm_pick.proofs.Names.{IsPermutation-sym, IsSortedBy, itself, list_any, map-map, same_number}
+use Rattle.std.specs.List.{cons_option, filter_map, range_with_len}
+use Rattle.std.proofs.lemmas.Bool.{or_left, or_right}
+use Rattle.farm_types.specs.Names.{EachTwo, shown_cmp}
 use Rattle.farm_pick.specs.Queued.{AreKindsOf, QueueLists, Queued, head_of, is_open, same_kind}
 use Rattle.farm_pick.specs.Index.{IsKeyed, IsWell, kind_at, queued_cmp, shown_claims, shown_entry, shown_idle}
 use Rattle.farm_pick.specs.Heads.{AreHeads, IsFirstBehind, head_in, heads_from, is_later, queue_open}
@@ -21,12 +20,7 @@ use Rattle.farm_pick.proofs.Entries.{all_put, none_before, sorted_seen}
 use Rattle.farm_pick.proofs.First.{first_alone, none_alone}
 use Rattle.farm_pick.proofs.Keeping.{queued_total, shown_apart}
 use Rattle.farm_pick.proofs.Shown.{first_shown, sorted_put_all}
-use Rattle.std.specs.List.Sorted.{IsPermutation, IsSortedBy}
-use Rattle.std.specs.Ordering.{is_lt}
-use Rattle.std.proofs.lemmas.List.{append-nil}
-use Rattle.std.proofs.lemmas.List.Sorted.{IsPermutation-map, IsPermutation-sym, IsPermutation-trans}
-use Rattle.std.proofs.lemmas.Simd.{map-map}
-use Rattle.farm_types.specs.Pick.{shown_cmp}
+use Rattle.std.proofs.lemmas.List.Sorted.{IsPermutation-map, IsPermutation-trans}
 use Rattle.farm_sound.proofs.Queue.{put_all_permutes}
 use Rattle.farm_pick.proofs.Ordered.{sorted_is_one}
 use Rattle.farm_pick.proofs.Queued.{shown_total}

@@ -1,31 +1,22 @@
 -- What a put and a take keep of the queues.
-use Rattle.std.proofs.Common.{◌≡◌, ◌∙◌, ◌&&◌, ◌==◌, ◌≤◌, ◌++◌, ℕ, zero, suc, List, [], ◌∷◌, length, map, Bool, true, false, cond, not, Option, Some, None, is_some, refl, sym, ap, subst, arith}
+use Rattle.std.proofs.Common.{◌≡◌, ◌∙◌, ◌&&◌, ◌==◌, ◌≤◌, ◌++◌, ℕ, zero, suc, List, [], ◌∷◌, length, map, Bool, true, false, cond, not, Option, Some, None}
+use Rattle.std.proofs.Common.{is_some, refl, sym, ap, subst, arith}
 use mathlib.Core.Bool.{true≢false, false≢true}
-use Rattle.std.specs.Cmp.{IsTotalOrder, on_total}
-use Rattle.std.specs.List.{AllByRecursion, filter}
-use Rattle.std.specs.Map.{remove_entry}
-use Rattle.std.specs.BTreeMap.{insert_entry}
-use Rattle.std.specs.Option.{option_map_or}
-use Rattle.std.specs.Ordering.{is_eq, nat_cmp}
+use Rattle.farm_pick.proofs.Names.{AllByRecursion, AllByRecursion-both, AllByRecursion-map, AllByRecursion-weaker, among_has, Claim, insert_entry, is_eq}
+use Rattle.farm_pick.proofs.Names.{IsTotalOrder, itself, nat_cmp, nat_tests, ne_eqb, on_total, option_map_or, ranked, remove_entry}
+use Rattle.std.specs.List.{filter}
 use Rattle.std.specs.declared.cmp.Ordering.TheVariants.{Equal}
-use Rattle.std.proofs.lemmas.Bool.{ne_eqb, not_from_false}
-use Rattle.std.proofs.lemmas.Bool.Decides.{nat_tests}
-use Rattle.std.proofs.lemmas.Cmp.{ranked}
-use Rattle.farm_types.specs.Pick.{IsAmong, shown_cmp}
-use Rattle.farm_types.specs.Sound.{EachTwo}
-use Rattle.farm_types.specs.Table.{put, put_all}
-use Rattle.farm_types.specs.declared.claims.Claim.{Claim}
-use Rattle.farm_types.proofs.Put.{AllByRecursion-weaker}
+use Rattle.std.proofs.lemmas.Bool.{not_from_false}
+use Rattle.farm_types.specs.Names.{EachTwo, IsAmong, put, put_all, shown_cmp}
 use Rattle.farm_sound.proofs.Clear.{none_of}
-use Rattle.farm_sound.proofs.Lists.{among_has, each_map}
-use Rattle.farm_sound.proofs.Own.{itself}
-use Rattle.farm_sound.proofs.Where.{AllByRecursion-both, AllByRecursion-map}
+use Rattle.farm_sound.proofs.Lists.{each_map}
 use Rattle.farm_pick.proofs.Queued.{shown_total}
 use Rattle.farm_pick.specs.Queued.{Queued}
 use Rattle.farm_pick.specs.Index.{spot_cmp, queued_cmp, kind_at, shown_entry, shown_claims, IsKeyed, claim_at, place_at, is_placed, AreQueues}
 use Rattle.farm_pick.specs.declared.spot.Spot.{Spot}
 use Rattle.farm_pick.specs.declared.spot.Place.{Place}
-use Rattle.farm_pick.proofs.Entries.{IsApart, all_pass, all_unmap, among_itself, entry_found, found_entry, all_insert, each_insert, all_remove, each_remove, all_put, all_unput, shown_insert, shown_remove, filter_put}
+use Rattle.farm_pick.proofs.Entries.{IsApart, all_pass, all_unmap, among_itself, entry_found, found_entry, all_insert, each_insert, all_remove, each_remove}
+use Rattle.farm_pick.proofs.Entries.{all_put, all_unput, shown_insert, shown_remove, filter_put}
 
 pub queued_total : IsTotalOrder queued_cmp
 queued_total = on_total (λ (x : Queued). x.claim) shown_total

@@ -1,14 +1,12 @@
 -- The claims that come after the one tried last, and the next that is tried.
 use Rattle.std.proofs.Common.{◌&&◌, ◌<◌, ◌∙◌, ◌∷◌, ◌≡◌, Bool, List, None, Option, Some, ap, arith, cond, false, length, refl, sym, true, []}
-use Rattle.std.specs.List.{AllByRecursion, filter, find, fold}
+use Rattle.farm_pick.proofs.Names.{AllByRecursion, AllByRecursion-weaker, claim_total, find, fold, found_has, is_lt, is_lt-Less}
 use Rattle.std.specs.List.Sorted.{IsStrictlySortedBy}
-use Rattle.std.specs.Ordering.{is_lt, ordering_reverse}
+use Rattle.farm_pick.proofs.Names.{ordering_reverse}
+use Rattle.std.specs.List.{filter}
 use Rattle.std.proofs.lemmas.Cmp.{tied_itself}
 use Rattle.std.specs.declared.cmp.Ordering.TheVariants.{Less}
-use Rattle.farm_types.specs.Pick.{IsAmong, Claimed, claim_cmp}
-use Rattle.farm_types.proofs.Put.{AllByRecursion-weaker, found_has}
-use Rattle.farm_types.proofs.Searched.{is_lt-Less}
-use Rattle.farm_sound.proofs.Claims.{claim_total}
+use Rattle.farm_types.specs.Names.{claim_cmp, Claimed, IsAmong}
 use Rattle.farm_pick.specs.Merged.{comes_after}
 use Rattle.farm_pick.proofs.Entries.{all_pass}
 

@@ -1,20 +1,13 @@
 -- The queue of a claim: that of the type that its group's first member wants, or the reservations'.
 use Rattle.std.proofs.Common.{◌==◌, ◌∙◌, ◌∷◌, ◌≡◌, ◌≤◌, ◌<◌, List, None, Some, ap, arith, cond, false, inl, inr, map, refl, sym, true, ℕ, []}
 use mathlib.Core.Bool.{true≢false}
-use Rattle.std.specs.List.{AllByRecursion, filter, find}
+use Rattle.farm_pick.proofs.Names.{AllByRecursion, AllByRecursion-weaker, cases_Bool, differs, find, found_has, IsClaim, itself, JobRow}
 use Rattle.std.specs.List.Sorted.{IsStrictlySortedBy}
+use Rattle.farm_pick.proofs.Names.{ranked, same_Some}
+use Rattle.std.specs.List.{filter}
 use Rattle.std.specs.declared.cmp.Ordering.TheVariants.{Less}
-use Rattle.std.proofs.lemmas.Bool.{cases_Bool}
-use Rattle.std.proofs.lemmas.Cmp.{ranked}
-use Rattle.std.proofs.lemmas.Option.{same_Some}
-use Rattle.farm_types.specs.Farm.{Farm, job_of}
-use Rattle.farm_types.specs.Pick.{Claimed}
-use Rattle.farm_types.specs.Sound.{IsSound}
-use Rattle.farm_types.specs.Table.{job_cmp}
-use Rattle.farm_types.specs.declared.rows.JobRow.{JobRow}
-use Rattle.farm_types.proofs.Put.{AllByRecursion-weaker, found_has}
-use Rattle.farm_sound.proofs.Claims.{IsClaim, leads}
-use Rattle.farm_sound.proofs.Own.{differs, itself}
+use Rattle.farm_types.specs.Names.{Claimed, Farm, IsSound, job_cmp, job_of}
+use Rattle.farm_sound.proofs.Claims.{leads}
 use Rattle.farm_pick.specs.Queued.{first_kind, queue_kind}
 
 -- the first member of a group is the job with the group's number

@@ -1,3 +1,4 @@
+pub mod Names
 pub mod Placed
 pub mod Choices
 pub mod Places

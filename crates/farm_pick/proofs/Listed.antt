@@ -1,27 +1,17 @@
 -- Free boards by their rows, and the short list that they give.
-use Rattle.std.proofs.Common.{◌≡◌, ◌∙◌, ◌&&◌, ◌||◌, ◌==◌, ◌<◌, ◌≤◌, ◌+◌, ◌-◌, ℕ, zero, suc, List, [], ◌∷◌, ◌++◌, length, map, drop, get_or, filter, Bool, true, false, cond, Some, None, inl, inr, refl, sym, ap, arith, add-one, drop-cons}
+use Rattle.std.proofs.Common.{◌≡◌, ◌∙◌, ◌&&◌, ◌||◌, ◌==◌, ◌<◌, ◌≤◌, ◌+◌, ◌-◌, ℕ, zero, suc, List, [], ◌∷◌, ◌++◌, length, map, drop, get_or, filter, Bool, true}
+use Rattle.std.proofs.Common.{false, cond, Some, None, inl, inr, refl, sym, ap, arith, add-one, drop-cons}
 use mathlib.Core.Bool.{true≢false}
 use Rattle.std.specs.Prelude.{slice_get, unwrap_or}
-use Rattle.std.specs.List.{AllByRecursion, find}
+use Rattle.farm_pick.proofs.Names.{AllByRecursion, AllByRecursion-weaker, among_has, and-true, BoardRow, both, bytes_eq, bytes_eq-Decides, false_from_ne_true}
+use Rattle.farm_pick.proofs.Names.{find, found_passes, option_map_or, same_Some, text_itself, Want}
 use Rattle.std.specs.List.Sorted.{IsStrictlySortedBy}
-use Rattle.std.specs.Option.{option_map_or}
-use Rattle.std.specs.Str.{bytes_eq}
-use Rattle.std.proofs.Math.Bool.{and-true}
-use Rattle.std.proofs.lemmas.Bool.{and_left, and_right, cases_lt, false_from_ne_true}
+use Rattle.std.proofs.lemmas.Bool.{and_left, and_right, cases_lt}
 use Rattle.std.proofs.lemmas.List.{drop-drop, drop_all}
-use Rattle.std.proofs.lemmas.Option.{same_Some, slice_get-get_or, slice_get_read}
-use Rattle.std.proofs.lemmas.Slice.Eq.{bytes_eq-Decides}
-use Rattle.farm_types.specs.Table.{board_cmp}
-use Rattle.farm_types.specs.Pick.{fits}
-use Rattle.farm_types.specs.declared.rows.BoardRow.{BoardRow}
-use Rattle.farm_types.specs.declared.rows.Want.{Want}
-use Rattle.farm_types.proofs.Put.{AllByRecursion-weaker, found_passes}
-use Rattle.farm_sound.proofs.Lists.{all_fail, among_has}
-use Rattle.farm_sound.proofs.Own.{text_itself}
-use Rattle.farm_sound.proofs.Tests.{both}
-use Rattle.farm_pick.specs.Choice.{IsShortlist, candidate_at}
-use Rattle.farm_sound.specs.Keys.{board_in}
-use Rattle.farm_pick.specs.Fitting.{is_named, named_at}
+use Rattle.std.proofs.lemmas.Option.{slice_get-get_or, slice_get_read}
+use Rattle.farm_types.specs.Names.{board_cmp, fits}
+use Rattle.farm_sound.proofs.Lists.{all_fail}
+use Rattle.farm_pick.specs.Choice.{IsShortlist, candidate_at, is_named, named_at}
 use Rattle.farm_pick.specs.Index.{IsIdle, kind_at, shown_idle}
 use Rattle.farm_pick.specs.Queued.{IdleBoard, idle_board}
 use Rattle.farm_pick.specs.declared.idle.IdleRow.{IdleRow}
@@ -43,7 +33,7 @@ pub named_near : (boards : List BoardRow) (name : List ℕ) (p : ℕ) → p < le
 named_near boards name p low b is same = ap (λ o. option_map_or (λ (c : BoardRow). bytes_eq c.name name) o false) (board_is boards p low b is) ∙ same
 
 -- the board that a search finds
-pub named_found : (boards : List BoardRow) (name : List ℕ) (p : ℕ) → p < length boards → ((d : BoardRow) → board_in boards name ≡ Some (get_or boards p d))
+pub named_found : (boards : List BoardRow) (name : List ℕ) (p : ℕ) → p < length boards → ((d : BoardRow) → find (λ (c : BoardRow). bytes_eq c.name name) boards ≡ Some (get_or boards p d))
     → is_named boards name p ≡ true
 named_found [] name p low found = absurd (omega arith)
 named_found (b ∷ boards) name p low found =

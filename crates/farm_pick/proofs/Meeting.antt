@@ -1,19 +1,11 @@
 -- Lists of boards that meet wants, and choices of their places.
 use Rattle.std.proofs.Common.{◌≡◌, ℕ, Bool, true, false, List, [], ◌∷◌, refl, sym, ap, ◌∙◌, inl, inr, arith}
 use Rattle.std.specs.Prelude.{slice_get}
-use Rattle.std.specs.List.{list_any}
-use Rattle.std.specs.Option.{option_map_or}
-use Rattle.std.specs.Str.{bytes_eq}
-use Rattle.std.specs.Ordering.{is_lt, ordering_then}
+use Rattle.farm_pick.proofs.Names.{BoardRow, bytes_eq, is_lt, list_any, option_map_or, ordering_then, same_Some, Want}
 use Rattle.std.specs.declared.cmp.Ordering.TheVariants.{Equal}
 use Rattle.std.proofs.lemmas.Bool.{false≢true, and_parts, and_from}
-use Rattle.std.proofs.lemmas.Option.{same_Some}
-use Rattle.farm_types.specs.Table.{board_cmp}
-use Rattle.farm_types.specs.Pick.{AreAmong, fits, meets, names_cmp}
-use Rattle.farm_types.specs.declared.rows.Want.{Want}
-use Rattle.farm_types.specs.declared.rows.BoardRow.{BoardRow}
-use Rattle.farm_pick.specs.Test.{is_candidate}
-use Rattle.farm_pick.specs.Choice.{Chooses, IsNotAfter, candidate_at}
+use Rattle.farm_types.specs.Names.{AreAmong, board_cmp, fits, meets, names_cmp}
+use Rattle.farm_pick.specs.Choice.{is_candidate, Chooses, IsNotAfter, candidate_at}
 use Rattle.farm_pick.proofs.Places.{AreInNameOrder, AreAt, candidate_board, among_at, place_of, apart, not_among, rises, board_cmp-self, board_cmp-reverse}
 
 -- ---- one board more

@@ -1,35 +1,24 @@
 -- Trying alone the claims that may change the farm serves just what trying all of them serves.
-use Rattle.std.proofs.Common.{◌&&◌, ◌+◌, ◌==◌, ◌<◌, ◌≤◌, ◌∙◌, ◌∷◌, ◌≡◌, Bool, List, None, Option, Some, ap, arith, cond, false, inl, inr, length, nat_le, not, refl, subst, suc, sym, true, zero, ℕ, []}
+use Rattle.std.proofs.Common.{◌&&◌, ◌+◌, ◌==◌, ◌<◌, ◌≤◌, ◌∙◌, ◌∷◌, ◌≡◌, Bool, List, None, Option, Some, ap, arith, cond, false, inl, inr, length, nat_le, not}
+use Rattle.std.proofs.Common.{refl, subst, suc, sym, true, zero, ℕ, []}
 use mathlib.Core.Bool.{true≢false}
-use Rattle.std.specs.List.{AllByRecursion, filter, find, fold, zip}
+use Rattle.farm_pick.proofs.Names.{all_true, AllByRecursion, AllByRecursion-both, AllByRecursion-weaker, among_has, and-false, BoardRow, both, by_cases}
+use Rattle.farm_pick.proofs.Names.{bytes_eq, cases_Bool, filter_all, find, fold, found_passes, Holder, IsClaim, itself, JobRow, JobState}
 use Rattle.std.specs.List.Sorted.{IsStrictlySortedBy}
-use Rattle.std.specs.Option.{option_map_or}
-use Rattle.std.specs.Str.{bytes_eq}
-use Rattle.std.proofs.Math.Bool.{and-false}
-use Rattle.std.proofs.lemmas.Bool.{cases_Bool, not-true}
-use Rattle.std.proofs.lemmas.Bool.Decides.{nat_tests}
-use Rattle.std.proofs.lemmas.List.{length-map, nil_from_length}
+use Rattle.farm_pick.proofs.Names.{length-map, nat_tests, none_pass, option_map_or, queue_claims, queue_sorted, same_number, State, Want}
+use Rattle.std.specs.List.{filter, zip}
+use Rattle.std.proofs.lemmas.Bool.{not-true}
+use Rattle.std.proofs.lemmas.List.{nil_from_length}
 use Rattle.std.proofs.lemmas.List.Sums.{fold-append}
-use Rattle.farm_types.specs.Farm.{Farm, members}
-use Rattle.farm_types.specs.Pass.{Served, collect, give, give_group, give_member, give_res, held_board, is_group, may_collect, pass_over, serve, serve_all}
-use Rattle.farm_types.specs.Pick.{IsAmong, Claimed, is_free, least, queue}
-use Rattle.farm_types.specs.Sound.{EachTwo, IsSound}
-use Rattle.farm_types.specs.Table.{board_cmp, change_where}
-use Rattle.farm_types.specs.declared.rows.BoardRow.{BoardRow}
-use Rattle.farm_types.specs.declared.rows.Holder.{Holder}
-use Rattle.farm_types.specs.declared.rows.JobRow.{JobRow}
-use Rattle.farm_types.specs.declared.rows.JobState.{JobState}
-use Rattle.farm_types.specs.declared.rows.State.{State}
-use Rattle.farm_types.specs.declared.rows.Want.{Want}
-use Rattle.farm_types.proofs.Put.{AllByRecursion-weaker, found_passes}
-use Rattle.farm_sound.proofs.Claims.{IsClaim, IsOpen, claim_of_open, open_of_claim, queue_claims, queue_sorted}
-use Rattle.farm_sound.proofs.Lists.{among_has, filter_all, filter_back, length_filter, none_pass}
-use Rattle.farm_sound.proofs.Own.{itself}
+use Rattle.farm_types.specs.Names.{board_cmp, change_where, Claimed, collect, EachTwo, Farm, give, give_group, give_member, give_res, held_board, is_free}
+use Rattle.farm_types.specs.Names.{is_group, IsAmong, IsSound, least, may_collect, members, pass_over, queue, serve, serve_all, Served}
+use Rattle.farm_sound.proofs.Claims.{IsOpen, claim_of_open, open_of_claim}
+use Rattle.farm_sound.proofs.Lists.{filter_back, length_filter}
 use Rattle.farm_sound.proofs.Queue.{among_queue}
 use Rattle.farm_sound.proofs.Serve.{IsOpen-give, IsSound-give, give_clock, over}
-use Rattle.farm_sound.proofs.Tests.{both, both_false, same_number}
+use Rattle.farm_sound.proofs.Tests.{both_false}
 use Rattle.farm_sound.proofs.Unmet.{IsUnmet, IsUnmet-give}
-use Rattle.farm_sound.proofs.Where.{AllByRecursion-both, all_true, by_cases, sorted_map}
+use Rattle.farm_sound.proofs.Where.{sorted_map}
 use Rattle.farm_pick.specs.Follow.{queue_without}
 use Rattle.farm_pick.specs.Queued.{idle_boards, is_open, queue_kind}
 use Rattle.farm_pick.specs.Merged.{comes_after, first_tried, may_act, merged_pass, next_lent, next_tried, rest}

@@ -1,13 +1,10 @@
 -- The place at which a binary search ends.
 use Rattle.std.proofs.Common.{◌≡◌, Bool, Err, List, Ok, Result, length, subst, sym, ℕ}
-use Rattle.std.specs.List.{find}
-use Rattle.std.specs.declared.cmp.Ordering.{Ordering}
+use Rattle.farm_pick.proofs.Names.{find, is_eq, IsTotalOrder, on_total, Ordering}
 use Rattle.farm_types.proofs.Put.{put_searched}
-use Rattle.std.specs.Cmp.{IsTotalOrder, on_total}
 use Rattle.std.specs.List.Sorted.{IsBinarySearchResult, IsSearchInRange, IsStrictlySortedBy}
-use Rattle.std.specs.Ordering.{is_eq}
 use Rattle.farm_types.proofs.Searched.{found_at}
-use Rattle.farm_pick.specs.Place.{IsPlace}
+use Rattle.farm_pick.specs.Index.{IsPlace}
 
 module _ {R K : Type 0} (key : R → K) (c : K → K → Ordering) (total : IsTotalOrder c) (eq : K → K → Bool) (ties : (a b : K) → eq a b ≡ is_eq (c a b))
     (k : K) (HasKey : R → Type 0) (has : (r : R) → HasKey r → key r ≡ k) where

@@ -1,29 +1,16 @@
 -- A new group and a new reservation put one claim into the queue.
 use Rattle.std.proofs.Common.{◌&&◌, ◌++◌, ◌+◌, ◌<◌, ◌==◌, ◌∙◌, ◌∷◌, ◌≡◌, ◌≤◌, Bool, List, Option, ap, arith, cond, false, length, map, refl, sym, true, ℕ, []}
-use Rattle.std.specs.Cmp.{nat_cmp_is}
-use Rattle.std.specs.List.{AllByRecursion, filter, list_all}
+use Rattle.farm_pick.proofs.Names.{all_join, AllByRecursion, AllByRecursion-map, AllByRecursion-weaker, append-nil, append_assoc, claim_total, differs}
+use Rattle.farm_pick.proofs.Names.{differs_more, filter_all, itself, JobRow, list_all, nat_cmp_is, nat_tests, none_pass, Ordering, ResRow, Want}
+use Rattle.std.specs.List.{filter}
 use Rattle.std.specs.Ordering.{match_ordering}
-use Rattle.std.specs.declared.cmp.Ordering.{Ordering}
 use Rattle.std.specs.declared.cmp.Ordering.TheVariants.{Equal, Greater}
 use Rattle.std.proofs.lemmas.Bool.{and_from}
-use Rattle.std.proofs.lemmas.Bool.Decides.{nat_tests}
-use Rattle.std.proofs.lemmas.List.{append-nil, append_assoc, map-append}
+use Rattle.std.proofs.lemmas.List.{map-append}
 use Rattle.std.proofs.lemmas.List.Elements.{filter-append}
 use Rattle.std.proofs.lemmas.List.Sums.{fold-append}
-use Rattle.farm_types.specs.Change.{new_members}
-use Rattle.farm_types.specs.Pass.{new_job}
-use Rattle.farm_types.specs.Farm.{Farm, members, put_jobs, put_res}
-use Rattle.farm_types.specs.Pick.{Claimed, claim_cmp, claims, group_claim, is_waiting, leads_claim, queue, res_claim, waits}
-use Rattle.farm_types.specs.Sound.{IsSound}
-use Rattle.farm_types.specs.Table.{job_cmp, put, put_all, res_cmp}
-use Rattle.farm_types.specs.declared.rows.JobRow.{JobRow}
-use Rattle.farm_types.specs.declared.rows.ResRow.{ResRow}
-use Rattle.farm_types.specs.declared.rows.Want.{Want}
-use Rattle.farm_types.proofs.Put.{AllByRecursion-weaker}
-use Rattle.farm_sound.proofs.Claims.{claim_total}
-use Rattle.farm_sound.proofs.Lists.{all_join, filter_all, none_pass}
-use Rattle.farm_sound.proofs.Own.{differs, differs_more, itself}
-use Rattle.farm_sound.proofs.Where.{AllByRecursion-map}
+use Rattle.farm_types.specs.Names.{claim_cmp, Claimed, claims, Farm, group_claim, is_waiting, IsSound, job_cmp, leads_claim, members, new_job, new_members, put}
+use Rattle.farm_types.specs.Names.{put_all, put_jobs, put_res, queue, res_claim, res_cmp, waits}
 use Rattle.farm_pick.proofs.Entries.{IsApart, all_pass, put_late}
 
 -- ---- rows are added behind the others, and their claims to the others

@@ -1,30 +1,19 @@
 -- The sorted claims of a farm's rows are its queue.
-use Rattle.std.proofs.Common.{◌≡◌, ℕ, zero, suc, ◌+◌, ◌<◌, ◌≤◌, ◌==◌, ◌&&◌, ◌++◌, List, [], ◌∷◌, length, map, take, Bool, true, false, cond, inl, inr, sym, ap, ◌∙◌, refl, subst, arith}
-use Rattle.std.specs.Cmp.{IsTotalOrder, back_total, nat_cmp_total, on_total, then_total}
-use Rattle.std.specs.List.{AllByRecursion, filter, list_all}
-use Rattle.std.specs.List.Sorted.{IsPermutation, IsSortedBy, IsStrictlySortedBy}
-use Rattle.std.specs.Ordering.{is_lt}
+use Rattle.std.proofs.Common.{◌≡◌, ℕ, zero, suc, ◌+◌, ◌<◌, ◌≤◌, ◌==◌, ◌&&◌, ◌++◌, List, [], ◌∷◌, length, map, take, Bool, true, false, cond, inl, inr, sym, ap}
+use Rattle.std.proofs.Common.{◌∙◌, refl, subst, arith}
+use Rattle.farm_pick.proofs.Names.{AllByRecursion, AllByRecursion-both, AllByRecursion-weaker, append-nil, both, cases_Bool, Claim, differs, differs_more}
+use Rattle.farm_pick.proofs.Names.{is_lt, IsPermutation, IsPermutation-sym, IsSortedBy, IsTotalOrder, itself, JobRow, length-map, list_all}
+use Rattle.std.specs.List.Sorted.{IsStrictlySortedBy}
+use Rattle.farm_pick.proofs.Names.{map-map, nat_cmp_total, none_pass, on_total, queue_sorted, ranked, ResRow, same_number, then_total}
+use Rattle.std.specs.Cmp.{back_total}
+use Rattle.std.specs.List.{filter}
 use Rattle.std.specs.declared.cmp.Ordering.TheVariants.{Less}
-use Rattle.std.proofs.lemmas.Bool.{cases_Bool}
-use Rattle.std.proofs.lemmas.Cmp.{ranked}
-use Rattle.std.proofs.lemmas.List.{append-nil, length-map, map-append}
-use Rattle.std.proofs.lemmas.List.Sorted.{IsPermutation-map, IsPermutation-sym, IsPermutation-trans}
-use Rattle.std.proofs.lemmas.Simd.{map-map}
-use Rattle.farm_types.specs.Farm.{Farm, members}
-use Rattle.farm_types.specs.Pick.{claim_cmp, claims, group_claim, is_waiting, leads_claim, queue, res_claim, shown_claim, shown_cmp, waits}
-use Rattle.farm_types.specs.Sound.{IsSteady}
-use Rattle.farm_types.specs.Table.{job_cmp}
-use Rattle.farm_types.specs.declared.claims.Claim.{Claim}
+use Rattle.std.proofs.lemmas.List.{map-append}
+use Rattle.std.proofs.lemmas.List.Sorted.{IsPermutation-map, IsPermutation-trans}
+use Rattle.farm_types.specs.Names.{claim_cmp, claims, Farm, group_claim, is_waiting, IsSteady, job_cmp, leads_claim, members, queue, res_claim, shown_claim}
+use Rattle.farm_types.specs.Names.{shown_cmp, waits}
 use Rattle.farm_types.specs.declared.claims.ClaimKind.{ClaimKind}
-use Rattle.farm_types.specs.declared.rows.JobRow.{JobRow}
-use Rattle.farm_types.specs.declared.rows.ResRow.{ResRow}
-use Rattle.farm_types.proofs.Put.{AllByRecursion-weaker}
-use Rattle.farm_sound.proofs.Claims.{queue_sorted}
-use Rattle.farm_sound.proofs.Lists.{none_pass}
-use Rattle.farm_sound.proofs.Own.{differs, differs_more, itself}
 use Rattle.farm_sound.proofs.Queue.{queue_permutes}
-use Rattle.farm_sound.proofs.Tests.{both, same_number}
-use Rattle.farm_sound.proofs.Where.{AllByRecursion-both}
 use Rattle.farm_pick.specs.Queue.{leads, mates, most_mates, shown_group, shown_groups, shown_reservation}
 use Rattle.farm_pick.proofs.Entries.{sorted_seen}
 use Rattle.farm_pick.proofs.Ordered.{sorted_is_one}

@@ -1,30 +1,22 @@
 -- The first claim of the queues, as callers see it.
-use Rattle.std.proofs.Common.{◌≡◌, ◌∙◌, ◌&&◌, ◌≤◌, ◌+◌, ℕ, List, [], ◌∷◌, length, map, Bool, true, Option, Some, None, IsSome, is_some, inl, inr, refl, sym, ap, subst, arith}
+use Rattle.std.proofs.Common.{◌≡◌, ◌∙◌, ◌&&◌, ◌≤◌, ◌+◌, ℕ, List, [], ◌∷◌, length, map, Bool, true, Option, Some, None, IsSome, is_some, inl, inr, refl, sym, ap}
+use Rattle.std.proofs.Common.{subst, arith}
 use mathlib.Core.Bool.{true≢false}
-use Rattle.std.specs.Cmp.{IsTotalOrder}
-use Rattle.std.specs.List.{AllByRecursion, find}
+use Rattle.farm_pick.proofs.Names.{AllByRecursion, among_has, both, Claim, find, is_eq, is_lt, is_lt-Less, IsTotalOrder, Ordering}
 use Rattle.std.specs.List.Sorted.{IsStrictlySortedBy}
 use Rattle.std.specs.Option.{option_map}
-use Rattle.std.specs.Ordering.{is_eq, is_lt}
-use Rattle.std.specs.declared.cmp.Ordering.{Ordering}
 use Rattle.std.specs.declared.cmp.Ordering.TheVariants.{Less}
-use Rattle.farm_types.specs.Pick.{IsAmong}
-use Rattle.farm_types.specs.Sound.{EachTwo}
-use Rattle.farm_types.specs.Table.{put, put_all}
-use Rattle.farm_types.specs.declared.claims.Claim.{Claim}
+use Rattle.farm_types.specs.Names.{EachTwo, IsAmong, put, put_all}
 use Rattle.farm_types.proofs.Put.{put_sorted}
-use Rattle.farm_types.proofs.Searched.{is_lt-Less}
-use Rattle.farm_sound.proofs.Lists.{among_has}
-use Rattle.farm_sound.proofs.Tests.{both}
 use Rattle.farm_pick.specs.Queued.{Queued}
 use Rattle.farm_pick.specs.declared.idle.IdleRow.{IdleRow}
 use Rattle.farm_pick.specs.Index.{spot_cmp, queued_cmp, kind_at, shown_entry, shown_claims, claim_at, IsKeyed, IsWell}
-use Rattle.farm_pick.specs.Heads.{IsFirst, is_later, rank_cmp, rank_of_claim}
+use Rattle.farm_pick.specs.Heads.{is_later, rank_cmp, rank_of_claim}
 use Rattle.farm_pick.specs.declared.spot.Spot.{Spot}
 use Rattle.farm_pick.specs.declared.spot.Place.{Place}
 use Rattle.farm_pick.proofs.Entries.{all_put, all_among, among_map, entry_found, found_entry}
 use Rattle.farm_pick.proofs.Keeping.{queued_total, shown_apart, tie, tied}
-use Rattle.farm_pick.proofs.First.{IsRanked, ranked_at, shown_rank}
+use Rattle.farm_pick.proofs.First.{IsFirst, IsRanked, ranked_at, shown_rank}
 
 -- ---- the first of a list in strict order that passes
 

@@ -1,15 +1,11 @@
 -- What passes a test in a list in strict order: the first, and those behind it.
 use Rattle.std.proofs.Common.{◌≡◌, ◌∙◌, ◌&&◌, List, [], ◌∷◌, Bool, true, false, cond, Some, None, refl, sym, ap, arith}
-use Rattle.std.specs.Cmp.{IsTotalOrder}
-use Rattle.std.specs.List.{AllByRecursion, filter, find}
+use Rattle.farm_pick.proofs.Names.{AllByRecursion, among_has, find, found_has, is_gt, is_lt, IsTotalOrder, Ordering}
 use Rattle.std.specs.List.Sorted.{IsStrictlySortedBy}
-use Rattle.std.specs.Ordering.{is_gt, is_lt}
-use Rattle.std.specs.declared.cmp.Ordering.{Ordering}
+use Rattle.std.specs.List.{filter}
 use Rattle.std.specs.declared.cmp.Ordering.TheVariants.{Less}
 use Rattle.std.proofs.lemmas.Cmp.{tied_itself}
-use Rattle.farm_types.specs.Pick.{IsAmong}
-use Rattle.farm_types.proofs.Put.{found_has}
-use Rattle.farm_sound.proofs.Lists.{among_has}
+use Rattle.farm_types.specs.Names.{IsAmong}
 use Rattle.farm_pick.proofs.Ordered.{not_below_itself}
 
 -- the first that passes, and nothing where none does

@@ -1,19 +1,13 @@
 -- The spots of the claims of two boards or more, and the first of these claims as callers see it.
-use Rattle.std.proofs.Common.{◌&&◌, ◌||◌, ◌∙◌, ◌∷◌, ◌≡◌, ◌≤◌, Bool, List, None, Option, Some, ap, arith, cond, false, is_some, map, nat_le, not, refl, subst, sym, true, ℕ}
+use Rattle.std.proofs.Common.{◌&&◌, ◌||◌, ◌∙◌, ◌∷◌, ◌≡◌, ◌≤◌, Bool, List, None, Option, Some, ap, arith, cond, false, is_some, map, nat_le, not, refl, subst}
+use Rattle.std.proofs.Common.{sym, true, ℕ}
 use mathlib.Core.Bool.{true≢false}
 use Rattle.std.specs.BTreeSet.{BTreeSet, IsKeyRangeOf}
-use Rattle.std.specs.List.{AllByRecursion, find}
-use Rattle.std.specs.Option.{option_map, option_map_or}
-use Rattle.std.specs.Ordering.{is_eq, is_lt}
+use Rattle.farm_pick.proofs.Names.{AllByRecursion, among_has, both, Claim, find, is_eq, is_lt, is_lt-Less, nat_tests, option_map_or}
+use Rattle.std.specs.Option.{option_map}
 use Rattle.std.specs.declared.cmp.Ordering.TheVariants.{Less}
 use Rattle.std.specs.declared.ops.Bound.TheVariants.{Excluded, Unbounded}
-use Rattle.std.proofs.lemmas.Bool.Decides.{nat_tests}
-use Rattle.farm_types.specs.Pick.{IsAmong}
-use Rattle.farm_types.specs.Sound.{EachTwo}
-use Rattle.farm_types.specs.declared.claims.Claim.{Claim}
-use Rattle.farm_types.proofs.Searched.{is_lt-Less}
-use Rattle.farm_sound.proofs.Lists.{among_has}
-use Rattle.farm_sound.proofs.Tests.{both}
+use Rattle.farm_types.specs.Names.{EachTwo, IsAmong}
 use Rattle.farm_pick.specs.Heads.{is_later, rank_cmp, rank_of_claim}
 use Rattle.farm_pick.specs.Index.{IsKeyed, IsWell, claim_at, queued_cmp, shown_claims, shown_entry, shown_idle, spot_cmp}
 use Rattle.farm_pick.specs.Queued.{QueueLists, Queued}

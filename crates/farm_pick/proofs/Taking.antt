@@ -1,28 +1,20 @@
 -- A farm whose rows change in their places keeps the claims of some numbers, and its queue with them.
-use Rattle.std.proofs.Common.{◌&&◌, ◌++◌, ◌==◌, ◌∙◌, ◌∷◌, ◌≡◌, Bool, List, ap, cond, false, inl, inr, map, not, refl, sym, true, ℕ, [], arith, ◌+◌, ◌-◌, ◌≤◌, IsNone, Some, subst, suc, zero}
+use Rattle.std.proofs.Common.{◌&&◌, ◌++◌, ◌==◌, ◌∙◌, ◌∷◌, ◌≡◌, Bool, List, ap, cond, false, inl, inr, map, not, refl, sym, true, ℕ, [], arith, ◌+◌, ◌-◌, ◌≤◌}
+use Rattle.std.proofs.Common.{IsNone, Some, subst, suc, zero}
 use mathlib.Core.Bool.{true≢false}
-use Rattle.std.specs.List.{AllByRecursion, filter, list_all, list_any}
-use Rattle.std.proofs.Math.Bool.{and-false, and-true}
-use Rattle.std.proofs.lemmas.Bool.{false_from_ne_true, or_from, cases_eq, ne_eqb}
+use Rattle.farm_pick.proofs.Names.{AllByRecursion, AllByRecursion-both, AllByRecursion-weaker, and-false, and-true, BoardRow, by_cases, cases_eq, claim_total}
+use Rattle.farm_pick.proofs.Names.{false_from_ne_true, filter_all, found_has, found_passes, given, itself, JobRow, JobState, list_all, list_any, map_id, ne_eqb}
+use Rattle.farm_pick.proofs.Names.{or_from, queue_sorted, ResRow, same_number}
+use Rattle.std.specs.List.{filter}
 use Rattle.std.proofs.lemmas.List.Elements.{filter-append}
 use Rattle.std.proofs.lemmas.List.Folds.{list_all-map}
 use Rattle.std.proofs.lemmas.List.Kept.{IsStrictlySortedBy-filter}
-use Rattle.farm_types.specs.Farm.{Farm, job_of, res_of}
-use Rattle.farm_types.specs.Pick.{IsAmong, Claimed, claim_cmp, claims, group_claim, is_waiting, leads_claim, queue, res_claim, waits}
-use Rattle.farm_types.specs.Sound.{IsSteady, IsJobRow}
-use Rattle.farm_types.specs.Table.{put_all}
-use Rattle.farm_types.specs.declared.rows.BoardRow.{BoardRow}
-use Rattle.farm_types.specs.declared.rows.JobRow.{JobRow}
-use Rattle.farm_types.specs.declared.rows.JobState.{JobState}
-use Rattle.farm_types.specs.declared.rows.ResRow.{ResRow}
-use Rattle.farm_types.proofs.Put.{AllByRecursion-weaker, found_has, found_passes}
-use Rattle.farm_sound.proofs.Claims.{all_claims, claim_total, queue_sorted}
-use Rattle.farm_sound.proofs.Group.{given, given_group, given_number, given_same}
-use Rattle.farm_sound.proofs.Lists.{filter_all}
-use Rattle.farm_sound.proofs.Own.{itself, own_res}
+use Rattle.farm_types.specs.Names.{claim_cmp, Claimed, claims, Farm, group_claim, is_waiting, IsAmong, IsJobRow, IsSteady, job_of, leads_claim, put_all, queue}
+use Rattle.farm_types.specs.Names.{res_claim, res_of, waits}
+use Rattle.farm_sound.proofs.Claims.{all_claims}
+use Rattle.farm_sound.proofs.Group.{given_group, given_number, given_same}
+use Rattle.farm_sound.proofs.Own.{own_res}
 use Rattle.farm_sound.proofs.Queue.{among_queue}
-use Rattle.farm_sound.proofs.Tests.{same_number}
-use Rattle.farm_sound.proofs.Where.{AllByRecursion-both, by_cases, map_id}
 use Rattle.farm_pick.proofs.Entries.{all_put, among_itself, among_map, among_puts}
 use Rattle.farm_pick.proofs.Later.{among_later, later_none}
 use Rattle.farm_pick.proofs.Ordered.{same_elements, tied_same}

@@ -1,30 +1,21 @@
 -- A walk over several queues lends the claims in the order of the whole queue.
-use Rattle.std.proofs.Common.{◌≡◌, ◌∙◌, ◌&&◌, ◌<◌, ◌≤◌, ◌+◌, ◌++◌, ◌==◌, ◌⊎◌, ℕ, zero, suc, List, [], ◌∷◌, length, map, get_or, slice_set, Bool, true, false, cond, Option, Some, None, IsSome, is_some, inl, inr, refl, sym, ap, subst, arith}
+use Rattle.std.proofs.Common.{◌≡◌, ◌∙◌, ◌&&◌, ◌<◌, ◌≤◌, ◌+◌, ◌++◌, ◌==◌, ◌⊎◌, ℕ, zero, suc, List, [], ◌∷◌, length, map, get_or, slice_set, Bool, true, false}
+use Rattle.std.proofs.Common.{cond, Option, Some, None, IsSome, is_some, inl, inr, refl, sym, ap, subst, arith}
 use mathlib.Core.Bool.{true≢false}
-use Rattle.std.specs.Cmp.{IsTotalOrder, nat_cmp_total, on_total, then_total}
-use Rattle.std.specs.List.{AllByRecursion, filter, find}
+use Rattle.farm_pick.proofs.Names.{all_true, AllByRecursion, among_has, both, Claim, false_from_ne_true, find, found_passes, get_or_default, is_eq, is_gt}
+use Rattle.farm_pick.proofs.Names.{is_lt, is_lt-Less, IsTotalOrder, itself, length-set, nat_cmp, nat_cmp_total, nat_tests, on_total}
 use Rattle.std.specs.List.Sorted.{IsStrictlySortedBy}
+use Rattle.farm_pick.proofs.Names.{Ordering, ordering_reverse, ordering_then, same_number, same_Some, then_total}
+use Rattle.std.specs.List.{filter}
 use Rattle.std.specs.Option.{option_map}
-use Rattle.std.specs.Ordering.{is_eq, is_gt, is_lt, nat_cmp, ordering_then, ordering_reverse}
-use Rattle.std.specs.declared.cmp.Ordering.{Ordering}
 use Rattle.std.specs.declared.cmp.Ordering.TheVariants.{Equal, Greater, Less}
-use Rattle.std.proofs.lemmas.Bool.{false_from_ne_true}
-use Rattle.std.proofs.lemmas.Bool.Decides.{nat_tests}
 use Rattle.std.proofs.lemmas.Cmp.{tied_itself}
-use Rattle.std.proofs.lemmas.Option.{none-some, same_Some}
-use Rattle.std.proofs.lemmas.List.{get_or-set_same, get_or-set_other, get_or_append_left, get_or_default, get_or_push, length-append, length-set}
-use Rattle.farm_types.specs.Pick.{IsAmong, shown_cmp}
-use Rattle.farm_types.specs.Sound.{EachTwo}
-use Rattle.farm_types.specs.declared.claims.Claim.{Claim}
-use Rattle.farm_types.proofs.Put.{found_passes}
-use Rattle.farm_types.proofs.Searched.{is_lt-Less}
+use Rattle.std.proofs.lemmas.Option.{none-some}
+use Rattle.std.proofs.lemmas.List.{get_or-set_same, get_or-set_other, get_or_append_left, get_or_push, length-append}
+use Rattle.farm_types.specs.Names.{EachTwo, IsAmong, shown_cmp}
 use Rattle.farm_sound.proofs.Clear.{none_of}
-use Rattle.farm_sound.proofs.Lists.{among_has}
-use Rattle.farm_sound.proofs.Where.{all_true}
-use Rattle.farm_sound.proofs.Own.{itself}
-use Rattle.farm_sound.proofs.Tests.{both, same_number}
 use Rattle.farm_pick.proofs.Apart.{same_open}
-use Rattle.farm_pick.specs.Heads.{AreHeads, IsFirst, is_later, queue_open, rank_cmp, rank_of_claim}
+use Rattle.farm_pick.specs.Heads.{AreHeads, is_later, queue_open, rank_cmp, rank_of_claim}
 use Rattle.farm_pick.specs.Index.{IsKeyed, claim_at, queued_cmp, shown_claims, shown_entry, shown_idle, spot_cmp}
 use Rattle.farm_pick.specs.Queued.{Queued, is_open}
 use Rattle.farm_pick.specs.declared.idle.IdleRow.{IdleRow}
@@ -32,7 +23,7 @@ use Rattle.farm_pick.specs.Walked.{AreCursors, IsCursorAt, IsCursor, IsLeastOf, 
 use Rattle.farm_pick.specs.declared.spot.Spot.{Spot}
 use Rattle.farm_pick.specs.declared.walk.Cursor.{Cursor}
 use Rattle.farm_pick.proofs.Entries.{all_unmap, found_entry}
-use Rattle.farm_pick.proofs.First.{IsRanked, below, one_entry, rank_total, ranked_at, same_queue, shown_rank}
+use Rattle.farm_pick.proofs.First.{IsFirst, IsRanked, below, one_entry, rank_total, ranked_at, same_queue, shown_rank}
 use Rattle.farm_pick.proofs.Keeping.{queued_total, tie, tied}
 use Rattle.farm_pick.proofs.Queued.{shown_total}
 use Rattle.farm_pick.proofs.Shown.{first_shown, sorted_put_all}

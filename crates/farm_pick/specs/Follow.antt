@@ -3,17 +3,11 @@ use Rattle.std.specs.Prelude.{◌≡◌, ◌≢◌, ◌≤◌, ◌+◌, ◌==◌
 use Rattle.std.specs.List.{filter, list_any}
 use Rattle.std.specs.Option.{option_map_or}
 use Rattle.std.specs.Str.{bytes_eq}
-use Rattle.farm_types.specs.Limits.{lease}
-use Rattle.farm_types.specs.Change.{act, farm_at_call, new_res}
-use Rattle.farm_types.specs.Farm.{Farm, job_of}
-use Rattle.farm_types.specs.Pass.{giving_back, checks, expire, give, is_dead, pass_over}
-use Rattle.farm_types.specs.Pick.{IsAmong, Claimed, claim_cmp, is_free, least, queue, res_claim}
-use Rattle.farm_types.specs.Refuse.{refusal}
-use Rattle.farm_types.specs.Sound.{IsSound}
-use Rattle.farm_types.specs.Table.{put}
+use Rattle.farm_types.specs.Names.{act, checks, claim_cmp, Claimed, expire, Farm, farm_at_call, give, giving_back, is_dead, is_free, IsAmong, IsSound, job_of}
+use Rattle.farm_types.specs.Names.{lease, least, new_res, pass_over, put, queue, refusal, res_claim}
+use Rattle.farm_types.specs.declared.rows.BoardRow.{BoardRow}
 use Rattle.farm_types.specs.declared.calls.Call.{Call}
 use Rattle.farm_types.specs.declared.calls.Cmd.{Cmd}
-use Rattle.farm_types.specs.declared.rows.BoardRow.{BoardRow}
 use Rattle.farm_pick.specs.Queued.{idle_boards}
 
 -- the queue without the claim of a number

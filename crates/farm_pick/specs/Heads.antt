@@ -1,16 +1,12 @@
 -- The first claim of a queue that comes after a spot, and the first of several queues.
-use Rattle.std.specs.Prelude.{◌≡◌, ◌<◌, ◌==◌, ◌||◌, ◌+◌, ◌-◌, ℕ, Bool, true, false, List, length}
-use Rattle.std.specs.Prelude.{map, Option, Some, None, IsSome, if◌then◌else◌}
+use Rattle.std.specs.Prelude.{◌≡◌, ◌<◌, ◌==◌, ◌||◌, ◌+◌, ◌-◌, ℕ, Bool, false, List, length, map, Option, Some, None, IsSome, if◌then◌else◌}
 use Rattle.std.specs.List.{AllByRecursion, filter_map, list_any, range_with_len}
 use Rattle.std.specs.Ordering.{is_gt, is_lt, nat_cmp, ordering_then}
 use Rattle.std.specs.declared.cmp.Ordering.{Ordering}
 use Rattle.std.specs.declared.cmp.Ordering.TheVariants.{Less}
-use Rattle.farm_types.specs.Limits.{highest_priority}
-use Rattle.farm_types.specs.Pick.{shown_cmp}
-use Rattle.farm_types.specs.Sound.{EachTwo}
+use Rattle.farm_types.specs.Names.{EachTwo, highest_priority, shown_cmp}
 use Rattle.farm_types.specs.declared.claims.Claim.{Claim}
-use Rattle.farm_pick.specs.Index.{spot_cmp, claim_at, kind_at, shown_claims, shown_idle, AreIdle}
-use Rattle.farm_pick.specs.Index.{IsKeyed}
+use Rattle.farm_pick.specs.Index.{spot_cmp, claim_at, kind_at, shown_claims, shown_idle, AreIdle, IsKeyed}
 use Rattle.farm_pick.specs.Queued.{head_of, is_open}
 use Rattle.farm_pick.specs.declared.spot.Spot.{Spot}
 use Rattle.farm_pick.specs.declared.idle.IdleRow.{IdleRow}
@@ -26,16 +22,6 @@ IsFirstBehind es last (Some c) =
 -- as claims are ordered, whatever the queue
 abbrev pub rank_cmp : Spot → Spot → Ordering
 rank_cmp s t = ordering_then (nat_cmp t.priority s.priority) (nat_cmp s.number t.number)
-
--- of the first n queues those that pass: the first of their claims that come after a spot
-abbrev pub IsFirst : List (Spot × Claim) → (ℕ → Bool) → ℕ → Spot → Option Claim → Type 0
-IsFirst es test n last None = (t : Spot) → t.queue < n → test t.queue ≡ true
-    → rank_cmp last t ≡ Less → claim_at es t ≡ None
-IsFirst es test n last (Some c) =
-    (s : Spot) × (s.queue < n) × (test s.queue ≡ true) × (rank_cmp last s ≡ Less)
-    × (claim_at es s ≡ Some c)
-    × ((t : Spot) → t.queue < n → test t.queue ≡ true → rank_cmp last t ≡ Less
-    → IsSome (claim_at es t) → rank_cmp t s ≡ Less → ⊥)
 
 -- of two claims the one that goes first
 abbrev pub earlier_of : Option Claim → Option Claim → Option Claim

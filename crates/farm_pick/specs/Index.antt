@@ -1,19 +1,16 @@
 -- The index of the queues: the claims of all queues in one ordered map, one queue behind the other,
 -- and where each number stands.
-use Rattle.std.specs.Prelude.{◌≡◌, ◌≤◌, ◌==◌, ◌&&◌, ℕ, zero, suc, Bool, true, false, cond, List, []}
-use Rattle.std.specs.Prelude.{map, length, Option, Some, None, is_some, slice_get, unwrap_or}
-use Rattle.std.specs.List.{AllByRecursion}
+use Rattle.std.specs.Prelude.{◌≡◌, ◌≤◌, ◌<◌, ◌==◌, ◌&&◌, ℕ, zero, suc, Bool, true, false, cond, List, [], map, length, Option, Some, None, is_some, slice_get}
+use Rattle.std.specs.Prelude.{unwrap_or, Result, MatchResult, get_or, set}
+use Rattle.std.specs.List.{AllByRecursion, insert}
 use Rattle.std.specs.Str.{bytes_eq}
 use Rattle.std.specs.List.Sorted.{IsStrictlySortedBy}
-use Rattle.farm_types.specs.Words.{text_cmp}
+use Rattle.farm_types.specs.Names.{EachTwo, put, put_all, shown_cmp, text_cmp}
+use Rattle.farm_types.specs.declared.claims.Claim.{Claim}
 use Rattle.std.specs.Map.{lookup, remove_entry}
 use Rattle.std.specs.Option.{option_map_or}
 use Rattle.std.specs.Ordering.{is_eq, nat_cmp, on, flip_args, then_cmp}
 use Rattle.std.specs.declared.cmp.Ordering.{Ordering}
-use Rattle.farm_types.specs.Pick.{shown_cmp}
-use Rattle.farm_types.specs.Table.{put_all}
-use Rattle.farm_types.specs.Sound.{EachTwo}
-use Rattle.farm_types.specs.declared.claims.Claim.{Claim}
 use Rattle.farm_pick.specs.Queued.{Queued, IdleBoard}
 use Rattle.farm_pick.specs.declared.spot.Spot.{Spot}
 use Rattle.farm_pick.specs.declared.spot.Place.{Place}
@@ -76,6 +73,26 @@ abbrev pub TakesOrStays : List (Spot × Claim) → List (Spot × Claim) → List
     → List (ℕ × Place) → ℕ → Option Place → Type 0
 TakesOrStays es fs ps qs n None = (fs ≡ es) × (qs ≡ ps)
 TakesOrStays es fs ps qs n (Some p) = Takes es fs ps qs n p
+
+-- ---- where a row stands, or is to be inserted, in a list in order
+
+module _ {R : Type 0} (cmp : R → R → Ordering) (HasKey : R → Type 0) (rows : List R)
+    (found : Option R) where
+  -- the row stands at the place, and a row with its key is put by setting it there
+  pub record IsAt (place : ℕ) : Type 0 where
+    pub within : place < length rows
+    pub row : (d : R) → found ≡ Some (get_or rows place d)
+    pub puts : (row : R) → HasKey row → put cmp rows row ≡ set rows place row
+
+  -- no row has the key, and a row with it is put by inserting it at the place
+  pub record IsGap (place : ℕ) : Type 0 where
+    pub within : place ≤ length rows
+    pub row : found ≡ None
+    pub puts : (row : R) → HasKey row → put cmp rows row ≡ insert rows place row
+
+  -- where a search ends
+  abbrev pub IsPlace : Result ℕ ℕ → Type 0
+  IsPlace place = MatchResult place IsAt IsGap
 
 -- ---- the free boards
 

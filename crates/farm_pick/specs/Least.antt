@@ -1,10 +1,9 @@
 -- The least list by its places, and what is true of the least list that no code says.
 use Rattle.std.specs.Prelude.{◌≡◌, ℕ, Bool, List, filter_map, slice_get, IsTrue, MatchOption}
 use Rattle.std.specs.List.Sorted.{IsStrictlySortedBy}
-use Rattle.farm_types.specs.Table.{board_cmp}
-use Rattle.farm_types.specs.Pick.{AreAmong, meets, least, IsLeast}
-use Rattle.farm_types.specs.declared.rows.Want.{Want}
+use Rattle.farm_types.specs.Names.{AreAmong, board_cmp, IsLeast, least, meets}
 use Rattle.farm_types.specs.declared.rows.BoardRow.{BoardRow}
+use Rattle.farm_types.specs.declared.rows.Want.{Want}
 
 -- the boards at some places
 abbrev pub boards_at : List BoardRow → List ℕ → List BoardRow

@@ -1,4 +1,3 @@
-pub mod Test
 pub mod Choice
 pub mod Least
 pub mod Queue
@@ -6,8 +5,6 @@ pub mod Queued
 pub mod Merged
 pub mod Heads
 pub mod Walked
-pub mod Place
 pub mod Index
 pub mod Several
-pub mod Fitting
 pub mod Follow

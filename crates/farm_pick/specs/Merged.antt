@@ -1,15 +1,11 @@
 -- A pass that tries, one after the other, the claims alone that may be met or may collect, and what
 -- it comes to.
-use Rattle.std.specs.Prelude.{◌≡◌, ◌≤◌, ◌&&◌, ◌||◌, ℕ, zero, suc, Bool, true, false, not, List}
-use Rattle.std.specs.Prelude.{length, Option, Some, None}
+use Rattle.std.specs.Prelude.{◌≡◌, ◌≤◌, ◌&&◌, ◌||◌, ℕ, zero, suc, Bool, true, false, not, List, length, Option, Some, None}
 use Rattle.std.specs.List.{filter, find}
 use Rattle.std.specs.Option.{option_map_or}
 use Rattle.std.specs.Ordering.{is_lt}
-use Rattle.farm_types.specs.Farm.{Farm}
-use Rattle.farm_types.specs.Pass.{Served, is_group, may_collect, serve, serve_all}
-use Rattle.farm_types.specs.Pick.{IsAmong, Claimed, claim_cmp, is_free, least, queue}
+use Rattle.farm_types.specs.Names.{claim_cmp, Claimed, Farm, is_free, is_group, IsAmong, IsSound, least, may_collect, queue, serve, serve_all, Served}
 use Rattle.farm_types.specs.declared.rows.Want.{Want}
-use Rattle.farm_types.specs.Sound.{IsSound}
 use Rattle.farm_pick.specs.Queued.{idle_boards, is_open, queue_kind}
 
 -- whether a claim comes after the one tried last, if one was

@@ -2,12 +2,11 @@
 -- and the rows behind it.
 use Rattle.std.specs.Prelude.{◌==◌, ◌&&◌, ◌-◌, ℕ, Bool, List, [], ◌∷◌, length, take, filter, if◌then◌else◌}
 use Rattle.std.specs.List.{list_all}
-use Rattle.farm_types.specs.Limits.{most_wants}
-use Rattle.farm_types.specs.Pick.{res_claim, shown_claim, waits}
-use Rattle.farm_types.specs.declared.rows.JobRow.{JobRow}
-use Rattle.farm_types.specs.declared.rows.ResRow.{ResRow}
+use Rattle.farm_types.specs.Names.{most_wants, res_claim, shown_claim, waits}
 use Rattle.farm_types.specs.declared.claims.Claim.{Claim}
 use Rattle.farm_types.specs.declared.claims.ClaimKind.{ClaimKind}
+use Rattle.farm_types.specs.declared.rows.JobRow.{JobRow}
+use Rattle.farm_types.specs.declared.rows.ResRow.{ResRow}
 
 abbrev pub shown_reservation : ResRow → Claim
 shown_reservation r = shown_claim (res_claim r)

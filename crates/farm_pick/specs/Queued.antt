@@ -1,13 +1,10 @@
 -- What stands in the queues, and which boards are free, as two plain lists.
-use Rattle.std.specs.Prelude.{◌≡◌, ◌&&◌, ℕ, Bool, true, false, List, [], ◌∷◌, map, Option, Some}
-use Rattle.std.specs.Prelude.{None, if◌then◌else◌, option_map}
+use Rattle.std.specs.Prelude.{◌≡◌, ◌&&◌, ℕ, Bool, true, false, List, [], ◌∷◌, map, Option, Some, None, if◌then◌else◌, option_map}
 use Rattle.std.specs.List.{AllByRecursion, filter, find, list_any}
 use Rattle.std.specs.Str.{bytes_eq}
-use Rattle.farm_types.specs.Farm.{Farm}
-use Rattle.farm_types.specs.Pick.{Claimed, is_free, queue, shown_claim}
-use Rattle.farm_types.specs.Sound.{EachTwo}
-use Rattle.farm_types.specs.declared.claims.Claim.{Claim}
+use Rattle.farm_types.specs.Names.{Claimed, EachTwo, Farm, is_free, queue, shown_claim}
 use Rattle.farm_types.specs.declared.rows.BoardRow.{BoardRow}
+use Rattle.farm_types.specs.declared.claims.Claim.{Claim}
 use Rattle.farm_types.specs.declared.rows.Want.{Want}
 
 -- a claim, and the type in whose queue it stands: none for a reservation

@@ -1,13 +1,12 @@
 -- A walk over the claims of several queues, in the order of the whole queue.
-use Rattle.std.specs.Prelude.{◌≡◌, ◌<◌, ◌&&◌, ◌+◌, ℕ, Bool, true, false, List, ◌∷◌}
-use Rattle.std.specs.Prelude.{map, length, get_or, Option, Some, None, IsSome, if◌then◌else◌}
+use Rattle.std.specs.Prelude.{◌≡◌, ◌<◌, ◌&&◌, ◌+◌, ℕ, Bool, true, false, List, ◌∷◌, map, length, get_or, Option, Some, None, IsSome, if◌then◌else◌}
 use Rattle.std.specs.List.{filter}
 use Rattle.std.specs.List.Sorted.{IsStrictlySortedBy}
 use Rattle.std.specs.BTreeMap.Range.{entries_between}
 use Rattle.std.specs.declared.ops.Bound.TheVariants.{Excluded, Unbounded}
 use Rattle.std.specs.Ordering.{is_gt, is_lt}
 use Rattle.std.specs.declared.cmp.Ordering.TheVariants.{Less}
-use Rattle.farm_types.specs.Pick.{shown_cmp}
+use Rattle.farm_types.specs.Names.{shown_cmp}
 use Rattle.farm_types.specs.declared.claims.Claim.{Claim}
 use Rattle.farm_pick.specs.Heads.{AreHeads, IsFirstBehind, is_later, queue_open}
 use Rattle.farm_pick.specs.Index.{claim_at, shown_claims, shown_idle, spot_cmp}

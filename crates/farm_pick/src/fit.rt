@@ -5,7 +5,7 @@ ghost use Rattle.std.specs.List.{list_all, list_any, find};
 ghost use Rattle.std.specs.Option.{option_map_or, option_copied};
 ghost use Rattle.farm_types.specs.Words.{name_tag};
 ghost use Rattle.farm_types.specs.Pick.{fits, check_of, serves, is_free};
-ghost use Rattle.farm_pick.specs.Test.{carries, passes, is_candidate};
+ghost use Rattle.farm_pick.specs.Choice.{carries, passes, is_candidate};
 
 use farm_types::{BoardRow, Check, Health, Holder, Name, Tag, TypeRow, Want};
 use std::marker::Model;
@@ -122,7 +122,7 @@ pub struct Candidates<'a> {
 impl<'a> Model for Candidates<'a> {
     ghost use Rattle.std.specs.Prelude.{List, filter};
     ghost use Rattle.farm_types.specs.declared.rows.BoardRow.{BoardRow};
-    ghost use Rattle.farm_pick.specs.Test.{passes, is_candidate};
+    ghost use Rattle.farm_pick.specs.Choice.{passes, is_candidate};
 
     ghost Value = { List BoardRow };
 

@@ -7,13 +7,10 @@ ghost use Rattle.std.specs.Str.{bytes_eq};
 ghost use Rattle.farm_types.specs.Limits.{most_wants};
 ghost use Rattle.farm_types.specs.Pick.{is_free, least};
 ghost use Rattle.farm_types.specs.Table.{board_cmp, put};
-ghost use Rattle.farm_sound.specs.Keys.{board_in};
-ghost use Rattle.farm_pick.specs.Choice.{IsShortlist, candidate_at};
-ghost use Rattle.farm_pick.specs.Fitting.{is_named, named_at};
+ghost use Rattle.farm_pick.specs.Choice.{IsShortlist, candidate_at, is_named, named_at};
 ghost use Rattle.farm_pick.specs.Heads.{queue_open};
-ghost use Rattle.farm_pick.specs.Index.{AreIdle, idle_cmp, shown_idle};
+ghost use Rattle.farm_pick.specs.Index.{AreIdle, IsPlace, idle_cmp, shown_idle};
 ghost use Rattle.farm_pick.specs.Least.{boards_at};
-ghost use Rattle.farm_pick.specs.Place.{IsPlace};
 ghost use Rattle.farm_pick.specs.Queued.{idle_board};
 
 use crate::picked::Picked;
@@ -93,7 +90,7 @@ fn place_of(boards: &[BoardRow], name: &Name, from: usize) -> Option<usize>
     requires { IsStrictlySortedBy board_cmp boards.now }
     ensures within { IfSome result (λ p. p < length boards.now) }
     ensures found { IfSome result (λ p. is_named boards.now name.now p ≡ true) }
-    ensures none { IfNone result (board_in boards.now name.now ≡ None) }
+    ensures none { IfNone result (find (λ b. bytes_eq b.name name.now) boards.now ≡ None) }
 {
     let end = from.saturating_add(NEARBY).min(boards.len());
     for at in from..end {

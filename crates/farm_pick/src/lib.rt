@@ -1,10 +1,10 @@
 //! Which boards are given to a claim, and which claim goes first. Only `queue_of` and the
 //! queues take memory.
 //!
-//! Read `specs/` in the order Test, Choice, Least, Queue for the least list and the queue of a
-//! farm's rows; then Queued, what stands in the queues, and Merged, the pass over them, and Follow,
-//! what commands and a pass leave of them; then Index and Several, in what they are looked up,
-//! Heads, how their first claims are found, Walked, how all are lent in order, and Fitting.
+//! Read `specs/` in the order Choice, Least, Queue for the least list and the queue of a farm's rows;
+//! then Queued, what stands in the queues, and Merged, the pass over them, and Follow, what commands
+//! and a pass leave of them; then Index and Several, in what they are looked up, Heads, how their
+//! first claims are found, and Walked, how all are lent in order.
 #![tactic(auto)]
 
 mod fit;

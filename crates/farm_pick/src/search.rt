@@ -7,8 +7,7 @@ ghost use Rattle.std.specs.List.Sorted.{IsStrictlySortedBy};
 ghost use Rattle.farm_types.specs.Limits.{most_wants};
 ghost use Rattle.farm_types.specs.Table.{board_cmp};
 ghost use Rattle.farm_types.specs.Pick.{least};
-ghost use Rattle.farm_pick.specs.Test.{passes};
-ghost use Rattle.farm_pick.specs.Choice.{has, Ascends, Chooses, IsLeastChoice, IsShortlist};
+ghost use Rattle.farm_pick.specs.Choice.{passes, has, Ascends, Chooses, IsLeastChoice, IsShortlist};
 ghost use Rattle.farm_pick.specs.Choice.{candidate_at};
 ghost use Rattle.farm_pick.specs.Least.{boards_at};
 

@@ -1,13 +1,7 @@
 -- What a command that isn't refused has, and what it leaves: a sound farm, a small reply, and the kept replies.
 use Rattle.std.proofs.Common.{◌==◌, ◌≡◌, ◌≤◌, List, None, Some, arith, false, true, ℕ}
-use Rattle.farm_sound.proofs.Names.{Farm, JobRow, ResRow, found_has, found_passes, job_of, res_of}
-use Rattle.farm_types.specs.Limits.{numbers_end}
-use Rattle.farm_types.specs.Change.{Done, done_with}
-use Rattle.farm_types.specs.Proper.{is_proper_cmd}
-use Rattle.farm_types.specs.Refuse.{first_code, is_full_for, reasons}
-use Rattle.farm_types.specs.Sound.{IsJobRow, IsResRow, IsSound}
-use Rattle.farm_types.specs.Words.{IsName}
-use Rattle.farm_types.specs.declared.calls.Cmd.{Cmd}
+use Rattle.farm_sound.proofs.Names.{Cmd, Farm, found_has, found_passes, job_of, JobRow, res_of, ResRow}
+use Rattle.farm_types.specs.Names.{Done, done_with, first_code, is_full_for, is_proper_cmd, IsJobRow, IsName, IsResRow, IsSound, numbers_end, reasons}
 use Rattle.farm_sound.proofs.Tests.{same_number}
 
 -- what a command that isn't refused has

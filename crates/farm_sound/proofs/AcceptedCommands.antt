@@ -1,17 +1,14 @@
 -- The commands, where they aren't refused: what they leave.
-use Rattle.std.proofs.Common.{Bool, IfSome, IsSome, IsSomeAnd, IsTrue, List, None, Option, Some, [], ap, arith, false, is_none, is_some, length, nat_le, not, refl, subst, sym, true, ℕ, ◌&&◌, ◌+◌, ◌==◌, ◌||◌, ◌∙◌, ◌∷◌, ◌≡◌}
-use Rattle.farm_sound.proofs.Names.{AllByRecursion-weaker, BoardRow, Farm, Health, JobRow, JobState, ResRow, ResState, State, Want, board_of, bytes_eq, false≢true, filter, is_utf8, job_of, list_all, list_any, members, nat_tests, option_map_or, put_board, res_of, type_of}
-use Rattle.farm_types.specs.Refusals.{board_exists, board_is_held, board_is_retired, forbidden, no_board, no_job, no_reservation, no_such_boards, no_type, reservation_expired, wrong_job_state, wrong_reservation_state}
-use Rattle.farm_types.specs.Limits.{longest_name, longest_text, most_boards, most_boards_of_type, most_jobs, most_reservations, numbers_end}
-use Rattle.farm_types.specs.Change.{act, cancel_group, done_with, finish_one, new_board, start_group}
-use Rattle.farm_types.specs.Codes.{same_health, same_job_state, same_res_state}
-use Rattle.farm_types.specs.Pick.{is_nobody, least, not_retired}
-use Rattle.farm_types.specs.Proper.{has_no_name_tag, is_frequency, is_priority, is_proper_cmd, is_want}
-use Rattle.farm_types.specs.Refuse.{can_cancel, first_code, is_alive, is_retired, job_is, owned_by, res_is, res_reasons}
-use Rattle.farm_types.specs.Sound.{IsSound}
-use Rattle.farm_types.specs.Words.{IsName, is_tags, is_word}
-use Rattle.farm_types.specs.declared.calls.Cmd.{Cmd}
-use Rattle.farm_types.specs.Pass.{checks, expire, giving_back, has_room, is_dead}
+use Rattle.std.proofs.Common.{Bool, IfSome, IsSome, IsSomeAnd, IsTrue, List, None, Option, Some, [], ap, arith, false, is_none, is_some, length, nat_le, not}
+use Rattle.std.proofs.Common.{refl, subst, sym, true, ℕ, ◌&&◌, ◌+◌, ◌==◌, ◌||◌, ◌∙◌, ◌∷◌, ◌≡◌}
+use Rattle.farm_sound.proofs.Names.{AllByRecursion-weaker, board_of, BoardRow, bytes_eq, Cmd, false≢true, Farm, filter, Health, is_utf8, job_of, JobRow}
+use Rattle.farm_sound.proofs.Names.{JobState, list_all, list_any, members, nat_tests, option_map_or, put_board, res_of, ResRow, ResState, State, type_of, Want}
+use Rattle.farm_types.specs.Names.{act, board_exists, board_is_held, board_is_retired, can_cancel, cancel_group, checks, done_with, expire, finish_one}
+use Rattle.farm_types.specs.Names.{first_code, forbidden, giving_back, has_no_name_tag, has_room, is_alive, is_dead, is_frequency, is_nobody, is_priority}
+use Rattle.farm_types.specs.Names.{is_proper_cmd, is_retired, is_tags, is_want, is_word, IsName, IsSound, job_is, least, longest_name, longest_text}
+use Rattle.farm_types.specs.Names.{most_boards, most_boards_of_type, most_jobs, most_reservations, new_board, no_board, no_job, no_reservation, no_such_boards}
+use Rattle.farm_types.specs.Names.{no_type, not_retired, numbers_end, owned_by, res_is, res_reasons, reservation_expired, same_health, same_job_state}
+use Rattle.farm_types.specs.Names.{same_res_state, start_group, wrong_job_state, wrong_reservation_state}
 use Rattle.farm_sound.proofs.Accepted.{Acted, IsAccepted, acted_one, low_job, low_res}
 use Rattle.farm_sound.proofs.Boards.{IsSound-put_board, IsSound-put_type, IsSound-replace_board}
 use Rattle.farm_sound.proofs.Clear.{IsSome-from, first_clear, none_of, passes, some_of}

@@ -1,12 +1,11 @@
 -- A row with the next number is added.
-use Rattle.std.proofs.Common.{◌+◌, ◌<◌, ◌==◌, ◌∙◌, ◌≡◌, Bool, IsNone, IsSomeAnd, List, None, Option, Some, ap, arith, cond, false, length, refl, subst, sym, true, ℕ}
-use Rattle.farm_sound.proofs.Names.{AllByRecursion, AllByRecursion-put, AllByRecursion-weaker, BoardRow, Equal, Farm, Holder, JobRow, ResRow, bytes_eq, find, find_put_is, found_has, found_passes, job_of, length_put, nat_tests, option_map_or, put_sorted, ranked, res_of, tied_itself}
-use Rattle.std.specs.Cmp.{IsTotalOrder, nat_cmp_total, on_total}
-use Rattle.std.specs.Ordering.{nat_cmp}
-use Rattle.farm_types.specs.Limits.{most_jobs, most_reservations, numbers_end}
-use Rattle.farm_types.specs.Pass.{held_board}
-use Rattle.farm_types.specs.Sound.{Hold, IsHeldBy, IsHeldByKeys, IsJobRow, IsResRow, IsSteady, hold_of, job_hold, res_hold}
-use Rattle.farm_types.specs.Table.{job_cmp, put, res_cmp}
+use Rattle.std.proofs.Common.{◌+◌, ◌<◌, ◌==◌, ◌∙◌, ◌≡◌, Bool, IsNone, IsSomeAnd, List, None, Option, Some, ap, arith, cond, false, length, refl, subst, sym}
+use Rattle.std.proofs.Common.{true, ℕ}
+use Rattle.farm_sound.proofs.Names.{AllByRecursion, AllByRecursion-put, AllByRecursion-weaker, BoardRow, bytes_eq, Equal, Farm, find, find_put_is, found_has}
+use Rattle.farm_sound.proofs.Names.{found_passes, Holder, IsTotalOrder, job_of, JobRow, length_put, nat_cmp, nat_cmp_total, nat_tests, on_total, option_map_or}
+use Rattle.farm_sound.proofs.Names.{put_sorted, ranked, res_of, ResRow, tied_itself}
+use Rattle.farm_types.specs.Names.{held_board, Hold, hold_of, IsHeldBy, IsHeldByKeys, IsJobRow, IsResRow, IsSteady, job_cmp, job_hold, most_jobs}
+use Rattle.farm_types.specs.Names.{most_reservations, numbers_end, put, res_cmp, res_hold}
 use Rattle.farm_sound.proofs.Grow.{IsSteady-edited, no_edit, rows_grow}
 use Rattle.farm_sound.proofs.Own.{differs_more, fresh_job, fresh_res}
 use Rattle.farm_sound.proofs.Tests.{same_number}

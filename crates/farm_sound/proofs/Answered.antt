@@ -1,12 +1,9 @@
 -- What the machine answers, by what the tests found.
 use Rattle.std.proofs.Common.{◌<◌, ◌≡◌, Bool, None, Option, Some, ap, arith, false, refl, sym, true, ℕ}
-use Rattle.farm_sound.proofs.Names.{Farm, Reply, nat_tests, option_or}
+use Rattle.farm_sound.proofs.Names.{Call, Farm, nat_tests, option_or, Reply}
 use Rattle.std.specs.Bool.{then_some}
-use Rattle.farm_types.specs.Limits.{most_commands}
-use Rattle.farm_types.specs.Change.{change}
-use Rattle.farm_types.specs.Machine.{Answered, Changed, Denied, Repeated, answer, answer_by, repeated_reply, step, step_by}
-use Rattle.farm_types.specs.Refuse.{early_refusal, is_full, own_refusal, refusal}
-use Rattle.farm_types.specs.declared.calls.Call.{Call}
+use Rattle.farm_types.specs.Names.{answer, answer_by, Answered, change, Changed, Denied, early_refusal, is_full, most_commands, own_refusal, refusal, Repeated}
+use Rattle.farm_types.specs.Names.{repeated_reply, step, step_by}
 
 -- what the machine answers, and the farm that it leaves
 pub record Answers (F : Farm) (call : Call) (a : Answered) (G : Farm) : Type 0 where

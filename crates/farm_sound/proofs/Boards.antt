@@ -1,15 +1,10 @@
 -- The commands on types and boards keep soundness.
 use Rattle.std.proofs.Common.{◌+◌, ◌<◌, ◌∙◌, ◌∷◌, ◌≡◌, ◌≤◌, Bool, IsSomeAnd, List, None, Some, ap, arith, cond, false, length, refl, subst, sym, true, ℕ, []}
-use Rattle.farm_sound.proofs.Names.{AllByRecursion-put, AllByRecursion-weaker, BoardRow, Equal, Farm, Holder, State, TypeRow, board_of, bytes_eq, bytes_eq-Decides, count_put, count_replaced, filter, find, find_put, find_put_is, found_has, found_passes, length_put, put_board, put_sorted, put_type, tied_itself}
-use Rattle.std.specs.Cmp.{IsTotalOrder, on_total}
-use Rattle.std.specs.Cmp.Lexicographic.{nat_list_cmp_total, nat_list_eq_equiv}
-use Rattle.std.specs.Ordering.{is_eq}
-use Rattle.std.proofs.lemmas.Map.Text.{is_eq-slice_cmp}
-use Rattle.farm_types.specs.Limits.{most_boards, most_boards_of_type}
-use Rattle.farm_types.specs.Pass.{held_board, freed_board}
-use Rattle.farm_types.specs.Sound.{Hold, IsBoardRow, IsHeldBy, IsHeldByKeys, IsSound, IsSteady, IsTypeRow, hold_of, holds}
-use Rattle.farm_types.specs.Table.{board_cmp, type_cmp}
-use Rattle.farm_types.specs.Words.{text_cmp}
+use Rattle.farm_sound.proofs.Names.{AllByRecursion-put, AllByRecursion-weaker, board_of, BoardRow, bytes_eq, bytes_eq-Decides, count_put, count_replaced, Equal}
+use Rattle.farm_sound.proofs.Names.{Farm, filter, find, find_put, find_put_is, found_has, found_passes, Holder, is_eq, is_eq-slice_cmp, IsTotalOrder}
+use Rattle.farm_sound.proofs.Names.{length_put, nat_list_cmp_total, nat_list_eq_equiv, on_total, put_board, put_sorted, put_type, State, tied_itself, TypeRow}
+use Rattle.farm_types.specs.Names.{board_cmp, freed_board, held_board, Hold, hold_of, holds, IsBoardRow, IsHeldBy, IsHeldByKeys, IsSound, IsSteady, IsTypeRow}
+use Rattle.farm_types.specs.Names.{most_boards, most_boards_of_type, text_cmp, type_cmp}
 use Rattle.farm_sound.proofs.Add.{IsHeldByKeys-same_rows}
 use Rattle.farm_sound.proofs.Grow.{IsBoardRow-grows, IsSteady-edited, no_edit, rows_grow, same_texts}
 

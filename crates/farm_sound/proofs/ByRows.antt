@@ -1,6 +1,6 @@
 -- A farm is sound exactly where it is so row by row.
 use Rattle.farm_sound.proofs.Names.{AllByRecursion-weaker, Farm}
-use Rattle.farm_types.specs.Sound.{IsBoardRow, IsJobRow, IsResRow, IsSound, IsSteady}
+use Rattle.farm_types.specs.Names.{IsBoardRow, IsJobRow, IsResRow, IsSound, IsSteady}
 use Rattle.farm_sound.specs.ByRows.{IsInStep, IsNamedBy, IsShownOfJob, IsShownOfRes, IsSoundByRows}
 use Rattle.farm_sound.proofs.Own.{own_job, own_res}
 use Rattle.farm_sound.proofs.ShownHolders.{held_from_shown, jobs_from_keys, named_from_keys, reservations_from_keys}

@@ -1,9 +1,9 @@
 -- Soundness is kept where jobs or reservations that pass a test change, and the boards that they hold.
 use Rattle.std.proofs.Common.{◌==◌, ◌∙◌, ◌≡◌, Bool, None, ap, false, refl, subst, sym, true, ℕ}
-use Rattle.farm_sound.proofs.Names.{AllByRecursion, AllByRecursion-weaker, BoardRow, Farm, Holder, JobRow, ResRow, bytes_eq, find, found_has, job_of, option_map_or, res_of}
-use Rattle.farm_types.specs.Pass.{change_jobs, change_res, held_board, is_job_so, is_res_so}
-use Rattle.farm_types.specs.Sound.{AreGroupsInPhase, IsBoardRow, IsCollecting, IsHeldByKeys, IsJobRow, IsResRow, IsSound, IsSteady, hold_of, job_hold, res_hold}
-use Rattle.farm_types.specs.Table.{change_where}
+use Rattle.farm_sound.proofs.Names.{AllByRecursion, AllByRecursion-weaker, BoardRow, bytes_eq, Farm, find, found_has, Holder, job_of, JobRow, option_map_or}
+use Rattle.farm_sound.proofs.Names.{res_of, ResRow}
+use Rattle.farm_types.specs.Names.{AreGroupsInPhase, change_jobs, change_res, change_where, held_board, hold_of, is_job_so, is_res_so, IsBoardRow, IsCollecting}
+use Rattle.farm_types.specs.Names.{IsHeldByKeys, IsJobRow, IsResRow, IsSound, IsSteady, job_hold, res_hold}
 use Rattle.farm_sound.proofs.Collecting.{IsHeldByKeys-collector, IsSteady-collector}
 use Rattle.farm_sound.proofs.Held.{IsHeldByKeys-regiven, IsMoved, Leaves, moved_row, not_moved}
 use Rattle.farm_sound.proofs.Mapped.{IsSteady-boards, IsSteady-jobs, IsSteady-reservations, SameJob}

@@ -1,18 +1,13 @@
 -- The checks of a pass keep soundness.
-use Rattle.std.proofs.Common.{◌&&◌, ◌+◌, ◌<◌, ◌==◌, ◌||◌, ◌∙◌, ◌∷◌, ◌≡◌, ◌⊎◌, Bool, IsNone, IsSome, IsTrue, List, None, Option, Some, ap, arith, codes, cond, false, inl, inr, length, nat_le, refl, subst, sym, true, ℕ, []}
-use Rattle.farm_sound.proofs.Names.{AllByRecursion, AllByRecursion-weaker, BoardRow, Check, Farm, Health, Holder, JobRow, Less, TypeRow, board_of, bytes_eq, bytes_eq-Decides, false≢true, filter, fold, found_has, found_passes, job_of, nat_tests, option_map_or, type_of}
-use Rattle.std.specs.Cmp.Lexicographic.{nat_list_eq_equiv}
+use Rattle.std.proofs.Common.{◌&&◌, ◌+◌, ◌<◌, ◌==◌, ◌||◌, ◌∙◌, ◌∷◌, ◌≡◌, ◌⊎◌, Bool, IsNone, IsSome, IsTrue, List, None, Option, Some, ap, arith, codes, cond}
+use Rattle.std.proofs.Common.{false, inl, inr, length, nat_le, refl, subst, sym, true, ℕ, []}
+use Rattle.farm_sound.proofs.Names.{AllByRecursion, AllByRecursion-weaker, board_of, BoardRow, bytes_eq, bytes_eq-Decides, Check, false≢true, Farm, filter}
+use Rattle.farm_sound.proofs.Names.{fold, found_has, found_passes, Health, Holder, is_eq, is_eq-slice_cmp, job_of, JobRow, Less}
 use Rattle.std.specs.List.Sorted.{IsStrictlySortedBy}
-use Rattle.std.specs.Ordering.{is_eq}
-use Rattle.std.proofs.lemmas.Map.Text.{is_eq-slice_cmp}
-use Rattle.farm_types.specs.Limits.{highest_priority, most_jobs, numbers_end}
-use Rattle.farm_types.specs.Codes.{same_health}
-use Rattle.farm_types.specs.Pass.{check_job, check_one, checks, has_room, is_due, is_due_by, is_reached}
-use Rattle.farm_types.specs.Pick.{check_of, is_nobody}
-use Rattle.farm_types.specs.Proper.{is_want}
-use Rattle.farm_types.specs.Sound.{IsBoardRow, IsJobRow, IsSound, IsSteady, IsTypeRow, hold_of, job_hold}
-use Rattle.farm_types.specs.Table.{board_cmp}
-use Rattle.farm_types.specs.Words.{IsName, is_tags, is_word}
+use Rattle.farm_sound.proofs.Names.{nat_list_eq_equiv, nat_tests, option_map_or, type_of, TypeRow}
+use Rattle.farm_types.specs.Names.{board_cmp, check_job, check_of, check_one, checks, has_room, highest_priority, hold_of, is_due, is_due_by, is_nobody}
+use Rattle.farm_types.specs.Names.{is_reached, is_tags, is_want, is_word, IsBoardRow, IsJobRow, IsName, IsSound, IsSteady, IsTypeRow, job_hold, most_jobs}
+use Rattle.farm_types.specs.Names.{numbers_end, same_health}
 use Rattle.farm_sound.proofs.Add.{IsSteady-add_job, add_job, job_of-add}
 use Rattle.farm_sound.proofs.Collecting.{IsCollecting-add, next_collects_not}
 use Rattle.farm_sound.proofs.Give.{IsFreeBoard, IsSteady-given_to, boards_on, given_to, still_board, still_there}

@@ -1,11 +1,11 @@
 -- The claims of a farm, and its queue in order.
 use Rattle.std.proofs.Common.{◌==◌, ◌∷◌, ◌≡◌, ◌≤◌, ◌⊎◌, List, Some, arith, inl, inr, map, refl, true, []}
-use Rattle.farm_sound.proofs.Names.{AllByRecursion, AllByRecursion-put, AllByRecursion-weaker, Farm, JobRow, JobState, ResRow, filter, job_of, list_all, members, put_sorted, res_of}
-use Rattle.std.specs.Cmp.{IsTotalOrder, back_total, nat_cmp_total, on_total, then_total}
+use Rattle.farm_sound.proofs.Names.{AllByRecursion, AllByRecursion-put, AllByRecursion-weaker, Farm, filter, IsTotalOrder, job_of, JobRow}
 use Rattle.std.specs.List.Sorted.{IsStrictlySortedBy}
-use Rattle.farm_types.specs.Pick.{Claimed, claim_cmp, claims, group_claim, is_waiting, leads_claim, queue, res_claim, waits}
-use Rattle.farm_types.specs.Sound.{IsCollecting, IsSteady, phase}
-use Rattle.farm_types.specs.Table.{put, put_all}
+use Rattle.farm_sound.proofs.Names.{JobState, list_all, members, nat_cmp_total, on_total, put_sorted, res_of, ResRow}
+use Rattle.std.specs.Cmp.{back_total, then_total}
+use Rattle.farm_types.specs.Names.{claim_cmp, Claimed, claims, group_claim, is_waiting, IsCollecting, IsSteady, leads_claim, phase, put, put_all, queue}
+use Rattle.farm_types.specs.Names.{res_claim, waits}
 use Rattle.farm_sound.proofs.Collecting.{none_scheduling}
 use Rattle.farm_sound.proofs.Lists.{all_join, all_tested, filter_all}
 use Rattle.farm_sound.proofs.Own.{own_job, own_res}

@@ -1,7 +1,7 @@
 -- What a call that isn't refused has: each reason's test fails.
 use Rattle.std.proofs.Common.{◌∙◌, ◌∷◌, ◌≡◌, Bool, IsSome, List, None, Option, Some, ap, false, is_none, is_some, not, refl, sym, true, ℕ}
 use Rattle.farm_sound.proofs.Names.{false≢true, option_map_or}
-use Rattle.farm_types.specs.Refuse.{first_code}
+use Rattle.farm_types.specs.Names.{first_code}
 use Rattle.farm_sound.proofs.Tests.{not_false}
 
 -- the first reason doesn't apply, and no later one

@@ -1,16 +1,17 @@
 -- A group that can't be served collects: each member in turn takes the first free board that fits it.
-use Rattle.std.proofs.Common.{◌&&◌, ◌==◌, ◌∙◌, ◌∷◌, ◌≡◌, ◌≤◌, ◌⊎◌, Bool, List, None, Option, Some, ap, arith, false, inl, inr, length, map, refl, subst, sym, true, ℕ, []}
-use Rattle.farm_sound.proofs.Names.{AllByRecursion, AllByRecursion-weaker, BoardRow, Farm, JobRow, JobState, Less, ResRow, Want, bytes_eq, false≢true, filter, find, fold, found_has, found_passes, job_of, list_all, members, option_map, option_map_or, ranked}
+use Rattle.std.proofs.Common.{◌&&◌, ◌==◌, ◌∙◌, ◌∷◌, ◌≡◌, ◌≤◌, ◌⊎◌, Bool, List, None, Option, Some, ap, arith, false, inl, inr, length, map, refl, subst, sym}
+use Rattle.std.proofs.Common.{true, ℕ, []}
+use Rattle.farm_sound.proofs.Names.{AllByRecursion, AllByRecursion-weaker, BoardRow, bytes_eq, false≢true, Farm, filter, find, fold, found_has, found_passes}
+use Rattle.farm_sound.proofs.Names.{job_of, JobRow, JobState, Less, list_all, members, option_map, option_map_or, ranked, ResRow, Want}
 use Rattle.std.specs.List.Sorted.{IsStrictlySortedBy}
-use Rattle.farm_types.specs.Pass.{collect, collect_member, first_free, give_member}
-use Rattle.farm_types.specs.Pick.{Claimed, fits, group_claim, is_free, is_nobody, leads_claim, serves, waits}
-use Rattle.farm_types.specs.Sound.{IsCollecting, IsHeldByKeys, IsJobRow, IsSound, IsSteady, phase}
-use Rattle.farm_types.specs.Table.{job_cmp}
+use Rattle.farm_types.specs.Names.{Claimed, collect, collect_member, first_free, fits, give_member, group_claim, is_free, is_nobody, IsCollecting, IsHeldByKeys}
+use Rattle.farm_types.specs.Names.{IsJobRow, IsSound, IsSteady, job_cmp, leads_claim, phase, serves, waits}
 use Rattle.farm_sound.proofs.Claims.{IsClaim, IsGroupClaim, IsOpen, leads}
 use Rattle.farm_sound.proofs.Collecting.{IsHeldByKeys-collector, IsSteady-collector, none_scheduling}
 use Rattle.farm_sound.proofs.Free.{serves_kept}
 use Rattle.farm_sound.proofs.Give.{IsFreeBoard, IsHeldByKeys-give_member, IsSteady-give_member, other_job}
-use Rattle.farm_sound.proofs.Group.{Ready, as_scheduling, filter_sorted, given, given_group, given_elsewhere, given_number, given_rest, given_same, given_state, jobs_given, own_members, ready_members}
+use Rattle.farm_sound.proofs.Group.{Ready, as_scheduling, filter_sorted, given, given_group, given_elsewhere, given_number, given_rest, given_same, given_state}
+use Rattle.farm_sound.proofs.Group.{jobs_given, own_members, ready_members}
 use Rattle.farm_sound.proofs.Lists.{filter_all, filter_back}
 use Rattle.farm_sound.proofs.Own.{differs_more, itself, own_board, own_job}
 use Rattle.farm_sound.proofs.Tests.{both, nobody_from, same_number}

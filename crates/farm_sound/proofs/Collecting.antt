@@ -1,9 +1,8 @@
 -- The group that collects boards, after jobs have changed, and farms with another collector.
 use Rattle.std.proofs.Common.{◌<◌, ◌==◌, ◌∙◌, ◌∷◌, ◌≡◌, ◌≤◌, Bool, List, ap, arith, cond, false, length, map, nat_lt, refl, subst, sym, true, ℕ, []}
-use Rattle.farm_sound.proofs.Names.{AllByRecursion, AllByRecursion-put, AllByRecursion-weaker, Equal, Farm, Greater, JobRow, JobState, Less, Ordering, filter, nat_tests, ranked}
-use Rattle.std.specs.Ordering.{match_ordering}
-use Rattle.farm_types.specs.Sound.{IsCollecting, IsHeldByKeys, IsJobRow, IsSteady, phase}
-use Rattle.farm_types.specs.Table.{change_where, job_cmp, put}
+use Rattle.farm_sound.proofs.Names.{AllByRecursion, AllByRecursion-put, AllByRecursion-weaker, Equal, Farm, filter, Greater, JobRow, JobState, Less}
+use Rattle.farm_sound.proofs.Names.{match_ordering, nat_tests, Ordering, ranked}
+use Rattle.farm_types.specs.Names.{change_where, IsCollecting, IsHeldByKeys, IsJobRow, IsSteady, job_cmp, phase, put}
 use Rattle.farm_sound.proofs.Add.{IsHeldByKeys-same_rows, job_total}
 use Rattle.farm_sound.proofs.Grow.{IsSteady-edited, no_edit, rows_grow}
 use Rattle.farm_sound.proofs.Lists.{none_pass}

@@ -1,9 +1,7 @@
 -- Rows with different keys are put in any order.
 use Rattle.std.proofs.Common.{◌∙◌, ◌∷◌, ◌≡◌, List, ap, refl, sym, []}
-use Rattle.farm_sound.proofs.Names.{Equal, Greater, Less, Ordering}
-use Rattle.std.specs.Cmp.{IsTotalOrder}
-use Rattle.std.specs.Ordering.{match_ordering, ordering_reverse}
-use Rattle.farm_types.specs.Table.{put}
+use Rattle.farm_sound.proofs.Names.{Equal, Greater, IsTotalOrder, Less, match_ordering, Ordering, ordering_reverse}
+use Rattle.farm_types.specs.Names.{put}
 
 module _ {R : Type 0} (cmp : R → R → Ordering) (total : IsTotalOrder cmp) where
   -- a row below, at or above the first one

@@ -1,10 +1,8 @@
 -- The boards of the least list are free.
 use Rattle.std.proofs.Common.{◌&&◌, ◌||◌, ◌∙◌, ◌≡◌, List, Some, ap, length, not, sym, true}
-use Rattle.farm_sound.proofs.Names.{AllByRecursion, AllByRecursion-weaker, BoardRow, Farm, Health, TypeRow, Want, board_of, false≢true, list_all}
-use Rattle.std.specs.Cmp.Lexicographic.{as_long, pointwise}
-use Rattle.farm_types.specs.Codes.{same_health}
-use Rattle.farm_types.specs.Pick.{IsAmong, are_apart, check_of, fits, is_checked, is_free, is_nobody, least, serves}
-use Rattle.farm_types.specs.Sound.{IsSteady}
+use Rattle.farm_sound.proofs.Names.{AllByRecursion, AllByRecursion-weaker, board_of, BoardRow, false≢true, Farm, Health, list_all, pointwise, TypeRow, Want}
+use Rattle.std.specs.Cmp.Lexicographic.{as_long}
+use Rattle.farm_types.specs.Names.{are_apart, check_of, fits, is_checked, is_free, is_nobody, IsAmong, IsSteady, least, same_health, serves}
 use Rattle.farm_sound.proofs.Give.{IsFreeBoard}
 use Rattle.farm_sound.proofs.Least.{IsLeast-least}
 use Rattle.farm_sound.proofs.Lists.{all_tested, among_has}

@@ -1,9 +1,9 @@
 -- Free boards are given to claims.
 use Rattle.std.proofs.Common.{◌+◌, ◌==◌, ◌∙◌, ◌∷◌, ◌≡◌, ◌≤◌, ◌⊎◌, IsSome, List, None, Some, ap, arith, false, inl, inr, refl, subst, sym, true, ℕ}
-use Rattle.farm_sound.proofs.Names.{AllByRecursion-weaker, BoardRow, Farm, Health, Holder, JobRow, JobState, ResRow, ResState, State, board_of, bytes_eq, bytes_eq-Decides, found_passes, job_of, option_map, option_map_or, res_of}
-use Rattle.farm_types.specs.Pass.{allocated_reservation, give_member, give_res, held_board, placed_job}
-use Rattle.farm_types.specs.Sound.{IsBoardRow, IsHeldByKeys, IsJobRow, IsSound, IsSteady, hold, hold_of, job_gives, job_hold, phase, res_gives, res_hold}
-use Rattle.farm_types.specs.Table.{change_where}
+use Rattle.farm_sound.proofs.Names.{AllByRecursion-weaker, board_of, BoardRow, bytes_eq, bytes_eq-Decides, Farm, found_passes, Health, Holder, job_of, JobRow}
+use Rattle.farm_sound.proofs.Names.{JobState, option_map, option_map_or, res_of, ResRow, ResState, State}
+use Rattle.farm_types.specs.Names.{allocated_reservation, change_where, give_member, give_res, held_board, hold, hold_of, IsBoardRow, IsHeldByKeys, IsJobRow}
+use Rattle.farm_types.specs.Names.{IsSound, IsSteady, job_gives, job_hold, phase, placed_job, res_gives, res_hold}
 use Rattle.farm_sound.proofs.Held.{IsHeldByKeys-given}
 use Rattle.farm_sound.proofs.Mapped.{IsSteady-boards, IsSteady-jobs, IsSteady-reservations}
 use Rattle.farm_sound.proofs.Own.{itself, only_board, only_job}

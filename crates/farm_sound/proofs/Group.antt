@@ -1,12 +1,10 @@
 -- A group is given its boards, member by member.
-use Rattle.std.proofs.Common.{◌==◌, ◌||◌, ◌∙◌, ◌∷◌, ◌≡◌, ◌≤◌, ◌⊎◌, Bool, List, Some, ap, arith, cond, false, inl, inr, length, map, not, refl, subst, sym, true, ℕ, []}
-use Rattle.farm_sound.proofs.Names.{AllByRecursion, AllByRecursion-weaker, BoardRow, Farm, JobRow, JobState, Less, bytes_eq, false≢true, filter, fold, job_of, list_any, members, nat_tests, ranked, zip}
-use Rattle.std.specs.Cmp.Lexicographic.{nat_list_eq_equiv}
+use Rattle.std.proofs.Common.{◌==◌, ◌||◌, ◌∙◌, ◌∷◌, ◌≡◌, ◌≤◌, ◌⊎◌, Bool, List, Some, ap, arith, cond, false, inl, inr, length, map, not, refl, subst, sym, true}
+use Rattle.std.proofs.Common.{ℕ, []}
+use Rattle.farm_sound.proofs.Names.{AllByRecursion, AllByRecursion-weaker, BoardRow, bytes_eq, false≢true, Farm, filter, fold, job_of}
 use Rattle.std.specs.List.Sorted.{IsStrictlySortedBy}
-use Rattle.farm_types.specs.Pass.{give_group, give_member, held_board, placed_job}
-use Rattle.farm_types.specs.Pick.{are_apart}
-use Rattle.farm_types.specs.Sound.{IsCollecting, IsHeldByKeys, IsSound, IsSteady, phase}
-use Rattle.farm_types.specs.Table.{job_cmp}
+use Rattle.farm_sound.proofs.Names.{JobRow, JobState, Less, list_any, members, nat_list_eq_equiv, nat_tests, ranked, zip}
+use Rattle.farm_types.specs.Names.{are_apart, give_group, give_member, held_board, IsCollecting, IsHeldByKeys, IsSound, IsSteady, job_cmp, phase, placed_job}
 use Rattle.farm_sound.proofs.Collecting.{IsCollecting-map}
 use Rattle.farm_sound.proofs.Give.{IsFreeBoard, IsPlaced, IsHeldByKeys-give_member, IsSteady-give_member, other_board, other_job}
 use Rattle.farm_sound.proofs.Lists.{filter_all}

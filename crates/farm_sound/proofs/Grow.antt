@@ -1,13 +1,10 @@
 -- A farm that has all that another has.
 use Rattle.std.proofs.Common.{◌-◌, ◌<◌, ◌∙◌, ◌≡◌, ◌≤◌, IfSome, IsNone, IsSome, IsSomeAnd, List, None, Option, Some, ap, arith, length, refl, sym, ℕ}
-use Rattle.farm_sound.proofs.Names.{AllByRecursion, AllByRecursion-weaker, BoardRow, Equal, Farm, JobRow, ResRow, board_of, bytes_eq, bytes_eq-Decides, filter, job_of, res_of, type_of}
+use Rattle.farm_sound.proofs.Names.{AllByRecursion, AllByRecursion-weaker, board_of, BoardRow, bytes_eq, bytes_eq-Decides, Equal, Farm, filter, is_eq}
+use Rattle.farm_sound.proofs.Names.{is_eq-slice_cmp, job_of, JobRow, res_of, ResRow, type_of}
 use Rattle.std.specs.List.Sorted.{IsStrictlySortedBy}
-use Rattle.std.specs.Ordering.{is_eq}
-use Rattle.std.proofs.lemmas.Map.Text.{is_eq-slice_cmp}
-use Rattle.farm_types.specs.Limits.{last_moment, most_boards_of_type, most_commands, numbers_end}
-use Rattle.farm_types.specs.Sound.{Follows, IsBoardRow, IsJobRow, IsKeptRow, IsResRow, IsSteady, IsTypeRow, IsWithin, sizes_of}
-use Rattle.farm_types.specs.Table.{board_cmp, job_cmp, kept_cmp, res_cmp, type_cmp}
-use Rattle.farm_types.specs.Words.{text_cmp}
+use Rattle.farm_types.specs.Names.{board_cmp, Follows, IsBoardRow, IsJobRow, IsKeptRow, IsResRow, IsSteady, IsTypeRow, IsWithin, job_cmp, kept_cmp, last_moment}
+use Rattle.farm_types.specs.Names.{most_boards_of_type, most_commands, numbers_end, res_cmp, sizes_of, text_cmp, type_cmp}
 
 -- ---- a farm that has all that another has
 

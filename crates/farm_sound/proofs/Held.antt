@@ -1,8 +1,8 @@
 -- Who holds which board, found by keys, after rows have changed, and after a board was given.
 use Rattle.std.proofs.Common.{Bool, IsSomeAnd, List, None, Option, Some, ap, cond, false, inl, inr, map, refl, subst, sym, true, ℕ, ◌==◌, ◌∙◌, ◌≡◌, ◌⊎◌}
-use Rattle.farm_sound.proofs.Names.{AllByRecursion, BoardRow, Farm, Holder, JobRow, ResRow, State, board_of, bytes_eq, bytes_eq-Decides, false≢true, find, found_has, found_passes, job_of, option_map, option_map_or, res_of, true≢false}
-use Rattle.farm_types.specs.Pass.{held_board}
-use Rattle.farm_types.specs.Sound.{Hold, IsHeldBy, IsHeldByKeys, hold, hold_of, job_gives, job_hold, res_gives, res_hold, shown_hold}
+use Rattle.farm_sound.proofs.Names.{AllByRecursion, board_of, BoardRow, bytes_eq, bytes_eq-Decides, false≢true, Farm, find, found_has, found_passes, Holder}
+use Rattle.farm_sound.proofs.Names.{job_of, JobRow, option_map, option_map_or, res_of, ResRow, State, true≢false}
+use Rattle.farm_types.specs.Names.{held_board, Hold, hold, hold_of, IsHeldBy, IsHeldByKeys, job_gives, job_hold, res_gives, res_hold, shown_hold}
 use Rattle.farm_sound.proofs.Tests.{same_number}
 use Rattle.farm_sound.proofs.Where.{AllByRecursion-map, by_cases, changed}
 

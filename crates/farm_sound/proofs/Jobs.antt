@@ -1,12 +1,11 @@
 -- The commands on jobs keep soundness.
-use Rattle.std.proofs.Common.{Bool, IsSome, None, Some, ap, arith, cond, false, map, min, nat_lt, refl, subst, sym, true, ℕ, ◌&&◌, ◌+◌, ◌==◌, ◌||◌, ◌∙◌, ◌≡◌, ◌≤◌}
-use Rattle.farm_sound.proofs.Names.{AllByRecursion, AllByRecursion-weaker, BoardRow, Farm, Health, Holder, JobRow, JobState, Outcome, State, false≢true, found_has, found_passes, job_of, type_of}
-use Rattle.farm_types.specs.Change.{after_check, after_job, cancel_group, finish_one, graded_board, in_state, is_unstarted, start_group}
-use Rattle.farm_types.specs.Codes.{same_health, same_job_state, same_outcome}
-use Rattle.farm_types.specs.Pass.{change_jobs, freed_board, giving_back, unplaced_job}
-use Rattle.farm_types.specs.Sound.{Description, IsBoardRow, IsCollecting, IsDescription, IsSound, IsWithin, counts_of, description_of, hold, job_gives, job_hold, phase}
-use Rattle.farm_types.specs.Table.{change_where}
-use Rattle.farm_types.specs.Limits.{most_jobs_since}
+use Rattle.std.proofs.Common.{Bool, IsSome, None, Some, ap, arith, cond, false, map, min, nat_lt, refl, subst, sym, true, ℕ, ◌&&◌, ◌+◌, ◌==◌, ◌||◌, ◌∙◌, ◌≡◌}
+use Rattle.std.proofs.Common.{◌≤◌}
+use Rattle.farm_sound.proofs.Names.{AllByRecursion, AllByRecursion-weaker, BoardRow, false≢true, Farm, found_has, found_passes, Health, Holder, job_of, JobRow}
+use Rattle.farm_sound.proofs.Names.{JobState, Outcome, State, type_of}
+use Rattle.farm_types.specs.Names.{after_check, after_job, cancel_group, change_jobs, change_where, counts_of, Description, description_of, finish_one}
+use Rattle.farm_types.specs.Names.{freed_board, giving_back, graded_board, hold, in_state, is_unstarted, IsBoardRow, IsCollecting, IsDescription, IsSound}
+use Rattle.farm_types.specs.Names.{IsWithin, job_gives, job_hold, most_jobs_since, phase, same_health, same_job_state, same_outcome, start_group, unplaced_job}
 use Rattle.farm_sound.proofs.Changes.{IsSound-change_jobs}
 use Rattle.farm_sound.proofs.Collecting.{IsCollecting-where, none_collects}
 use Rattle.farm_sound.proofs.Held.{Leaves}

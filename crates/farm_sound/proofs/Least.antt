@@ -1,12 +1,13 @@
 -- The first list of boards that meets the wants is the least one.
-use Rattle.std.proofs.Common.{◌&&◌, ◌++◌, ◌∙◌, ◌∷◌, ◌≡◌, Bool, List, None, Ordering, Some, ap, arith, cond, false, inl, inr, length, map, refl, subst, suc, sym, true, zero, ℕ, []}
-use Rattle.farm_sound.proofs.Names.{AllByRecursion, BoardRow, Less, Want, false≢true, find, flat_map, found_has, found_passes, list_all, tied_itself}
-use Rattle.std.specs.Cmp.{IsTotalOrder, first_so, on_total}
-use Rattle.std.specs.Cmp.Lexicographic.{as_long, lists_total, nat_list_cmp_total, pointwise}
+use Rattle.std.proofs.Common.{◌&&◌, ◌++◌, ◌∙◌, ◌∷◌, ◌≡◌, Bool, List, None, Ordering, Some, ap, arith, cond, false, inl, inr, length, map, refl, subst, suc, sym}
+use Rattle.std.proofs.Common.{true, zero, ℕ, []}
+use Rattle.farm_sound.proofs.Names.{AllByRecursion, BoardRow, false≢true, find, flat_map, found_has, found_passes, IsTotalOrder, Less}
 use Rattle.std.specs.List.Sorted.{IsStrictlySortedBy}
-use Rattle.std.specs.Ordering.{is_lt, ordering_reverse}
-use Rattle.farm_types.specs.Pick.{IsAmong, AreAmong, IsLeast, are_apart, fits, least, board_lists, meets, names_cmp}
-use Rattle.farm_types.specs.Table.{board_cmp}
+use Rattle.farm_sound.proofs.Names.{list_all, nat_list_cmp_total, on_total, ordering_reverse, pointwise, tied_itself, Want}
+use Rattle.std.specs.Cmp.{first_so}
+use Rattle.std.specs.Cmp.Lexicographic.{as_long, lists_total}
+use Rattle.std.specs.Ordering.{is_lt}
+use Rattle.farm_types.specs.Names.{are_apart, AreAmong, board_cmp, board_lists, fits, IsAmong, IsLeast, least, meets, names_cmp}
 use Rattle.farm_sound.proofs.Lists.{all_join, all_self, among_append, among_has, among_map, among_none}
 use Rattle.farm_sound.proofs.Where.{AllByRecursion-map, all_true}
 

@@ -1,9 +1,9 @@
 -- Lists: what holds of each element, or of each two, and which pass a test.
 use Rattle.std.proofs.Common.{◌++◌, ◌∙◌, ◌∷◌, ◌≡◌, ◌≤◌, ◌⊎◌, Bool, List, None, Some, ap, arith, cond, false, inl, inr, length, map, refl, subst, sym, true, []}
-use Rattle.farm_sound.proofs.Names.{AllByRecursion, AllByRecursion-weaker, Less, Ordering, filter, find, found_has, list_all, list_any, true≢false}
+use Rattle.farm_sound.proofs.Names.{AllByRecursion, AllByRecursion-weaker, filter, find, found_has, Less, list_all, list_any, Ordering}
 use Rattle.std.specs.List.Sorted.{IsStrictlySortedBy}
-use Rattle.farm_types.specs.Pick.{IsAmong}
-use Rattle.farm_types.specs.Sound.{EachTwo}
+use Rattle.farm_sound.proofs.Names.{true≢false}
+use Rattle.farm_types.specs.Names.{EachTwo, IsAmong}
 use Rattle.farm_sound.proofs.Tests.{both, both_false}
 use Rattle.farm_sound.proofs.Where.{AllByRecursion-both, AllByRecursion-map, by_cases}
 

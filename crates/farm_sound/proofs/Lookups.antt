@@ -1,9 +1,7 @@
 -- What a binary search finds in a table that stands in order, which a function has as a slice.
 use Rattle.std.proofs.Common.{◌≡◌, ◌∙◌, ◌<◌, ◌≤◌, ap, sym, ℕ, Bool, List, Some, None, Ok, Err, length, get_or}
-use Rattle.farm_sound.proofs.Names.{Ordering, find}
-use Rattle.std.specs.Cmp.{IsTotalOrder}
+use Rattle.farm_sound.proofs.Names.{find, is_eq, IsTotalOrder, Ordering}
 use Rattle.std.specs.List.Sorted.{IsBinarySearchResult, IsStrictlySortedBy}
-use Rattle.std.specs.Ordering.{is_eq}
 use Rattle.farm_types.proofs.Searched.{found_at}
 
 module _ {R K : Type 0} (key : R → K) (c : K → K → Ordering) (total : IsTotalOrder c) (eq : K → K → Bool) (ties : (a b : K) → eq a b ≡ is_eq (c a b))

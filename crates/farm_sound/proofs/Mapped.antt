@@ -1,12 +1,8 @@
 -- A steady farm stays so where rows that pass a test change in their places.
 use Rattle.std.proofs.Common.{◌==◌, ◌∙◌, ◌≡◌, ◌≤◌, Bool, IsNone, IsSome, None, Option, Some, ap, arith, map, refl, subst, sym, true}
-use Rattle.farm_sound.proofs.Names.{AllByRecursion, AllByRecursion-weaker, BoardRow, Farm, JobRow, ResRow, board_of, bytes_eq, false≢true, option_map, res_of, true≢false}
-use Rattle.std.specs.Ordering.{nat_cmp}
-use Rattle.std.proofs.lemmas.List.{length-map}
-use Rattle.farm_types.specs.Limits.{most_boards_of_type}
-use Rattle.farm_types.specs.Sound.{IsBoardRow, IsJobRow, IsResRow, IsSteady}
-use Rattle.farm_types.specs.Table.{board_cmp, change_where, job_cmp, res_cmp}
-use Rattle.farm_types.specs.Words.{text_cmp}
+use Rattle.farm_sound.proofs.Names.{AllByRecursion, AllByRecursion-weaker, board_of, BoardRow, bytes_eq, false≢true, Farm, JobRow, length-map, nat_cmp}
+use Rattle.farm_sound.proofs.Names.{option_map, res_of, ResRow, true≢false}
+use Rattle.farm_types.specs.Names.{board_cmp, change_where, IsBoardRow, IsJobRow, IsResRow, IsSteady, job_cmp, most_boards_of_type, res_cmp, text_cmp}
 use Rattle.farm_sound.proofs.Grow.{IsBoardRow-grows, IsJobRow-grows, IsResRow-grows, IsSteady-edited, no_edit, rows_grow}
 use Rattle.farm_sound.proofs.Where.{all_changed, by_cases, changed, changed_keeps, count_map, find_where, sorted_map}
 

@@ -1,12 +1,10 @@
 -- The empty farm, and what stays sound when the clock moves, a reply is kept or a command is counted.
 use Rattle.std.proofs.Common.{◌<◌, ◌≡◌, ◌≤◌, IsSomeAnd, List, Some, arith, length, refl, ℕ}
-use Rattle.farm_sound.proofs.Names.{AllByRecursion, AllByRecursion-put, Farm, Holder, KeptRow, board_of, empty_farm, length_put, put_kept, put_sorted}
-use Rattle.std.specs.Cmp.{IsTotalOrder, on_total, then_total}
-use Rattle.std.specs.Cmp.Lexicographic.{nat_list_cmp_total}
+use Rattle.farm_sound.proofs.Names.{AllByRecursion, AllByRecursion-put, board_of, empty_farm, Farm, Holder, IsTotalOrder, KeptRow}
 use Rattle.std.specs.List.Sorted.{IsStrictlySortedBy}
-use Rattle.farm_types.specs.Limits.{last_moment, most_commands, most_replies}
-use Rattle.farm_types.specs.Sound.{Hold, IsKeptRow, IsSound, hold_of}
-use Rattle.farm_types.specs.Table.{kept_cmp, put}
+use Rattle.farm_sound.proofs.Names.{length_put, nat_list_cmp_total, on_total, put_kept, put_sorted}
+use Rattle.std.specs.Cmp.{then_total}
+use Rattle.farm_types.specs.Names.{Hold, hold_of, IsKeptRow, IsSound, kept_cmp, last_moment, most_commands, most_replies, put}
 use Rattle.farm_sound.proofs.Add.{IsHeldByKeys-same_rows}
 use Rattle.farm_sound.proofs.Grow.{IsSteady-edited, no_edit, rows_grow}
 

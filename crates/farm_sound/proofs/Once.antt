@@ -1,11 +1,12 @@
 -- Holders found by keys say that no board is held twice, and that each says who holds it; and back.
-use Rattle.std.proofs.Common.{◌<◌, ◌==◌, ◌∙◌, ◌∷◌, ◌≡◌, ◌≢◌, IsSome, IsSomeAnd, List, None, Option, Some, ap, arith, inl, inr, refl, subst, sym, unwrap_or, ℕ, []}
-use Rattle.farm_sound.proofs.Names.{AllByRecursion, AllByRecursion-weaker, BoardRow, Farm, Holder, JobRow, Less, Ordering, ResRow, State, board_of, bytes_eq, bytes_eq-Decides, cons_option, false≢true, filter_map, find, found_has, found_passes, job_of, option_map_or, ranked, res_of}
+use Rattle.std.proofs.Common.{◌<◌, ◌==◌, ◌∙◌, ◌∷◌, ◌≡◌, ◌≢◌, IsSome, IsSomeAnd, List, None, Option, Some, ap, arith, inl, inr, refl, subst, sym, unwrap_or, ℕ}
+use Rattle.std.proofs.Common.{[]}
+use Rattle.farm_sound.proofs.Names.{AllByRecursion, AllByRecursion-weaker, board_of, BoardRow, bytes_eq, bytes_eq-Decides, cons_option, false≢true, Farm}
+use Rattle.farm_sound.proofs.Names.{filter_map, find, found_has, found_passes, Holder, job_of, JobRow, Less, option_map_or, Ordering}
 use Rattle.std.specs.List.Sorted.{IsStrictlySortedBy}
-use Rattle.farm_types.specs.Pass.{held_board}
-use Rattle.farm_types.specs.Pick.{IsAmong}
-use Rattle.farm_types.specs.Sound.{EachTwo, Hold, IsBoardOf, IsHeldBy, IsHeldByKeys, IsHeldOnce, IsJobRow, IsResRow, IsSteady, hold, hold_of, holds, job_gives, job_hold, no_hold, res_gives, res_hold, shown_hold}
-use Rattle.farm_types.specs.Table.{job_cmp, res_cmp}
+use Rattle.farm_sound.proofs.Names.{ranked, res_of, ResRow, State}
+use Rattle.farm_types.specs.Names.{EachTwo, held_board, Hold, hold, hold_of, holds, IsAmong, IsBoardOf, IsHeldBy, IsHeldByKeys, IsHeldOnce, IsJobRow, IsResRow}
+use Rattle.farm_types.specs.Names.{IsSteady, job_cmp, job_gives, job_hold, no_hold, res_cmp, res_gives, res_hold, shown_hold}
 use Rattle.farm_sound.proofs.Held.{held_from, held_is, hold_names, holder_is, row_of_job, row_of_res}
 use Rattle.farm_sound.proofs.Lists.{all_join, among_append, among_found, among_has, among_none, each_append, each_weaker, each_with}
 use Rattle.farm_sound.proofs.Own.{own_board, own_job, own_res, text_itself}

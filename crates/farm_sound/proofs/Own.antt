@@ -1,11 +1,9 @@
 -- Each row is found by its own key, and no row by the next number.
 use Rattle.std.proofs.Common.{◌<◌, ◌==◌, ◌∙◌, ◌∷◌, ◌≡◌, ◌≤◌, Bool, List, None, Some, ap, arith, cond, false, refl, sym, true, ℕ, []}
-use Rattle.farm_sound.proofs.Names.{AllByRecursion, AllByRecursion-weaker, BoardRow, Farm, JobRow, Less, Ordering, ResRow, board_of, bytes_eq, bytes_eq-Decides, find, job_of, nat_tests, ranked, res_of}
+use Rattle.farm_sound.proofs.Names.{AllByRecursion, AllByRecursion-weaker, board_of, BoardRow, bytes_eq, bytes_eq-Decides, Farm, find, is_eq, is_eq-slice_cmp}
+use Rattle.farm_sound.proofs.Names.{job_of, JobRow, Less, nat_tests, Ordering, ranked, res_of, ResRow}
 use Rattle.std.specs.List.Sorted.{IsStrictlySortedBy}
-use Rattle.std.specs.Ordering.{is_eq}
-use Rattle.std.proofs.lemmas.Map.Text.{is_eq-slice_cmp}
-use Rattle.farm_types.specs.Sound.{IsSteady}
-use Rattle.farm_types.specs.Table.{board_cmp, job_cmp, res_cmp}
+use Rattle.farm_types.specs.Names.{board_cmp, IsSteady, job_cmp, res_cmp}
 use Rattle.farm_sound.proofs.Lists.{none_found}
 
 pub found_all : {R : Type 0} (cmp : R → R → Ordering) (test : R → R → Bool) → ((r : R) → test r r ≡ true)

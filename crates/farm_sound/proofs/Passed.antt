@@ -1,9 +1,11 @@
 -- The pass keeps soundness, and after it no claim is met by free boards: each was met and served, or found none and finds none.
-use Rattle.std.proofs.Common.{◌&&◌, ◌+◌, ◌++◌, ◌==◌, ◌∙◌, ◌∷◌, ◌≡◌, ◌≤◌, ◌⊎◌, Bool, List, None, Option, Some, ap, arith, cond, false, inl, inr, length, map, not, refl, subst, sym, true, ℕ, []}
-use Rattle.farm_sound.proofs.Names.{AllByRecursion, AllByRecursion-weaker, BoardRow, Farm, JobRow, JobState, ResRow, Want, false≢true, filter, find, fold, found_has, job_of, list_all, members, option_map, option_map_or, res_of, true≢false, zip}
-use Rattle.farm_types.specs.Pass.{Served, allocated_reservation, giving_back, checks, expire, give, give_group, give_res, is_due, is_group, pass_over, serve, serve_all, claims_taken}
-use Rattle.farm_types.specs.Pick.{IsAmong, Claimed, claims, is_free, is_waiting, leads_claim, least, queue, waits}
-use Rattle.farm_types.specs.Sound.{IsSound, phase}
+use Rattle.std.proofs.Common.{◌&&◌, ◌+◌, ◌++◌, ◌==◌, ◌∙◌, ◌∷◌, ◌≡◌, ◌≤◌, ◌⊎◌, Bool, List, None, Option, Some, ap, arith, cond, false, inl, inr, length, map}
+use Rattle.std.proofs.Common.{not, refl, subst, sym, true, ℕ, []}
+use Rattle.farm_sound.proofs.Names.{AllByRecursion, AllByRecursion-weaker, BoardRow, false≢true, Farm, filter, find, fold, found_has, job_of, JobRow, JobState}
+use Rattle.farm_sound.proofs.Names.{list_all, members, option_map, option_map_or, res_of, ResRow, true≢false, Want, zip}
+use Rattle.farm_types.specs.Names.{allocated_reservation, checks, Claimed, claims, claims_taken, expire, give, give_group, give_res, giving_back, is_due}
+use Rattle.farm_types.specs.Names.{is_free, is_group, is_waiting, IsAmong, IsSound, leads_claim, least, pass_over, phase, queue, serve, serve_all, Served}
+use Rattle.farm_types.specs.Names.{waits}
 use Rattle.farm_sound.specs.Served.{IsServed, IsCollectorUnmet}
 use Rattle.farm_sound.proofs.Checks.{IsSound-checks, check_clock, checks_rest}
 use Rattle.farm_sound.proofs.Claims.{IsClaim, IsGroupClaim, IsOpen, IsResClaim, all_claims, leads}
@@ -16,7 +18,8 @@ use Rattle.farm_sound.proofs.Own.{itself}
 use Rattle.farm_sound.proofs.Queue.{among_queue}
 use Rattle.farm_sound.proofs.Reservations.{IsSound-expire}
 use Rattle.farm_sound.proofs.Short.{IsCollectorUnmet-give, IsCollectorUnmet-pass_over}
-use Rattle.farm_sound.proofs.Serve.{AreApartClaims, IsOpen-give, IsOver, IsSound-give, as_many, filter_given, give_clock, over, res_kept, taken_apart, taken_open}
+use Rattle.farm_sound.proofs.Serve.{AreApartClaims, IsOpen-give, IsOver, IsSound-give, as_many, filter_given, give_clock, over, res_kept, taken_apart}
+use Rattle.farm_sound.proofs.Serve.{taken_open}
 use Rattle.farm_sound.proofs.Tests.{same_number, waiting_from}
 use Rattle.farm_sound.proofs.Unmet.{IsUnmet, IsUnmet-give}
 use Rattle.farm_sound.proofs.Where.{AllByRecursion-both, either, find_map}

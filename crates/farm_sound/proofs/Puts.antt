@@ -1,13 +1,10 @@
 -- A change where a test passes is one put after another of the changed rows.
 use Rattle.std.proofs.Common.{◌==◌, ◌∙◌, ◌∷◌, ◌≡◌, Bool, List, Some, ap, arith, cond, false, map, refl, sym, true, ℕ, []}
-use Rattle.farm_sound.proofs.Names.{AllByRecursion, AllByRecursion-weaker, BoardRow, Equal, Greater, JobRow, Less, Ordering, ResRow, bytes_eq, bytes_eq-Decides, filter, find, nat_tests, ranked, tied_itself}
-use Rattle.std.specs.Cmp.{IsTotalOrder, nat_cmp_total}
-use Rattle.std.specs.Cmp.Lexicographic.{nat_list_cmp_total, nat_list_eq_equiv}
+use Rattle.farm_sound.proofs.Names.{AllByRecursion, AllByRecursion-weaker, BoardRow, bytes_eq, bytes_eq-Decides, Equal, filter, find, Greater, is_eq}
+use Rattle.farm_sound.proofs.Names.{is_eq-slice_cmp, IsTotalOrder, JobRow, Less, match_ordering, nat_cmp, nat_cmp_total, nat_list_cmp_total}
 use Rattle.std.specs.List.Sorted.{IsStrictlySortedBy}
-use Rattle.std.specs.Ordering.{is_eq, match_ordering, nat_cmp, ordering_reverse}
-use Rattle.std.proofs.lemmas.Map.Text.{is_eq-slice_cmp}
-use Rattle.farm_types.specs.Table.{board_cmp, change_where, job_cmp, put, put_all, res_cmp}
-use Rattle.farm_types.specs.Words.{text_cmp}
+use Rattle.farm_sound.proofs.Names.{nat_list_eq_equiv, nat_tests, Ordering, ordering_reverse, ranked, ResRow, tied_itself}
+use Rattle.farm_types.specs.Names.{board_cmp, change_where, job_cmp, put, put_all, res_cmp, text_cmp}
 use Rattle.farm_sound.proofs.Lists.{filter_all, none_pass}
 use Rattle.farm_sound.proofs.Where.{AllByRecursion-map}
 

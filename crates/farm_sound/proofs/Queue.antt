@@ -1,13 +1,13 @@
 -- The queue is the claims in their order, each once.
 use Rattle.std.proofs.Common.{◌++◌, ◌==◌, ◌∙◌, ◌∷◌, ◌≡◌, ◌⊎◌, IsNone, List, Some, ap, arith, inl, inr, map, refl, subst, sym, true, ℕ, []}
-use Rattle.farm_sound.proofs.Names.{AllByRecursion, AllByRecursion-put, AllByRecursion-weaker, Equal, Farm, Greater, JobRow, Less, Ordering, ResRow, filter, ranked, res_of, true≢false}
-use Rattle.std.specs.Cmp.{IsTotalOrder}
+use Rattle.farm_sound.proofs.Names.{AllByRecursion, AllByRecursion-put, AllByRecursion-weaker, Equal, Farm, filter, Greater, IsTotalOrder, JobRow, Less}
+use Rattle.farm_sound.proofs.Names.{match_ordering, nat_cmp, Ordering, ordering_reverse, ranked, res_of, ResRow, true≢false}
 use Rattle.std.specs.List.Sorted.{IsPermutation}
-use Rattle.std.specs.Ordering.{match_ordering, nat_cmp, ordering_reverse, ordering_then}
-use Rattle.std.proofs.lemmas.List.Sorted.{IsPermutation-append_right, IsPermutation-cons, IsPermutation-middle, IsPermutation-refl, IsPermutation-sym, IsPermutation-trans}
-use Rattle.farm_types.specs.Pick.{IsAmong, Claimed, claim_cmp, claims, group_claim, is_waiting, leads_claim, queue, res_claim}
-use Rattle.farm_types.specs.Sound.{EachTwo, IsJobRow, IsSteady}
-use Rattle.farm_types.specs.Table.{job_cmp, put, put_all, res_cmp}
+use Rattle.std.specs.Ordering.{ordering_then}
+use Rattle.std.proofs.lemmas.List.Sorted.{IsPermutation-append_right, IsPermutation-cons, IsPermutation-middle, IsPermutation-refl, IsPermutation-sym}
+use Rattle.std.proofs.lemmas.List.Sorted.{IsPermutation-trans}
+use Rattle.farm_types.specs.Names.{claim_cmp, Claimed, claims, EachTwo, group_claim, is_waiting, IsAmong, IsJobRow, IsSteady, job_cmp, leads_claim, put}
+use Rattle.farm_types.specs.Names.{put_all, queue, res_claim, res_cmp}
 use Rattle.farm_sound.proofs.Claims.{IsClaim, claim_total, leads}
 use Rattle.farm_sound.proofs.Lists.{among_append, among_filter, among_found, among_map, each_append, each_map, each_sorted, each_weaker, each_with, filter_all}
 use Rattle.farm_sound.proofs.Own.{own_res}

@@ -1,10 +1,9 @@
 -- How large the numbers of a pass's reply are, and that a pass leaves the kept replies.
 use Rattle.std.proofs.Common.{◌+◌, ◌++◌, ◌∙◌, ◌∷◌, ◌≡◌, ◌≤◌, Bool, List, None, Option, Some, ap, arith, cond, false, length, map, not, refl, sym, true, ℕ, []}
-use Rattle.farm_sound.proofs.Names.{BoardRow, Farm, JobState, filter, fold, length_put, members, option_map_or}
-use Rattle.std.proofs.lemmas.List.{length-append, length-map}
-use Rattle.farm_types.specs.Pass.{Served, checks, collect, give, is_due, is_group, may_collect, pass_over, serve, serve_all, claims_taken}
-use Rattle.farm_types.specs.Pick.{Claimed, claim_cmp, claims, group_claim, is_free, is_waiting, leads_claim, least, queue, res_claim}
-use Rattle.farm_types.specs.Table.{put, put_all}
+use Rattle.farm_sound.proofs.Names.{BoardRow, Farm, filter, fold, JobState, length-map, length_put, members, option_map_or}
+use Rattle.std.proofs.lemmas.List.{length-append}
+use Rattle.farm_types.specs.Names.{checks, claim_cmp, Claimed, claims, claims_taken, collect, give, group_claim, is_due, is_free, is_group, is_waiting}
+use Rattle.farm_types.specs.Names.{leads_claim, least, may_collect, pass_over, put, put_all, queue, res_claim, serve, serve_all, Served}
 use Rattle.farm_sound.proofs.Checks.{checks_rest}
 use Rattle.farm_sound.proofs.Claims.{claim_total}
 use Rattle.farm_sound.proofs.Collect.{collect_is, pairs_for}

@@ -1,12 +1,8 @@
 -- The commands on a reservation keep soundness, and so does their end.
 use Rattle.std.proofs.Common.{◌+◌, ◌<◌, ◌==◌, ◌∙◌, ◌≡◌, ◌≤◌, Bool, IsSome, IsTrue, List, None, Some, ap, arith, length, refl, subst, sym, ℕ}
-use Rattle.farm_sound.proofs.Names.{AllByRecursion, Farm, Holder, ResRow, ResState, State, false≢true, put_res}
-use Rattle.farm_types.specs.Limits.{most_reservations, numbers_end}
-use Rattle.farm_types.specs.Change.{in_state, new_res}
-use Rattle.farm_types.specs.Pass.{change_res, expire, freed_board, is_dead}
-use Rattle.farm_types.specs.Proper.{is_priority}
-use Rattle.farm_types.specs.Sound.{IsSound, hold, res_gives, res_hold}
-use Rattle.farm_types.specs.Words.{IsName, IsTags}
+use Rattle.farm_sound.proofs.Names.{AllByRecursion, false≢true, Farm, Holder, put_res, ResRow, ResState, State}
+use Rattle.farm_types.specs.Names.{change_res, expire, freed_board, hold, in_state, is_dead, is_priority, IsName, IsSound, IsTags, most_reservations, new_res}
+use Rattle.farm_types.specs.Names.{numbers_end, res_gives, res_hold}
 use Rattle.farm_sound.proofs.Add.{IsHeldByKeys-add_res, IsSteady-add_res}
 use Rattle.farm_sound.proofs.Changes.{IsSound-change_res}
 use Rattle.farm_sound.proofs.Held.{Leaves}

@@ -1,11 +1,8 @@
 -- Rows of jobs, reservations and boards in another state, and what they hold then.
 use Rattle.std.proofs.Common.{◌+◌, ◌↔◌, ◌≡◌, ◌≤◌, IfSome, IsSome, IsTrue, List, None, Option, Some, ap, arith, is_some, refl, subst, sym, true, ℕ, []}
 use Rattle.farm_sound.proofs.Names.{BoardRow, Farm, Health, Holder, JobRow, JobState, Outcome, ResRow, ResState, State, Want}
-use Rattle.farm_types.specs.Words.{IsName}
-use Rattle.farm_types.specs.Proper.{is_priority, is_want}
-use Rattle.farm_types.specs.Pass.{new_job}
-use Rattle.farm_types.specs.Change.{in_state}
-use Rattle.farm_types.specs.Sound.{Hold, IsBoardOf, IsBoardRow, IsJobRow, IsResRow, IsJobText, IsSubmission, hold, holds, job_gives, phase, res_gives, shown_hold, submission_of}
+use Rattle.farm_types.specs.Names.{Hold, hold, holds, in_state, is_priority, is_want, IsBoardOf, IsBoardRow, IsJobRow, IsJobText, IsName, IsResRow}
+use Rattle.farm_types.specs.Names.{IsSubmission, job_gives, new_job, phase, res_gives, shown_hold, submission_of}
 use Rattle.farm_types.proofs.WordLemmas.{no_text}
 use Rattle.farm_sound.proofs.Held.{IsLeft, Leaves}
 

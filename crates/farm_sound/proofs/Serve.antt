@@ -1,11 +1,12 @@
 -- The claims are served in turn.
-use Rattle.std.proofs.Common.{◌&&◌, ◌++◌, ◌==◌, ◌∙◌, ◌∷◌, ◌≡◌, ◌≤◌, Bool, List, Some, ap, arith, cond, false, inl, inr, length, map, nat_le, not, refl, subst, sym, true, ℕ, []}
-use Rattle.farm_sound.proofs.Names.{AllByRecursion, AllByRecursion-weaker, BoardRow, Equal, Farm, JobRow, JobState, Less, ResRow, Want, filter, find, fold, found_has, job_of, list_all, members, nat_tests, option_map, res_of, tied_itself, true≢false, zip}
+use Rattle.std.proofs.Common.{◌&&◌, ◌++◌, ◌==◌, ◌∙◌, ◌∷◌, ◌≡◌, ◌≤◌, Bool, List, Some, ap, arith, cond, false, inl, inr, length, map, nat_le, not, refl, subst}
+use Rattle.std.proofs.Common.{sym, true, ℕ, []}
+use Rattle.farm_sound.proofs.Names.{AllByRecursion, AllByRecursion-weaker, BoardRow, Equal, Farm, filter, find, fold, found_has, job_of}
 use Rattle.std.specs.List.Sorted.{IsStrictlySortedBy}
-use Rattle.std.proofs.lemmas.List.{length-map}
-use Rattle.farm_types.specs.Pass.{allocated_reservation, collect, give, give_group, give_member, give_res, is_group, may_collect, pass_over, claims_taken}
-use Rattle.farm_types.specs.Pick.{Claimed, claim_cmp, group_claim, is_free, is_waiting, least, queue, res_claim, waits}
-use Rattle.farm_types.specs.Sound.{EachTwo, IsSound}
+use Rattle.farm_sound.proofs.Names.{JobRow, JobState, length-map, Less, list_all, members, nat_tests, option_map, res_of, ResRow, tied_itself, true≢false, Want}
+use Rattle.farm_sound.proofs.Names.{zip}
+use Rattle.farm_types.specs.Names.{allocated_reservation, claim_cmp, Claimed, claims_taken, collect, EachTwo, give, give_group, give_member, give_res}
+use Rattle.farm_types.specs.Names.{group_claim, is_free, is_group, is_waiting, IsSound, least, may_collect, pass_over, queue, res_claim, waits}
 use Rattle.farm_sound.proofs.Claims.{IsClaim, IsOpen, IsOpenGroup, IsResClaim, claim_total, leads, open_of_claim, queue_claims, queue_sorted}
 use Rattle.farm_sound.proofs.Collect.{IsSound-collect, IsUnmet-collect, claim_was, collect_is, open_after, pairs_for}
 use Rattle.farm_sound.proofs.Free.{free_boards}

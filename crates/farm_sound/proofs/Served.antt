@@ -1,12 +1,7 @@
 -- After a call that makes a pass no claim is met by free boards, and the group that collects not by its own with them.
 use Rattle.std.proofs.Common.{◌+◌, ◌∙◌, ◌≡◌, List, None, Option, Some, refl, subst, sym, ℕ}
-use Rattle.farm_sound.proofs.Names.{Farm, KeptRow, Reply, option_map_or, put_kept}
-use Rattle.farm_types.specs.Change.{act, change, keep, farm_at_call}
-use Rattle.farm_types.specs.Machine.{Changed, Denied, Repeated, answer, repeated_reply, step}
-use Rattle.farm_types.specs.Refuse.{kind_of, refusal}
-use Rattle.farm_types.specs.Sound.{IsSound}
-use Rattle.farm_types.specs.declared.calls.Call.{Call}
-use Rattle.farm_types.specs.declared.calls.Cmd.{Cmd}
+use Rattle.farm_sound.proofs.Names.{Call, Cmd, Farm, KeptRow, option_map_or, put_kept, Reply}
+use Rattle.farm_types.specs.Names.{act, answer, change, Changed, Denied, farm_at_call, IsSound, keep, kind_of, refusal, Repeated, repeated_reply, step}
 use Rattle.farm_sound.specs.Served.{IsServed, IsCollectorUnmet}
 use Rattle.farm_sound.proofs.Answered.{answers_changed, answers_denied, answers_repeated}
 use Rattle.farm_sound.proofs.Step.{IsSound-moved_to}

@@ -1,18 +1,20 @@
 -- The group that collects isn't met by the free boards and its own together, from when it began to the end of the pass.
-use Rattle.std.proofs.Common.{◌&&◌, ◌==◌, ◌∙◌, ◌∷◌, ◌≡◌, ◌≤◌, Bool, List, None, Option, Some, ap, cond, false, inl, inr, length, map, refl, subst, sym, true, zip, ℕ, []}
-use Rattle.farm_sound.proofs.Names.{AllByRecursion, AllByRecursion-weaker, BoardRow, Farm, Holder, JobRow, JobState, State, TypeRow, bytes_eq, bytes_eq-Decides, filter, fold, found_has, job_of, members, option_map, option_map_or}
+use Rattle.std.proofs.Common.{◌&&◌, ◌==◌, ◌∙◌, ◌∷◌, ◌≡◌, ◌≤◌, Bool, List, None, Option, Some, ap, cond, false, inl, inr, length, map, refl, subst, sym, true}
+use Rattle.std.proofs.Common.{zip, ℕ, []}
+use Rattle.farm_sound.proofs.Names.{AllByRecursion, AllByRecursion-weaker, BoardRow, bytes_eq, bytes_eq-Decides, Farm, filter, fold, found_has, Holder}
+use Rattle.farm_sound.proofs.Names.{job_of, JobRow, JobState, members, option_map, option_map_or, State, TypeRow}
 use Rattle.std.specs.List.Sorted.{IsStrictlySortedBy}
-use Rattle.farm_types.specs.Codes.{same_job_state}
-use Rattle.farm_types.specs.Pass.{giving_back, collect, collect_member, first_free, give, give_group, give_member, give_res, held_board, freed_board, is_job_so, may_collect, pass_over}
-use Rattle.farm_types.specs.Pick.{IsAmong, Claimed, is_free, is_nobody, leads_claim, least}
-use Rattle.farm_types.specs.Sound.{IsHeldBy, IsHeldByKeys, IsSound, IsSteady, hold, job_gives, job_hold, shown_hold}
-use Rattle.farm_types.specs.Table.{change_where, job_cmp}
+use Rattle.farm_types.specs.Names.{change_where, Claimed, collect, collect_member, first_free, freed_board, give, give_group, give_member, give_res}
+use Rattle.farm_types.specs.Names.{giving_back, held_board, hold, is_free, is_job_so, is_nobody, IsAmong, IsHeldBy, IsHeldByKeys, IsSound, IsSteady, job_cmp}
+use Rattle.farm_types.specs.Names.{job_gives, job_hold, leads_claim, least, may_collect, pass_over, same_job_state, shown_hold}
 use Rattle.farm_sound.specs.Served.{IsCollectorUnmet}
 use Rattle.farm_sound.proofs.Claims.{IsOpen, IsOpenGroup}
-use Rattle.farm_sound.proofs.Collect.{Part, collect_shrinks, first_is_free, job_after, map_same, members_after, pairs_for, parts as parts_collected, ready as ready_collected, rest_ready}
+use Rattle.farm_sound.proofs.Collect.{Part, collect_shrinks, first_is_free, job_after, map_same, members_after, pairs_for, parts as parts_collected}
+use Rattle.farm_sound.proofs.Collect.{ready as ready_collected, rest_ready}
 use Rattle.farm_sound.proofs.Free.{free_boards}
 use Rattle.farm_sound.proofs.Give.{IsFreeBoard, IsHeldByKeys-give_member, IsSteady-give_member}
-use Rattle.farm_sound.proofs.Group.{Ready, as_scheduling, collector_kept, filter_sorted, given, given_group, given_number, given_same, jobs_given, pairs_ready, parts}
+use Rattle.farm_sound.proofs.Group.{Ready, as_scheduling, collector_kept, filter_sorted, given, given_group, given_number, given_same, jobs_given, pairs_ready}
+use Rattle.farm_sound.proofs.Group.{parts}
 use Rattle.farm_sound.proofs.Jobs.{IsSound-back}
 use Rattle.farm_sound.proofs.Lists.{filter_back}
 use Rattle.farm_sound.proofs.Own.{only_board}

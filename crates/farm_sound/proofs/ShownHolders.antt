@@ -1,8 +1,9 @@
 -- Who holds which board: row by row, and by keys.
 use Rattle.std.proofs.Common.{◌==◌, ◌∙◌, ◌≡◌, IfSome, IsSome, IsSomeAnd, List, None, Option, Some, ap, refl, subst, sym, ℕ}
-use Rattle.farm_sound.proofs.Names.{AllByRecursion, AllByRecursion-weaker, BoardRow, Farm, Holder, State, board_of, false≢true, found_has, found_passes, job_of, option_map_or, res_of}
-use Rattle.farm_types.specs.Pass.{held_board}
-use Rattle.farm_types.specs.Sound.{Hold, IsHeldBy, IsHeldByKeys, IsJobRow, IsResRow, hold, hold_of, job_gives, job_hold, res_gives, res_hold, shown_hold}
+use Rattle.farm_sound.proofs.Names.{AllByRecursion, AllByRecursion-weaker, board_of, BoardRow, false≢true, Farm, found_has, found_passes, Holder, job_of}
+use Rattle.farm_sound.proofs.Names.{option_map_or, res_of, State}
+use Rattle.farm_types.specs.Names.{held_board, Hold, hold, hold_of, IsHeldBy, IsHeldByKeys, IsJobRow, IsResRow, job_gives, job_hold, res_gives, res_hold}
+use Rattle.farm_types.specs.Names.{shown_hold}
 use Rattle.farm_sound.specs.ByRows.{IsNamedBy, IsShown, IsShownOfJob, IsShownOfRes}
 use Rattle.farm_sound.proofs.Held.{row_of_job, row_of_res}
 use Rattle.farm_sound.proofs.Tests.{same_number}

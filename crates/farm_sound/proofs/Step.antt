@@ -1,15 +1,10 @@
 -- Every command keeps a farm sound, and so does every run.
-use Rattle.std.proofs.Common.{◌&&◌, ◌+◌, ◌<◌, ◌||◌, ◌∷◌, ◌≡◌, ◌≤◌, List, None, Option, Some, arith, false, is_some, length, nat_le, not, refl, subst, sym, true, ℕ, []}
-use Rattle.farm_sound.proofs.Names.{Farm, Reply, nat_tests, option_map_or, put_kept}
-use Rattle.farm_types.specs.Limits.{last_kind, last_moment, longest_key, longest_name, most_commands, most_replies}
-use Rattle.farm_types.specs.Change.{Done, act, change, keep, farm_at_call}
-use Rattle.farm_types.specs.Machine.{repeated_reply, run, step}
-use Rattle.farm_types.specs.Proper.{is_proper_cmd}
-use Rattle.farm_types.specs.Refuse.{early_refusal, is_full_for, is_late, is_reused, kind_of, may_give, moment, own_refusal, refusal}
-use Rattle.farm_types.specs.Sound.{IsSound}
-use Rattle.farm_types.specs.Words.{is_word}
-use Rattle.farm_types.specs.declared.calls.Call.{Call}
-use Rattle.farm_types.specs.declared.calls.Cmd.{Cmd}
+use Rattle.std.proofs.Common.{◌&&◌, ◌+◌, ◌<◌, ◌||◌, ◌∷◌, ◌≡◌, ◌≤◌, List, None, Option, Some, arith, false, is_some, length, nat_le, not, refl, subst, sym, true}
+use Rattle.std.proofs.Common.{ℕ, []}
+use Rattle.farm_sound.proofs.Names.{Call, Cmd, Farm, nat_tests, option_map_or, put_kept, Reply}
+use Rattle.farm_types.specs.Names.{act, change, Done, early_refusal, farm_at_call, is_full_for, is_late, is_proper_cmd, is_reused, is_word, IsSound, keep}
+use Rattle.farm_types.specs.Names.{kind_of, last_kind, last_moment, longest_key, longest_name, may_give, moment, most_commands, most_replies, own_refusal}
+use Rattle.farm_types.specs.Names.{refusal, repeated_reply, run, step}
 use Rattle.farm_sound.proofs.Accepted.{Acted, IsAccepted}
 use Rattle.farm_sound.proofs.AcceptedCommands.{acted}
 use Rattle.farm_sound.proofs.Answered.{answers_changed, answers_denied, answers_repeated, count_has_room, unrefused}

@@ -1,8 +1,9 @@
 -- Groups: each member in the phase of the one before it, and all members in one phase.
-use Rattle.std.proofs.Common.{◌+◌, ◌-◌, ◌==◌, ◌∙◌, ◌≡◌, ◌≢◌, ◌≤◌, Bool, IsSomeAnd, List, None, Option, Some, ap, arith, false, length, refl, subst, suc, sym, true, zero, ℕ}
-use Rattle.farm_sound.proofs.Names.{AllByRecursion, AllByRecursion-weaker, BoardRow, Farm, JobRow, bytes_eq, bytes_eq-Decides, filter, find, found_has, found_passes, job_of, nat_tests}
-use Rattle.farm_types.specs.Limits.{most_boards_of_type}
-use Rattle.farm_types.specs.Sound.{Follows, IsJobRow, AreGroupsInPhase, phase}
+use Rattle.std.proofs.Common.{◌+◌, ◌-◌, ◌==◌, ◌∙◌, ◌≡◌, ◌≢◌, ◌≤◌, Bool, IsSomeAnd, List, None, Option, Some, ap, arith, false, length, refl, subst, suc, sym}
+use Rattle.std.proofs.Common.{true, zero, ℕ}
+use Rattle.farm_sound.proofs.Names.{AllByRecursion, AllByRecursion-weaker, BoardRow, bytes_eq, bytes_eq-Decides, Farm, filter, find, found_has, found_passes}
+use Rattle.farm_sound.proofs.Names.{job_of, JobRow, nat_tests}
+use Rattle.farm_types.specs.Names.{AreGroupsInPhase, Follows, IsJobRow, most_boards_of_type, phase}
 use Rattle.farm_sound.specs.ByRows.{IsInStep, IsOfFew}
 use Rattle.farm_sound.proofs.Lists.{all_fail, none_pass}
 use Rattle.farm_sound.proofs.Tests.{same_number}

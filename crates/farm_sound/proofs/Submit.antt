@@ -1,13 +1,10 @@
 -- A group is submitted, member by member.
-use Rattle.std.proofs.Common.{◌+◌, ◌-◌, ◌<◌, ◌∙◌, ◌∷◌, ◌≡◌, ◌≢◌, ◌≤◌, IfSome, IsNone, IsSome, IsSomeAnd, IsTrue, List, Option, Some, ap, arith, cond, false, length, refl, subst, sym, ℕ, []}
-use Rattle.farm_sound.proofs.Names.{AllByRecursion, AllByRecursion-put, AllByRecursion-weaker, Farm, JobRow, JobState, Want, false≢true, job_of, length_put, put_jobs, type_of}
-use Rattle.farm_types.specs.Limits.{longest_text, most_jobs, numbers_end}
-use Rattle.farm_types.specs.Change.{new_members}
-use Rattle.farm_types.specs.Pass.{new_job}
-use Rattle.farm_types.specs.Proper.{is_priority, is_want}
-use Rattle.farm_types.specs.Sound.{IsJobRow, IsJobText, IsSound, phase}
-use Rattle.farm_types.specs.Table.{job_cmp, put, put_all}
-use Rattle.farm_types.specs.Words.{IsName, IsText}
+use Rattle.std.proofs.Common.{◌+◌, ◌-◌, ◌<◌, ◌∙◌, ◌∷◌, ◌≡◌, ◌≢◌, ◌≤◌, IfSome, IsNone, IsSome, IsSomeAnd, IsTrue, List, Option, Some, ap, arith, cond, false}
+use Rattle.std.proofs.Common.{length, refl, subst, sym, ℕ, []}
+use Rattle.farm_sound.proofs.Names.{AllByRecursion, AllByRecursion-put, AllByRecursion-weaker, false≢true, Farm, job_of, JobRow, JobState, length_put, put_jobs}
+use Rattle.farm_sound.proofs.Names.{type_of, Want}
+use Rattle.farm_types.specs.Names.{is_priority, is_want, IsJobRow, IsJobText, IsName, IsSound, IsText, job_cmp, longest_text, most_jobs, new_job, new_members}
+use Rattle.farm_types.specs.Names.{numbers_end, phase, put, put_all}
 use Rattle.farm_sound.proofs.Add.{IsHeldByKeys-add_job, IsSteady-add_job, add_job, job_of-add, job_total}
 use Rattle.farm_sound.proofs.Collecting.{IsCollecting-add}
 use Rattle.farm_sound.proofs.Own.{differs_more, fresh_res, itself}

@@ -1,9 +1,7 @@
 -- What the tests of numbers and states say.
 use Rattle.std.proofs.Common.{◌&&◌, ◌==◌, ◌||◌, ◌≡◌, Bool, arith, false, not, refl, subst, sym, true, ℕ}
-use Rattle.farm_sound.proofs.Names.{Health, Holder, JobRow, JobState, ResState, false≢true, nat_tests}
-use Rattle.farm_types.specs.Codes.{same_health, same_job_state, same_res_state}
-use Rattle.farm_types.specs.Pick.{is_nobody, waits}
-use Rattle.farm_types.specs.Sound.{phase}
+use Rattle.farm_sound.proofs.Names.{false≢true, Health, Holder, JobRow, JobState, nat_tests, ResState}
+use Rattle.farm_types.specs.Names.{is_nobody, phase, same_health, same_job_state, same_res_state, waits}
 
 pub both : (a b : Bool) → (a && b) ≡ true → (a ≡ true) × (b ≡ true)
 both true b is = (refl, is)

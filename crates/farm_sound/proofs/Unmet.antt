@@ -1,11 +1,10 @@
 -- A claim that no free boards meet stays so while others are served: free boards only become fewer.
 use Rattle.std.proofs.Common.{◌&&◌, ◌∙◌, ◌∷◌, ◌≡◌, Bool, List, None, Option, Some, cond, false, inl, inr, refl, subst, sym, true, ℕ, []}
-use Rattle.farm_sound.proofs.Names.{AllByRecursion-weaker, BoardRow, Farm, Holder, JobRow, JobState, State, TypeRow, Want, bytes_eq, false≢true, fold, list_all, members, zip}
-use Rattle.std.specs.Cmp.Lexicographic.{pointwise}
+use Rattle.farm_sound.proofs.Names.{AllByRecursion-weaker, BoardRow, bytes_eq, false≢true, Farm, fold, Holder, JobRow, JobState, list_all}
 use Rattle.std.specs.List.Sorted.{IsStrictlySortedBy}
-use Rattle.farm_types.specs.Pass.{give, give_group, give_member, give_res, held_board}
-use Rattle.farm_types.specs.Pick.{IsAmong, Claimed, are_apart, fits, is_free, is_nobody, least, serves}
-use Rattle.farm_types.specs.Table.{board_cmp, change_where}
+use Rattle.farm_sound.proofs.Names.{members, pointwise, State, TypeRow, Want, zip}
+use Rattle.farm_types.specs.Names.{are_apart, board_cmp, change_where, Claimed, fits, give, give_group, give_member, give_res, held_board, is_free, is_nobody}
+use Rattle.farm_types.specs.Names.{IsAmong, least, serves}
 use Rattle.farm_sound.proofs.Least.{IsLeast-least, none_meets}
 use Rattle.farm_sound.proofs.Lists.{all_tested}
 use Rattle.farm_sound.proofs.Tests.{both}

@@ -1,9 +1,8 @@
 -- Rows that are changed where they pass a test.
 use Rattle.std.proofs.Common.{◌∙◌, ◌∷◌, ◌≡◌, Bool, List, None, Option, Some, ap, cond, false, length, map, refl, true, []}
-use Rattle.farm_sound.proofs.Names.{AllByRecursion, Less, Ordering, filter, find, found_passes, option_map}
+use Rattle.farm_sound.proofs.Names.{AllByRecursion, filter, find, found_passes, length-map, Less, option_map, Ordering}
 use Rattle.std.specs.List.Sorted.{IsStrictlySortedBy}
-use Rattle.std.proofs.lemmas.List.{length-map}
-use Rattle.farm_types.specs.Table.{change_where}
+use Rattle.farm_types.specs.Names.{change_where}
 
 -- each row is the changed one or itself
 pub by_cases : {R : Type 0} (P : R → Type 0) (v : Bool) (x y : R) → (v ≡ true → P x) → (v ≡ false → P y) → P (cond v x y)

@@ -1,9 +1,7 @@
 -- No group is half started, after jobs have changed.
 use Rattle.std.proofs.Common.{◌∙◌, ◌≡◌, Bool, cond, map, refl, sym, true}
-use Rattle.farm_sound.proofs.Names.{AllByRecursion, AllByRecursion-put, AllByRecursion-weaker, Farm, JobRow, true≢false}
-use Rattle.std.specs.Cmp.{nat_cmp_total, on_total}
-use Rattle.farm_types.specs.Sound.{AreGroupsInPhase, phase}
-use Rattle.farm_types.specs.Table.{job_cmp, put}
+use Rattle.farm_sound.proofs.Names.{AllByRecursion, AllByRecursion-put, AllByRecursion-weaker, Farm, JobRow, nat_cmp_total, on_total, true≢false}
+use Rattle.farm_types.specs.Names.{AreGroupsInPhase, job_cmp, phase, put}
 use Rattle.farm_sound.proofs.Where.{AllByRecursion-both, AllByRecursion-map, by_cases}
 
 -- two jobs of one group are in one phase

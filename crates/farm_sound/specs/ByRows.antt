@@ -1,20 +1,17 @@
 -- What a sound farm is, row by row: each line speaks of one row and of the rows that it looks up.
-use Rattle.std.specs.Prelude.{◌≡◌, ◌≢◌, ◌≤◌, ◌<◌, ◌+◌, ◌-◌, ◌↔◌, ℕ, true, List, Option, Some, None}
-use Rattle.std.specs.Prelude.{is_some, length, IsTrue, IsSome, IsNone, IfSome, IsSomeAnd}
+use Rattle.std.specs.Prelude.{◌≡◌, ◌≢◌, ◌≤◌, ◌<◌, ◌+◌, ◌-◌, ◌↔◌, ℕ, true, List, Option, Some, None, is_some, length, IsTrue, IsSome, IsNone, IfSome, IsSomeAnd}
 use Rattle.std.specs.List.{filter, AllByRecursion}
 use Rattle.std.specs.List.Sorted.{IsStrictlySortedBy}
 use Rattle.std.specs.Str.{bytes_eq}
-use Rattle.farm_types.specs.Limits.{last_moment, most_boards_of_type, most_commands, most_wants, numbers_end}
-use Rattle.farm_types.specs.Table.{type_cmp, board_cmp, job_cmp, res_cmp, kept_cmp}
-use Rattle.farm_types.specs.Farm.{Farm, type_of, board_of, job_of, res_of}
-use Rattle.farm_types.specs.Sound.{IsBoardOf, IsCollecting, IsCheck, Follows, IsSubmission, IsWithin, job_gives, res_gives, sizes_of, submission_of}
-use Rattle.farm_types.specs.Sound.{phase, IsTypeRow, IsBoardRow, IsJobRow, IsResRow, IsKeptRow}
-use Rattle.farm_types.specs.declared.rows.Holder.{Holder}
-use Rattle.farm_types.specs.declared.rows.State.{State}
-use Rattle.farm_types.specs.declared.rows.JobState.{JobState}
+use Rattle.farm_types.specs.Names.{board_cmp, board_of, Farm, Follows, IsBoardOf, IsBoardRow, IsCheck, IsCollecting, IsJobRow, IsKeptRow, IsResRow}
+use Rattle.farm_types.specs.Names.{IsSubmission, IsTypeRow, IsWithin, job_cmp, job_gives, job_of, kept_cmp, last_moment, most_boards_of_type, most_commands}
+use Rattle.farm_types.specs.Names.{most_wants, numbers_end, phase, res_cmp, res_gives, res_of, sizes_of, submission_of, type_cmp, type_of}
 use Rattle.farm_types.specs.declared.rows.BoardRow.{BoardRow}
+use Rattle.farm_types.specs.declared.rows.Holder.{Holder}
 use Rattle.farm_types.specs.declared.rows.JobRow.{JobRow}
+use Rattle.farm_types.specs.declared.rows.JobState.{JobState}
 use Rattle.farm_types.specs.declared.rows.ResRow.{ResRow}
+use Rattle.farm_types.specs.declared.rows.State.{State}
 
 -- ---- the lines on a job, in four parts
 

@@ -1,9 +1,7 @@
 -- A farm in which nothing is left to serve.
 use Rattle.std.specs.Prelude.{◌≡◌, ◌≤◌, None, map}
 use Rattle.std.specs.List.{AllByRecursion}
-use Rattle.farm_types.specs.Farm.{Farm, members}
-use Rattle.farm_types.specs.Pass.{giving_back}
-use Rattle.farm_types.specs.Pick.{claims, least, is_free}
+use Rattle.farm_types.specs.Names.{claims, Farm, giving_back, is_free, least, members}
 
 -- no claim is met by free boards
 abbrev pub IsServed : Farm → Type 0

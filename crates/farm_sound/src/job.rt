@@ -135,20 +135,13 @@ fn size_of(jobs: &[JobRow], group: u64) -> usize
     jobs.iter().filter(|row| row.group == group).count()
 }
 
-/// Whether a job is of the collector's group, if it is Scheduling.
-fn may_schedule(row: &JobRow, collector: u64) -> bool
-    ensures { IsTrue result ↔ (row.now.state ≡ JobState.Scheduling
-        → (1 ≤ collector) × (row.now.group ≡ collector)) }
-{
-    row.state != JobState::Scheduling || 1 <= collector && row.group == collector
-}
-
 /// Whether each Scheduling job is of the collector's group.
 fn only_collector(jobs: &[JobRow], collector: u64) -> bool
     ensures { IsTrue result ↔ AllByRecursion (λ j. j.state ≡ JobState.Scheduling
         → (1 ≤ collector) × (j.group ≡ collector)) jobs.now }
 {
-    jobs.iter().all(|row| may_schedule(row, collector))
+    jobs.iter().all(|row| row.state != JobState::Scheduling
+        || 1 <= collector && row.group == collector)
 }
 
 /// Whether each member of the group waits for boards.

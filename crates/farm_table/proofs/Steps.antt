@@ -1,5 +1,6 @@
 -- What a table keeps at each step, and that the log leads on.
-use Rattle.std.proofs.Common.{◌≡◌, ℕ, zero, suc, ◌+◌, add-one, ◌<◌, List, [], ◌∷◌, ◌++◌, length, get_or, set, Bool, true, false, cond, Result, Ok, Err, Some, None, sym, ap, ◌∙◌, refl, subst, arith}
+use Rattle.std.proofs.Common.{◌≡◌, ℕ, zero, suc, ◌+◌, add-one, ◌<◌, List, [], ◌∷◌, ◌++◌, length, get_or, set, Bool, true, false, cond, Result, Ok, Err, Some}
+use Rattle.std.proofs.Common.{None, sym, ap, ◌∙◌, refl, subst, arith}
 use Rattle.std.specs.List.{AllByRecursion, find}
 use Rattle.std.specs.List.Sorted.{IsBinarySearchResult, IsSearchInRange, IsStrictlySortedBy}
 use Rattle.std.specs.Cmp.{IsTotalOrder}
@@ -8,7 +9,7 @@ use Rattle.std.specs.declared.cmp.Ordering.TheVariants.{Less, Equal, Greater}
 use Rattle.std.specs.declared.cmp.Ordering.{Ordering}
 use Rattle.std.proofs.lemmas.Cmp.{tied_itself, alike_right}
 use mathlib.Core.Bool.{true≢false}
-use Rattle.farm_types.specs.Table.{put, put_all, change_where}
+use Rattle.farm_types.specs.Names.{change_where, put, put_all}
 use Rattle.farm_types.proofs.Put.{AllByRecursion-put, AllByRecursion-weaker, put_sorted, put_at, put_searched, found_passes}
 use Rattle.farm_types.proofs.Searched.{found_at}
 use Rattle.farm_table.proofs.Upto.{upto_next, upto_more, upto_same, at_any}

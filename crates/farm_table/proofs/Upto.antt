@@ -1,6 +1,6 @@
 -- Rows that are changed one after another from the first on.
 use Rattle.std.proofs.Common.{◌≡◌, ℕ, zero, suc, ◌<◌, ◌≤◌, List, [], ◌∷◌, length, set, get_or, Bool, true, false, cond, refl, sym, ap, arith}
-use Rattle.farm_types.specs.Table.{change_where}
+use Rattle.farm_types.specs.Names.{change_where}
 use Rattle.farm_table.specs.Tabled.{upto}
 
 -- an element is the same by any default

@@ -1,7 +1,6 @@
 -- What is true of each job in a table: its numbers are small, and the members of a group are near.
 use Rattle.std.specs.Prelude.{◌≤◌, ◌<◌, ◌+◌}
-use Rattle.farm_types.specs.Limits.{most_wants}
-use Rattle.farm_types.specs.Small.{IsSmallJob}
+use Rattle.farm_types.specs.Names.{IsSmallJob, most_wants}
 use Rattle.farm_types.specs.declared.rows.JobRow.{JobRow}
 
 -- a member's number is one of the four from its group's on

@@ -1,11 +1,10 @@
 -- What a table is to those that use it: its rows in order of their keys, and the log of the rows
 -- that changed, each as it then was.
-use Rattle.std.specs.Prelude.{◌≡◌, ◌<◌, ℕ, zero, suc, Bool, List, [], ◌∷◌, Option, Some, None}
-use Rattle.std.specs.Prelude.{Result, Ok, Err, length, get_or, set, MatchResult, if◌then◌else◌}
+use Rattle.std.specs.Prelude.{◌≡◌, ◌<◌, ℕ, zero, suc, Bool, List, [], ◌∷◌, Option, Some, None, Result, Ok, Err, length, get_or, set, MatchResult, if◌then◌else◌}
 use Rattle.std.specs.List.{AllByRecursion, insert}
 use Rattle.std.specs.List.Sorted.{IsStrictlySortedBy}
 use Rattle.std.specs.declared.cmp.Ordering.{Ordering}
-use Rattle.farm_types.specs.Table.{put_all}
+use Rattle.farm_types.specs.Names.{put_all}
 
 pub record Tabled (R : Type 0) : Type 0 where
   pub rows : List R

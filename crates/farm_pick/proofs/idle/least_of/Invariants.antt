@@ -1,5 +1,5 @@
 use Rattle.std.proofs.Common.{◌≡◌, length, take}
-use Rattle.farm_types.specs.Pick.{is_free}
+use Rattle.farm_types.specs.Names.{is_free}
 use Rattle.farm_pick.proofs.Answering.{AreShortlists, candidate_by, lent}
 use Rattle.farm_pick.proofs.idle.least_of.Given as goal
 

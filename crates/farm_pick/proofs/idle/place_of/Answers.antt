@@ -1,10 +1,7 @@
 use Rattle.std.proofs.Common.{◌∙◌, sym, ap, arith, rules, Ok, Err}
-use Rattle.std.proofs.lemmas.Fn.{always_returns_same}
-use Rattle.std.specs.Cmp.Lexicographic.{nat_list_cmp_total}
-use Rattle.std.specs.Str.{bytes_eq}
-use Rattle.farm_types.specs.declared.rows.BoardRow.{BoardRow}
-use Rattle.farm_types.specs.Words.{text_cmp}
-use Rattle.farm_types.proofs.Searched.{found_at, same_names}
+use Rattle.farm_pick.proofs.Names.{always_returns_same, BoardRow, bytes_eq, nat_list_cmp_total, same_names}
+use Rattle.farm_types.specs.Names.{text_cmp}
+use Rattle.farm_types.proofs.Searched.{found_at}
 use Rattle.farm_pick.proofs.Listed.{named_found, named_near}
 use Rattle.farm_pick.proofs.idle.place_of.Goals as goal
 

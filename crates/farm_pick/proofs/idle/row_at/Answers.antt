@@ -1,15 +1,10 @@
 use Rattle.std.proofs.Common.{◌≡◌, ◌∙◌, ◌<◌, List, Ok, ap, get_or, length, subst, sym, rules, true, ℕ}
-use Rattle.std.proofs.lemmas.Fn.{always_returns_same}
-use Rattle.std.specs.Cmp.Lexicographic.{nat_list_cmp_total}
+use Rattle.farm_pick.proofs.Names.{always_returns_same, bytes_eq, bytes_eq-Decides, get_or_default, nat_list_cmp_total, same_names}
 use Rattle.std.specs.List.Sorted.{IsSearchInRange}
-use Rattle.std.specs.Str.{bytes_eq}
 use Rattle.std.specs.VecDeque.{deque_len}
 use Rattle.std.specs.declared.cmp.Ordering.TheVariants.{Equal}
 use Rattle.std.proofs.lemmas.Cmp.{tied_itself}
-use Rattle.std.proofs.lemmas.List.{get_or_default}
-use Rattle.std.proofs.lemmas.Slice.Eq.{bytes_eq-Decides}
-use Rattle.farm_types.specs.Words.{text_cmp}
-use Rattle.farm_types.proofs.Searched.{same_names}
+use Rattle.farm_types.specs.Names.{text_cmp}
 use Rattle.farm_pick.proofs.Placed.{placed}
 use Rattle.farm_pick.specs.declared.idle.IdleRow.{IdleRow}
 use Rattle.farm_pick.proofs.idle.row_at.Goals as goal

@@ -1,5 +1,5 @@
 use Rattle.std.proofs.Common.{arith}
-use Rattle.farm_types.specs.Pick.{is_free}
+use Rattle.farm_types.specs.Names.{is_free}
 use Rattle.farm_pick.proofs.Listed.{listed_full, listed_past, listed_whole, listed_with}
 use Rattle.farm_pick.proofs.idle.shortlist.Goals as goal
 use Rattle.farm_pick.proofs.idle.shortlist.Goals.{in-Some, in_default}

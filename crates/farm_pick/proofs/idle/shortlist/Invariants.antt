@@ -1,4 +1,4 @@
-use Rattle.farm_types.specs.Pick.{is_free}
+use Rattle.farm_types.specs.Names.{is_free}
 use Rattle.farm_pick.proofs.Listed.{IsListed}
 use Rattle.farm_pick.proofs.idle.shortlist.Given as goal
 

@@ -1,5 +1,5 @@
 use Rattle.std.proofs.Common.{◌∙◌}
-use Rattle.std.specs.Ordering.{is_eq}
+use Rattle.farm_pick.proofs.Names.{is_eq}
 use Rattle.farm_pick.specs.Several.{has_spot, spots_cmp}
 use Rattle.farm_pick.proofs.Spots.{forgotten}
 use Rattle.farm_pick.proofs.index.forget.Goals as goal

@@ -1,5 +1,5 @@
 use Rattle.std.proofs.Common.{rules}
-use Rattle.farm_types.specs.Pick.{shown_cmp}
+use Rattle.farm_types.specs.Names.{shown_cmp}
 use Rattle.farm_pick.proofs.Ordered.{sorted_from_sort_by}
 use Rattle.farm_pick.proofs.Queued.{shown_total}
 use Rattle.farm_pick.proofs.index.in_order.Goals as goal

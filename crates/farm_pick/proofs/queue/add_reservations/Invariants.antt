@@ -1,5 +1,5 @@
 use Rattle.std.proofs.Common.{◌≡◌, ◌++◌, map, filter, take}
-use Rattle.farm_types.specs.Pick.{is_waiting}
+use Rattle.farm_types.specs.Names.{is_waiting}
 use Rattle.farm_pick.specs.Queue.{shown_reservation}
 use Rattle.farm_pick.proofs.queue.add_reservations.Given as goal
 

@@ -1,7 +1,6 @@
 use Rattle.std.proofs.Common.{rules}
-use Rattle.std.specs.List.Sorted.{IsSortedBy}
-use Rattle.std.specs.Ordering.{is_lt}
-use Rattle.farm_types.specs.Pick.{shown_cmp}
+use Rattle.farm_pick.proofs.Names.{is_lt, IsSortedBy}
+use Rattle.farm_types.specs.Names.{shown_cmp}
 use Rattle.farm_pick.proofs.Ordered.{sorted_from_sort_by}
 use Rattle.farm_pick.proofs.Queued.{queue_found, shown_total}
 use Rattle.farm_pick.proofs.queue.queue_of.Goals as goal

@@ -1,6 +1,6 @@
 use Rattle.std.proofs.Common.{arith, ◌<◌, ◌∙◌, length, add-one, None}
-use Rattle.std.proofs.lemmas.List.{length-set}
-use Rattle.farm_pick.specs.Test.{passes}
+use Rattle.farm_pick.proofs.Names.{length-set}
+use Rattle.farm_pick.specs.Choice.{passes}
 use Rattle.farm_pick.proofs.Answering.{candidate_by, lent, one_more, shortlists_all, all_ascend, none_serves, is_found, is_least}
 use Rattle.farm_pick.proofs.search.least_of.Goals as goal
 

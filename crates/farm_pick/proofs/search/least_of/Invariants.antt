@@ -1,5 +1,5 @@
 use Rattle.std.proofs.Common.{◌≡◌, length, take}
-use Rattle.farm_pick.specs.Test.{passes}
+use Rattle.farm_pick.specs.Choice.{passes}
 use Rattle.farm_pick.proofs.Answering.{AreShortlists, candidate_by, lent}
 use Rattle.farm_pick.proofs.search.least_of.Given as goal
 

@@ -1,5 +1,5 @@
 use Rattle.std.proofs.Common.{arith, ◌<◌, ◌∙◌, length, sym}
-use Rattle.farm_pick.specs.Test.{passes}
+use Rattle.farm_pick.specs.Choice.{passes}
 use Rattle.farm_pick.proofs.Choices.{shortlist_with, shortlist_past, shortlist_full, shortlist_whole}
 use Rattle.farm_pick.proofs.Places.{candidate_is, candidate_within}
 use Rattle.farm_pick.proofs.search.shortlist.Goals as goal

@@ -1,5 +1,4 @@
-use Rattle.farm_pick.specs.Test.{passes}
-use Rattle.farm_pick.specs.Choice.{candidate_at}
+use Rattle.farm_pick.specs.Choice.{passes, candidate_at}
 use Rattle.farm_pick.proofs.Choices.{IsShortlistBelow}
 use Rattle.farm_pick.proofs.search.shortlist.Given as goal
 

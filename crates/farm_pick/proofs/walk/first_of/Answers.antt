@@ -1,5 +1,5 @@
 use Rattle.std.proofs.Common.{◌∙◌, ◌+◌, None, sym, subst, arith}
-use Rattle.std.proofs.lemmas.List.{get_or_default}
+use Rattle.farm_pick.proofs.Names.{get_or_default}
 use Rattle.std.specs.Option.{option_map}
 use Rattle.farm_pick.proofs.Walking.{LeastBelow, least_more}
 use Rattle.farm_pick.proofs.walk.first_of.Goals as goal

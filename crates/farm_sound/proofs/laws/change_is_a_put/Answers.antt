@@ -1,6 +1,6 @@
 use Rattle.std.proofs.Common.{◌==◌}
-use Rattle.std.specs.Str.{bytes_eq}
-use Rattle.farm_types.specs.Table.{job_cmp, res_cmp, board_cmp}
+use Rattle.farm_sound.proofs.Names.{bytes_eq}
+use Rattle.farm_types.specs.Names.{board_cmp, job_cmp, res_cmp}
 use Rattle.farm_sound.proofs.Add.{job_total, res_total}
 use Rattle.farm_sound.proofs.Boards.{board_total}
 use Rattle.farm_sound.proofs.Puts.{put_is_change, job_keeps, res_keeps, board_keeps, numbers_apart, names_apart}

@@ -1,4 +1,4 @@
-use Rattle.farm_types.specs.Table.{job_cmp, res_cmp, board_cmp}
+use Rattle.farm_types.specs.Names.{board_cmp, job_cmp, res_cmp}
 use Rattle.farm_sound.proofs.Add.{job_total, res_total}
 use Rattle.farm_sound.proofs.Boards.{board_total}
 use Rattle.farm_sound.proofs.Puts.{puts_are_change, job_keeps, res_keeps, board_keeps}

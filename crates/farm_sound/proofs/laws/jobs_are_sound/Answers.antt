@@ -1,7 +1,6 @@
 use Rattle.std.proofs.Common.{sym, subst}
-use Rattle.std.specs.Option.{option_map_or}
-use Rattle.farm_types.specs.Change.{done_with, cancel_group, start_group, finish_one}
-use Rattle.farm_types.specs.Sound.{IsSound}
+use Rattle.farm_sound.proofs.Names.{option_map_or}
+use Rattle.farm_types.specs.Names.{cancel_group, done_with, finish_one, IsSound, start_group}
 use Rattle.farm_sound.proofs.Jobs.{IsSound-cancel, IsSound-finish, IsSound-start}
 use Rattle.farm_sound.proofs.laws.jobs_are_sound.Goals as goal
 

@@ -1,4 +1,4 @@
-use Rattle.farm_types.specs.Table.{type_cmp, board_cmp, job_cmp, res_cmp, kept_cmp}
+use Rattle.farm_types.specs.Names.{board_cmp, job_cmp, kept_cmp, res_cmp, type_cmp}
 use Rattle.farm_sound.proofs.Add.{job_total, res_total}
 use Rattle.farm_sound.proofs.Boards.{type_total, board_total}
 use Rattle.farm_sound.proofs.Commute.{puts_commute}

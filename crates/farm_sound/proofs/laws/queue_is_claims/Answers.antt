@@ -1,7 +1,7 @@
 use Rattle.std.proofs.Common.{subst}
 use Rattle.std.specs.List.Sorted.{IsPermutation}
 use Rattle.std.proofs.lemmas.List.{append-nil}
-use Rattle.farm_types.specs.Pick.{claims, queue}
+use Rattle.farm_types.specs.Names.{claims, queue}
 use Rattle.farm_sound.proofs.Claims.{queue_sorted}
 use Rattle.farm_sound.proofs.Queue.{queue_permutes}
 use Rattle.farm_sound.proofs.laws.queue_is_claims.Goals as goal

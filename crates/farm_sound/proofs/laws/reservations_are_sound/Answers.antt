@@ -1,8 +1,5 @@
 use Rattle.std.proofs.Common.{◌+◌, ap, ◌∙◌, refl, arith}
-use Rattle.farm_types.specs.declared.rows.State.{State}
-use Rattle.farm_types.specs.declared.rows.ResRow.{ResRow}
-use Rattle.farm_types.specs.declared.rows.ResState.{ResState}
-use Rattle.farm_types.proofs.Put.{AllByRecursion-weaker}
+use Rattle.farm_sound.proofs.Names.{AllByRecursion-weaker, ResRow, ResState, State}
 use Rattle.farm_sound.proofs.Own.{only_res}
 use Rattle.farm_sound.proofs.Reservations.{goes_on, IsSound-refresh, IsSound-cancel_res, IsSound-reserve}
 use Rattle.farm_sound.proofs.laws.reservations_are_sound.Goals as goal

@@ -1,4 +1,4 @@
-use Rattle.farm_types.specs.Farm.{empty_farm}
+use Rattle.farm_types.specs.Names.{empty_farm}
 use Rattle.farm_sound.proofs.Numbers.{IsSound-empty}
 use Rattle.farm_sound.proofs.Step.{IsSound-run}
 use Rattle.farm_sound.proofs.laws.run_is_sound.Goals as goal

@@ -1,6 +1,6 @@
 use Rattle.std.proofs.Common.{subst, sym}
-use Rattle.farm_types.specs.Farm.{farm_of}
-use Rattle.farm_types.specs.declared.calls.Rows.{Rows}
+use Rattle.farm_types.specs.Names.{farm_of}
+use Rattle.farm_sound.proofs.Names.{Rows}
 use Rattle.farm_sound.specs.ByRows.{IsSoundByRows}
 use Rattle.farm_sound.proofs.ByRows.{sound_from_rows, rows_from_sound}
 use Rattle.farm_sound.proofs.sound.is_sound.Goals as goal

@@ -1,5 +1,5 @@
 use Rattle.std.proofs.Common.{◌≡◌, filter, length}
-use Rattle.farm_pick.specs.Test.{passes, is_candidate}
+use Rattle.farm_pick.specs.Choice.{passes, is_candidate}
 use Rattle.farm_pick.proofs.fit.CandidatesIterator.next.Given as goal
 
 -- what is left to lend is what was left at first

@@ -1,7 +1,5 @@
 use Rattle.std.proofs.Common.{◌∙◌, ap}
-use Rattle.std.specs.Cmp.{nat_cmp_total}
-use Rattle.std.specs.Map.{remove_entry}
-use Rattle.std.specs.Ordering.{is_eq, nat_cmp}
+use Rattle.farm_pick.proofs.Names.{is_eq, nat_cmp, nat_cmp_total, remove_entry}
 use Rattle.farm_pick.proofs.Entries.{remove_insert}
 use Rattle.farm_pick.proofs.index.Index.put_at.Goals as goal
 

@@ -1,10 +1,6 @@
 use Rattle.std.proofs.Common.{◌∙◌, ap, rules, sym, ◌==◌}
-use Rattle.std.proofs.lemmas.Fn.{always_returns_same}
-use Rattle.std.specs.Cmp.{nat_cmp_total}
-use Rattle.std.specs.Ordering.{nat_cmp}
+use Rattle.farm_sound.proofs.Names.{always_returns_same, JobRow, nat_cmp, nat_cmp_total, Rows}
 use Rattle.farm_types.proofs.Searched.{same_numbers}
-use Rattle.farm_types.specs.declared.rows.JobRow.{JobRow}
-use Rattle.farm_types.specs.declared.calls.Rows.{Rows}
 use Rattle.farm_sound.proofs.Lookups.{row_found, none_found}
 use Rattle.farm_sound.proofs.ordered.OrderedRows.job_of.Goals as goal
 

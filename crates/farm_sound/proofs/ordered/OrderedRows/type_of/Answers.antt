@@ -1,11 +1,7 @@
 use Rattle.std.proofs.Common.{◌∙◌, ap, rules, sym}
-use Rattle.std.proofs.lemmas.Fn.{always_returns_same}
-use Rattle.std.specs.Cmp.Lexicographic.{nat_list_cmp_total}
-use Rattle.std.specs.Str.{bytes_eq}
-use Rattle.farm_types.specs.Words.{text_cmp}
+use Rattle.farm_sound.proofs.Names.{always_returns_same, bytes_eq, nat_list_cmp_total, Rows, TypeRow}
+use Rattle.farm_types.specs.Names.{text_cmp}
 use Rattle.farm_types.proofs.Searched.{same_names}
-use Rattle.farm_types.specs.declared.rows.TypeRow.{TypeRow}
-use Rattle.farm_types.specs.declared.calls.Rows.{Rows}
 use Rattle.farm_sound.proofs.Lookups.{row_found, none_found}
 use Rattle.farm_sound.proofs.ordered.OrderedRows.type_of.Goals as goal
 

@@ -1,7 +1,7 @@
 use Rattle.std.proofs.Common.{◌∷◌, [], ◌++◌, length, sym, ap, subst, ◌∙◌}
 use Rattle.std.specs.Cmp.{on_total}
 use Rattle.std.specs.List.Sorted.{IsBinarySearchResult, IsSearchInRange}
-use Rattle.farm_types.specs.Table.{put}
+use Rattle.farm_types.specs.Names.{put}
 use Rattle.farm_table.specs.Tabled.{Tabled, by_key}
 use Rattle.farm_table.proofs.Steps.{table_put, leads_put, put_found}
 use Rattle.farm_table.proofs.table.Table.put_at.Goals as goal
