@@ -1,13 +1,8 @@
 -- What an accepted call of a sound farm gives its change.
 use Rattle.std.proofs.Common.{◌≡◌, ℕ, ◌≤◌, ◌∷◌, [], not, Bool, true, false, List, None, refl, arith}
-use Rattle.std.proofs.lemmas.Bool.Decides.{nat_tests}
-use Rattle.farm_types.specs.Limits.{last_moment}
-use Rattle.farm_types.specs.Refusals.{bad_moment, forbidden, key_reused}
-use Rattle.farm_types.specs.Farm.{Farm}
-use Rattle.farm_types.specs.Refuse.{refusal, early_refusal, is_late, is_reused, may_give, first_code, RefusalTest}
-use Rattle.farm_types.specs.Change.{farm_at_call}
-use Rattle.farm_types.specs.Sound.{IsSound}
-use Rattle.farm_types.specs.declared.calls.Call.{Call}
+use Rattle.farm_core.proofs.Names.{Call, nat_tests}
+use Rattle.farm_types.specs.Names.{bad_moment, early_refusal, Farm, farm_at_call, first_code, forbidden, is_late, is_reused, IsSound, key_reused, last_moment}
+use Rattle.farm_types.specs.Names.{may_give, refusal, RefusalTest}
 use Rattle.farm_sound.proofs.Answered.{unrefused}
 
 clear_first : (test : Bool) (code : ℕ) (rest : List RefusalTest) → first_code ((test, code) ∷ rest) ≡ None → test ≡ false

@@ -1,15 +1,9 @@
 -- The queues once a claim was given its boards.
 use Rattle.std.proofs.Common.{◌≡◌, ◌∙◌, ◌==◌, ◌||◌, ℕ, List, [], ◌∷◌, Bool, true, false, cond, not, Option, Some, None, refl, sym, ap, arith}
-use Rattle.std.specs.List.{filter, list_any}
-use Rattle.std.specs.Option.{option_map, option_map_or}
-use Rattle.std.proofs.lemmas.Bool.Decides.{nat_tests}
-use Rattle.farm_types.specs.Farm.{Farm}
-use Rattle.farm_types.specs.Pass.{pass_over}
-use Rattle.farm_types.specs.Pick.{Claimed, is_free, least}
-use Rattle.farm_types.specs.declared.rows.BoardRow.{BoardRow}
-use Rattle.farm_types.specs.declared.rows.ResRow.{ResRow}
-use Rattle.farm_types.specs.declared.rows.Want.{Want}
-use Rattle.farm_pick.specs.Queued.{QueueLists, Queued, idle_boards}
+use Rattle.farm_core.proofs.Names.{BoardRow, idle_boards, list_any, nat_tests, option_map_or, Queued, QueueLists, ResRow, Want}
+use Rattle.std.specs.List.{filter}
+use Rattle.std.specs.Option.{option_map}
+use Rattle.farm_types.specs.Names.{Claimed, Farm, is_free, least, pass_over}
 use Rattle.farm_core.specs.Following.{without_all, without_boards}
 use Rattle.farm_core.specs.Serving.{queues_given}
 use Rattle.farm_core.proofs.Serving.{names_of}

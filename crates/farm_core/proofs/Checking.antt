@@ -1,22 +1,13 @@
 -- The due boards are checked in their places.
-use Rattle.std.proofs.Common.{◌≡◌, ℕ, zero, suc, ◌+◌, ◌<◌, ◌≤◌, List, [], ◌∷◌, length, drop, get_or, Bool, true, false, cond, ◌&&◌, ◌||◌, Some, refl, sym, ap, ◌∙◌, arith, add-one}
-use Rattle.std.specs.List.{AllByRecursion, filter, find, fold, list_any}
-use Rattle.std.specs.Option.{option_map_or}
-use Rattle.std.specs.List.Sorted.{IsStrictlySortedBy}
-use Rattle.std.specs.Str.{bytes_eq}
+use Rattle.std.proofs.Common.{◌≡◌, ℕ, zero, suc, ◌+◌, ◌<◌, ◌≤◌, List, [], ◌∷◌, length, drop, get_or, Bool, true, false, cond, ◌&&◌, ◌||◌, Some, refl, sym, ap}
+use Rattle.std.proofs.Common.{◌∙◌, arith, add-one}
+use Rattle.farm_core.proofs.Names.{AllByRecursion, BoardRow, bytes_eq, Check, find, fold, Holder, is_eq, IsStrictlySortedBy, Less, list_any, option_map_or}
+use Rattle.farm_core.proofs.Names.{State, TypeRow}
+use Rattle.std.specs.List.{filter}
 use Rattle.std.specs.Cmp.Lexicographic.{nat_list_eq_equiv}
-use Rattle.std.specs.Ordering.{is_eq}
-use Rattle.std.specs.declared.cmp.Ordering.TheVariants.{Less}
 use Rattle.std.proofs.lemmas.Map.Text.{is_eq-slice_cmp}
-use Rattle.farm_types.specs.Farm.{Farm}
-use Rattle.farm_types.specs.Table.{board_cmp, change_where, job_cmp, put}
-use Rattle.farm_types.specs.Pass.{check_job, check_one, checks, has_room, held_board, is_due, is_due_by}
-use Rattle.farm_types.specs.Pick.{check_of, is_nobody, is_checked as checks_any}
-use Rattle.farm_types.specs.declared.rows.Check.{Check}
-use Rattle.farm_types.specs.declared.rows.TypeRow.{TypeRow}
-use Rattle.farm_types.specs.declared.rows.BoardRow.{BoardRow}
-use Rattle.farm_types.specs.declared.rows.Holder.{Holder}
-use Rattle.farm_types.specs.declared.rows.State.{State}
+use Rattle.farm_types.specs.Names.{board_cmp, change_where, check_job, check_of, check_one, checks, Farm, has_room, held_board, is_checked as checks_any}
+use Rattle.farm_types.specs.Names.{is_due, is_due_by, is_nobody, job_cmp, put}
 
 -- the boards from a place on are still to be checked
 abbrev pub checks_from : ℕ → ℕ → Farm → Farm

@@ -1,31 +1,19 @@
 -- A group collects, member by member, and gives back what it collected.
-use Rattle.std.proofs.Common.{◌≡◌, ◌∙◌, ◌==◌, ◌&&◌, ◌+◌, ◌<◌, ◌≤◌, ℕ, zero, suc, List, [], ◌∷◌, length, drop, get_or, map, filter, Bool, true, false, cond, not, Option, Some, None, IsSomeAnd, refl, sym, ap, subst, arith, add-one}
-use Rattle.std.proofs.lemmas.List.{length-map}
-use Rattle.std.specs.List.{AllByRecursion, fold}
-use Rattle.std.specs.Option.{option_map, option_map_or}
-use Rattle.std.specs.Str.{bytes_eq}
+use Rattle.std.proofs.Common.{◌≡◌, ◌∙◌, ◌==◌, ◌&&◌, ◌+◌, ◌<◌, ◌≤◌, ℕ, zero, suc, List, [], ◌∷◌, length, drop, get_or, map, filter, Bool, true, false, cond, not}
+use Rattle.std.proofs.Common.{Option, Some, None, IsSomeAnd, refl, sym, ap, subst, arith, add-one}
+use Rattle.farm_core.proofs.Names.{AllByRecursion, AllByRecursion-weaker, BoardRow, bytes_eq, filter_all, fold, Holder, idle_boards, IdleBoard, JobRow}
+use Rattle.farm_core.proofs.Names.{JobState, length-map, option_map_or, State, TypeRow}
+use Rattle.std.specs.Option.{option_map}
 use Rattle.std.proofs.Math.Bool.{and-false}
-use Rattle.farm_types.specs.Codes.{same_job_state}
-use Rattle.farm_types.specs.Farm.{Farm, job_of, members}
-use Rattle.farm_types.specs.Pass.{giving_back, collect_member, first_free, give_member, held_board, freed_board, is_job_so, placed_job, unplaced_job}
-use Rattle.farm_types.specs.Pick.{is_free, serves}
-use Rattle.farm_types.specs.Sound.{IsSound}
-use Rattle.farm_types.specs.Table.{change_where}
-use Rattle.farm_types.specs.declared.rows.BoardRow.{BoardRow}
-use Rattle.farm_types.specs.declared.rows.Holder.{Holder}
-use Rattle.farm_types.specs.declared.rows.JobRow.{JobRow}
-use Rattle.farm_types.specs.declared.rows.JobState.{JobState}
-use Rattle.farm_types.specs.declared.rows.State.{State}
-use Rattle.farm_types.specs.declared.rows.TypeRow.{TypeRow}
-use Rattle.farm_types.proofs.Put.{AllByRecursion-weaker, found_has}
+use Rattle.farm_types.specs.Names.{change_where, collect_member, Farm, first_free, freed_board, give_member, giving_back, held_board, is_free, is_job_so}
+use Rattle.farm_types.specs.Names.{IsSound, job_of, members, placed_job, same_job_state, serves, unplaced_job}
+use Rattle.farm_types.proofs.Put.{found_has}
 use Rattle.farm_sound.proofs.Collecting.{none_scheduling}
-use Rattle.farm_sound.proofs.Lists.{filter_all}
 use Rattle.farm_sound.proofs.Own.{own_job}
 use Rattle.farm_sound.proofs.Where.{by_cases, find_map}
-use Rattle.farm_pick.specs.Queued.{IdleBoard, idle_board, idle_boards}
-use Rattle.farm_core.specs.Collecting.{Collects, HasWant}
+use Rattle.farm_pick.specs.Queued.{idle_board}
+use Rattle.farm_core.specs.Serving.{Collects, HasWant, assign_named}
 use Rattle.farm_core.specs.Came.{Seen}
-use Rattle.farm_core.specs.Serving.{assign_named}
 use Rattle.farm_core.proofs.Serving.{numbers_of}
 
 -- ---- the free boards once one is held

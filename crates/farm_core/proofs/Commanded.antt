@@ -1,22 +1,13 @@
 -- The queues follow a command as the machine says.
 use Rattle.std.proofs.Common.{◌≡◌, ◌∙◌, ◌==◌, ◌+◌, ℕ, List, false, map, not, Option, Some, None, refl, sym, ap}
-use Rattle.std.specs.Option.{option_map_or}
-use Rattle.farm_types.specs.Change.{keep, farm_at_call, new_res}
-use Rattle.farm_types.specs.Farm.{Farm, job_of, put_kept}
-use Rattle.farm_types.specs.Pick.{queue, res_claim}
-use Rattle.farm_types.specs.Refuse.{kind_of, moment, refusal}
-use Rattle.farm_types.specs.Sound.{IsSound}
-use Rattle.farm_types.specs.declared.calls.Call.{Call}
-use Rattle.farm_types.specs.declared.calls.Cmd.{Cmd}
-use Rattle.farm_types.specs.declared.rows.JobRow.{JobRow}
+use Rattle.farm_core.proofs.Names.{Call, Cmd, JobRow, option_map_or, queue_lists, queued_filter, queued_of, QueueLists}
+use Rattle.farm_types.specs.Names.{Farm, farm_at_call, IsSound, job_of, keep, kind_of, moment, new_res, put_kept, queue, refusal, res_claim}
 use Rattle.farm_types.specs.declared.rows.Reply.{Reply}
 use Rattle.farm_sound.proofs.Step.{IsAccepted-moved, IsSound-moved_to, accepted}
 use Rattle.farm_pick.specs.Follow.{queue_after, queue_without}
-use Rattle.farm_pick.specs.Queued.{QueueLists, queue_lists, queued_of}
 use Rattle.farm_pick.proofs.Commands.{commands_follow}
-use Rattle.farm_pick.proofs.Filling.{queued_filter, queued_put}
-use Rattle.farm_core.specs.Following.{queues_after, without_claim}
-use Rattle.farm_core.specs.Following.{FollowsIn}
+use Rattle.farm_pick.proofs.Filling.{queued_put}
+use Rattle.farm_core.specs.Following.{queues_after, without_claim, FollowsIn}
 use Rattle.farm_core.proofs.Free.{free_after}
 
 -- no command but a pass touches the free boards before they follow

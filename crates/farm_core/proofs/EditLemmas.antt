@@ -1,21 +1,14 @@
 -- What the edits of jobs, reservations and boards keep.
 use Rattle.std.proofs.Common.{◌≡◌, ℕ, ◌+◌, List, [], ◌∷◌, min, Bool, true, false, cond, Option, Some, None, IfSome, refl, ap, ◌∙◌, arith}
 use Rattle.std.specs.Prelude.{unwrap_or}
-use Rattle.farm_types.specs.Limits.{most_jobs_since}
-use Rattle.farm_types.specs.Table.{change_where}
-use Rattle.farm_types.specs.Farm.{Farm}
-use Rattle.farm_types.specs.Pass.{freed_board, is_job_so, is_res_so, change_jobs, change_res}
-use Rattle.farm_types.specs.Change.{graded_board, after_job, after_check}
-use Rattle.farm_types.specs.Small.{IsSmall, IsSmallBoard, IsSmallRes}
+use Rattle.farm_types.specs.Names.{after_check, after_job, change_jobs, change_res, change_where, Farm, freed_board, graded_board, is_job_so, is_res_so}
+use Rattle.farm_types.specs.Names.{IsSmall, IsSmallBoard, IsSmallRes, most_jobs_since}
+use Rattle.farm_core.proofs.Names.{BoardRow, IsFitJob, JobRow, ResRow}
 use Rattle.farm_types.specs.declared.rows.Health.{Health}
 use Rattle.farm_types.specs.declared.rows.Outcome.{Outcome}
-use Rattle.farm_types.specs.declared.rows.JobRow.{JobRow}
-use Rattle.farm_types.specs.declared.rows.ResRow.{ResRow}
-use Rattle.farm_types.specs.declared.rows.BoardRow.{BoardRow}
 use Rattle.farm_core.specs.declared.board_effect.BoardEffect.{BoardEffect}
 use Rattle.farm_core.specs.declared.edits.JobEdit.{JobEdit}
 use Rattle.farm_core.specs.declared.edits.ResEdit.{ResEdit}
-use Rattle.farm_table.specs.Near.{IsFitJob}
 use Rattle.farm_table.specs.Tabled.{KeepsKeys}
 use Rattle.farm_core.specs.Edits.{IsSmallEffect, job_changed, res_changed, board_after}
 

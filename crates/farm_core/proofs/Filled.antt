@@ -1,22 +1,15 @@
 -- The queues are filled from the last claim on.
-use Rattle.std.proofs.Common.{◌≡◌, ◌∙◌, ◌+◌, ◌++◌, ◌<◌, ℕ, zero, suc, List, [], ◌∷◌, length, map, drop, get_or, Bool, true, false, cond, None, refl, sym, ap, subst, arith, add-one, append-nil}
-use Rattle.std.specs.List.{AllByRecursion}
-use Rattle.std.specs.Option.{option_map_or}
-use Rattle.std.proofs.lemmas.List.{append_assoc, drop_all, length-append, length-map}
-use Rattle.farm_types.specs.Farm.{Farm}
-use Rattle.farm_types.specs.Pick.{Claimed, queue, shown_claim}
-use Rattle.farm_types.specs.Sound.{IsSound}
-use Rattle.farm_types.specs.Table.{put}
-use Rattle.farm_types.specs.declared.claims.Claim.{Claim}
-use Rattle.farm_types.specs.declared.claims.ClaimKind.{ClaimKind}
-use Rattle.farm_types.specs.declared.rows.JobRow.{JobRow}
+use Rattle.std.proofs.Common.{◌≡◌, ◌∙◌, ◌+◌, ◌++◌, ◌<◌, ℕ, zero, suc, List, [], ◌∷◌, length, map, drop, get_or, Bool, true, false, cond, None, refl, sym, ap}
+use Rattle.std.proofs.Common.{subst, arith, add-one, append-nil}
+use Rattle.farm_core.proofs.Names.{AllByRecursion, Claim, ClaimKind, idle_boards, IsClaim, JobRow, length-map, option_map_or, queue_claims, queue_lists}
+use Rattle.farm_core.proofs.Names.{queued_of, QueueLists}
+use Rattle.std.proofs.lemmas.List.{append_assoc, drop_all, length-append}
+use Rattle.farm_types.specs.Names.{Claimed, Farm, IsSound, put, queue, shown_claim}
 use Rattle.farm_pick.specs.Index.{queued_cmp}
-use Rattle.farm_pick.specs.Queued.{QueueLists, idle_boards, queue_lists, queue_kind, queued_of}
+use Rattle.farm_pick.specs.Queued.{queue_kind}
 use Rattle.farm_pick.proofs.Filling.{fresh_before, last_put}
 use Rattle.farm_pick.proofs.Leading.{lead_of, of_reservation}
-use Rattle.farm_sound.proofs.Claims.{IsClaim, queue_claims}
-use Rattle.farm_core.specs.Following.{IsFresh}
-use Rattle.farm_core.specs.Following.{kind_by, kind_in}
+use Rattle.farm_core.specs.Following.{IsFresh, kind_by, kind_in}
 
 -- ---- the claim at a place of the queue
 

@@ -1,46 +1,28 @@
 -- The free boards follow the rows of boards.
-use Rattle.std.proofs.Common.{◌≡◌, ◌∙◌, ◌&&◌, ◌||◌, ◌≢◌, ◌+◌, ◌++◌, ℕ, List, [], ◌∷◌, map, Bool, true, false, cond, not, Option, Some, None, IsSome, is_some, refl, sym, ap, subst, append-nil}
-use mathlib.Core.Bool.{true≢false}
+use Rattle.std.proofs.Common.{◌≡◌, ◌∙◌, ◌&&◌, ◌||◌, ◌≢◌, ◌+◌, ◌++◌, ℕ, List, [], ◌∷◌, map, Bool, true, false, cond, not, Option, Some, None, IsSome, is_some}
+use Rattle.std.proofs.Common.{refl, sym, ap, subst, append-nil}
+use Rattle.farm_core.proofs.Names.{AllByRecursion, AllByRecursion-weaker, BoardRow, bytes_eq, Check, Cmd, Equal, filter_all, fold, Greater, Holder, idle_boards}
+use Rattle.farm_core.proofs.Names.{IdleBoard, is_eq, IsStrictlySortedBy, JobRow, Less, match_ordering, option_map_or, Ordering, ordering_reverse, put_sorted}
+use Rattle.farm_core.proofs.Names.{same_names, State, true≢false, TypeRow}
 use Rattle.std.specs.Cmp.Lexicographic.{nat_list_cmp_total}
-use Rattle.std.specs.List.{AllByRecursion, filter, fold}
-use Rattle.std.specs.List.Sorted.{IsStrictlySortedBy}
-use Rattle.std.specs.Option.{option_map_or}
-use Rattle.std.specs.Ordering.{is_eq, match_ordering, ordering_reverse}
-use Rattle.std.specs.Str.{bytes_eq}
-use Rattle.std.specs.declared.cmp.Ordering.{Ordering}
-use Rattle.std.specs.declared.cmp.Ordering.TheVariants.{Less, Equal, Greater}
+use Rattle.std.specs.List.{filter}
 use Rattle.std.proofs.lemmas.List.{append_assoc}
 use Rattle.std.proofs.lemmas.Slice.Eq.{bytes_eq-Decides}
 use Rattle.std.proofs.lemmas.Cmp.{tied_itself}
-use Rattle.farm_types.specs.Refusals.{type_exists}
-use Rattle.farm_types.specs.Codes.{same_health}
-use Rattle.farm_types.specs.Change.{act, cancel_group, done_with, finish_one, start_group}
-use Rattle.farm_types.specs.Farm.{Farm, board_of, job_of, put_board, put_type, type_of}
-use Rattle.farm_types.specs.Pass.{giving_back, check_job, check_one, checks, expire, has_room, held_board, is_due}
-use Rattle.farm_types.specs.Pick.{is_checked, is_free, is_nobody}
-use Rattle.farm_types.specs.Sound.{IsBoardRow, IsSound, IsSteady}
-use Rattle.farm_types.specs.Table.{board_cmp, change_where, job_cmp, put, put_all, type_cmp}
-use Rattle.farm_types.specs.declared.calls.Cmd.{Cmd}
-use Rattle.farm_types.specs.declared.rows.Check.{Check}
-use Rattle.farm_types.specs.declared.rows.Holder.{Holder}
-use Rattle.farm_types.specs.declared.rows.JobRow.{JobRow}
-use Rattle.farm_types.specs.declared.rows.State.{State}
-use Rattle.farm_types.specs.Words.{text_cmp}
-use Rattle.farm_types.specs.declared.rows.BoardRow.{BoardRow}
+use Rattle.farm_types.specs.Names.{act, board_cmp, board_of, cancel_group, change_where, check_job, check_one, checks, done_with, expire, Farm, finish_one}
+use Rattle.farm_types.specs.Names.{giving_back, has_room, held_board, is_checked, is_due, is_free, is_nobody, IsBoardRow, IsSound, IsSteady, job_cmp, job_of}
+use Rattle.farm_types.specs.Names.{put, put_all, put_board, put_type, same_health, start_group, text_cmp, type_cmp, type_exists, type_of}
 use Rattle.farm_types.specs.declared.rows.Health.{Health}
-use Rattle.farm_types.specs.declared.rows.TypeRow.{TypeRow}
-use Rattle.farm_types.proofs.Put.{AllByRecursion-weaker, find_put_is, put_sorted}
-use Rattle.farm_types.proofs.Searched.{same_names}
+use Rattle.farm_types.proofs.Put.{find_put_is}
 use Rattle.farm_sound.proofs.Accepted.{IsAccepted}
 use Rattle.farm_sound.proofs.Boards.{board_total, type_total}
 use Rattle.farm_sound.proofs.Clear.{first_clear, none_of}
 use Rattle.farm_sound.proofs.Grow.{same_texts}
-use Rattle.farm_sound.proofs.Lists.{filter_all}
 use Rattle.farm_sound.proofs.Own.{text_itself}
 use Rattle.farm_sound.proofs.Puts.{names_apart}
 use Rattle.farm_sound.proofs.Where.{AllByRecursion-map}
 use Rattle.farm_pick.specs.Index.{named_cmp}
-use Rattle.farm_pick.specs.Queued.{IdleBoard, idle_board, idle_boards}
+use Rattle.farm_pick.specs.Queued.{idle_board}
 use Rattle.farm_core.specs.Following.{free_of, free_boards_with, without_board}
 
 -- ---- one row

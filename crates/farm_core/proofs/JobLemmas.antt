@@ -1,21 +1,13 @@
 -- The commands on jobs, from their edits.
-use Rattle.std.proofs.Common.{◌≡◌, ℕ, zero, suc, ◌+◌, ◌-◌, ◌<◌, ◌≤◌, ◌==◌, List, [], ◌∷◌, length, get_or, take, drop, Bool, true, false, cond, Some, refl, sym, ap, ◌∙◌, arith, length-drop, Bor, Option, None, IfSome}
+use Rattle.std.proofs.Common.{◌≡◌, ℕ, zero, suc, ◌+◌, ◌-◌, ◌<◌, ◌≤◌, ◌==◌, List, [], ◌∷◌, length, get_or, take, drop, Bool, true, false, cond, Some, refl, sym}
+use Rattle.std.proofs.Common.{ap, ◌∙◌, arith, length-drop, Bor, Option, None, IfSome}
 use Rattle.std.proofs.lemmas.List.{get_or-drop}
-use Rattle.std.specs.List.{find, filter}
-use Rattle.std.specs.Option.{option_map_or, option_copied}
+use Rattle.farm_core.proofs.Names.{Cmd, find, found_passes, IsFitJob, JobRow, JobState, nat_tests, option_map_or}
+use Rattle.std.specs.List.{filter}
+use Rattle.std.specs.Option.{option_copied}
 use Rattle.std.specs.Prelude.{if◌then◌else◌}
-use Rattle.std.proofs.lemmas.Bool.Decides.{nat_tests}
-use Rattle.farm_types.specs.Farm.{Farm, job_of}
-use Rattle.farm_types.specs.Table.{change_where}
-use Rattle.farm_types.specs.Pass.{freed_board, change_jobs}
-use Rattle.farm_types.specs.Change.{act, done_with, cancel_group}
-use Rattle.farm_types.specs.Small.{IsSmallJob}
-use Rattle.farm_types.specs.declared.calls.Cmd.{Cmd}
+use Rattle.farm_types.specs.Names.{act, cancel_group, change_jobs, change_where, done_with, Farm, freed_board, IsSmallJob, job_of}
 use Rattle.farm_types.specs.declared.rows.Outcome.{Outcome}
-use Rattle.farm_types.specs.declared.rows.JobRow.{JobRow}
-use Rattle.farm_types.proofs.Put.{found_passes}
-use Rattle.farm_table.specs.Near.{IsFitJob}
-use Rattle.farm_types.specs.declared.rows.JobState.{JobState}
 use Rattle.farm_core.specs.declared.edits.JobEdit.{JobEdit}
 use Rattle.farm_core.specs.declared.edits.JobFilter.{JobFilter}
 use Rattle.farm_core.specs.declared.edits.Placement.{Placement}

@@ -1,41 +1,28 @@
 -- The leases that are noted, and the end of the reservations that are dead.
-use Rattle.std.proofs.Common.{◌≡◌, ◌∙◌, ◌==◌, ◌||◌, ◌&&◌, ◌<◌, ◌≤◌, ◌+◌, ℕ, zero, suc, List, [], ◌∷◌, length, filter, take, get_or, add-one, nat_le, slice_get, set, IsSome, IfSome, Bool, true, false, cond, not, Option, Some, None, refl, sym, ap, subst, arith}
-use mathlib.Core.Bool.{true≢false, false≢true}
+use Rattle.std.proofs.Common.{◌≡◌, ◌∙◌, ◌==◌, ◌||◌, ◌&&◌, ◌<◌, ◌≤◌, ◌+◌, ℕ, zero, suc, List, [], ◌∷◌, length, filter, take, get_or, add-one, nat_le, slice_get}
+use Rattle.std.proofs.Common.{set, IsSome, IfSome, Bool, true, false, cond, not, Option, Some, None, refl, sym, ap, subst, arith}
+use Rattle.farm_core.proofs.Names.{AllByRecursion, AllByRecursion-weaker, both, Equal, Greater, is_eq, IsStrictlySortedBy, itself, Less, nat_cmp, nat_tests}
+use Rattle.farm_core.proofs.Names.{option_map_or, Ordering, ordering_then, Queued, ResRow, same_number, true≢false}
+use mathlib.Core.Bool.{false≢true}
 use Rattle.std.specs.BTreeSet.{BTreeSet, IsLowerBound}
 use Rattle.std.specs.Cmp.{tied_then}
-use Rattle.std.specs.List.{AllByRecursion}
-use Rattle.std.specs.List.Sorted.{IsStrictlySortedBy}
-use Rattle.std.specs.Option.{option_map_or}
-use Rattle.std.specs.Ordering.{is_eq, is_gt, nat_cmp, ordering_then}
-use Rattle.std.specs.declared.cmp.Ordering.{Ordering}
-use Rattle.std.specs.declared.cmp.Ordering.TheVariants.{Equal, Greater, Less}
-use Rattle.std.proofs.lemmas.Bool.Decides.{nat_tests}
+use Rattle.std.specs.Ordering.{is_gt}
 use Rattle.std.proofs.lemmas.Cmp.{ranked}
-use Rattle.farm_types.specs.Pass.{is_dead}
-use Rattle.farm_types.specs.Table.{change_where, put, res_cmp}
-use Rattle.farm_types.specs.declared.rows.ResRow.{ResRow}
+use Rattle.farm_types.specs.Names.{change_where, is_dead, put, res_cmp}
 use Rattle.farm_types.specs.declared.rows.ResState.{ResState}
-use Rattle.farm_types.proofs.Put.{AllByRecursion-put, AllByRecursion-weaker}
+use Rattle.farm_types.proofs.Put.{AllByRecursion-put}
 use Rattle.farm_types.proofs.Searched.{same_numbers}
 use Rattle.farm_sound.proofs.Add.{res_total}
 use Rattle.farm_sound.proofs.Lists.{none_pass}
-use Rattle.farm_sound.proofs.Own.{itself}
-use Rattle.farm_sound.proofs.Tests.{both, same_number}
 use Rattle.farm_sound.proofs.Where.{AllByRecursion-both}
 use Rattle.farm_sound.specs.Keys.{res_in}
-use Rattle.farm_pick.specs.Queued.{Queued}
 use Rattle.farm_core.specs.Came.{Seen}
-use Rattle.farm_core.specs.Following.{without_claim}
-use Rattle.farm_core.specs.Following.{without_all}
-use Rattle.farm_core.specs.Leases.{AreNoted, Grows, IsNoted, is_dead_at, is_noted, lease_cmp, lease_if, lease_of, may_end}
+use Rattle.farm_core.specs.Following.{without_claim, without_all}
+use Rattle.farm_core.specs.Leases.{AreNoted, Grows, IsNoted, is_dead_at, is_noted, lease_cmp, lease_of, may_end}
 use Rattle.farm_core.specs.declared.res_table.Lease.{Lease}
 use Rattle.farm_core.proofs.Assigned.{taken_more}
 
 -- ---- rows that change
-
--- a lease that may end is noted if it is
-pub noted_if : (leases : BTreeSet Lease) (r : ResRow) → IfSome (lease_if r) (λ l. is_noted leases l ≡ true) → IsNoted leases r
-noted_if leases r here may = subst (λ v. IfSome (cond v (Some (lease_of r)) None) (λ l. is_noted leases l ≡ true)) may here
 
 -- those that are noted stay so as leases come
 pub noted_on : (old news : BTreeSet Lease) → Grows old news → (rows new : List ResRow) → AreNoted old rows → new ≡ rows → AreNoted news new

@@ -1,3 +1,4 @@
+pub mod Names
 pub mod Small
 pub mod Replies
 pub mod Sound

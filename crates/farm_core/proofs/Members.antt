@@ -1,10 +1,8 @@
 -- New members are put one after another.
 use Rattle.std.proofs.Common.{◌≡◌, ℕ, zero, suc, ◌+◌, ◌==◌, ◌<◌, ◌≤◌, List, [], ◌∷◌, length, drop, get_or, Option, false, refl, arith, add-one}
-use Rattle.std.proofs.lemmas.Bool.Decides.{nat_tests}
+use Rattle.farm_core.proofs.Names.{nat_tests, Want}
 use Rattle.farm_core.specs.Edits.{text_at}
-use Rattle.farm_types.specs.Pass.{new_job}
-use Rattle.farm_types.specs.Change.{new_members}
-use Rattle.farm_types.specs.declared.rows.Want.{Want}
+use Rattle.farm_types.specs.Names.{new_job, new_members}
 
 pub text_next : (n : ℕ) (body : List ℕ) → text_at (n + 1) body ≡ []
 text_next n body = rw (not_first n)

@@ -1,23 +1,14 @@
 -- The next claim that is tried: of the open queues and, while nobody collects, of those of two boards or more.
-use Rattle.std.proofs.Common.{◌≡◌, ◌∙◌, ◌&&◌, ◌≤◌, ◌⊎◌, ℕ, List, [], ◌∷◌, map, filter, length, nat_le, Bool, true, false, cond, Option, Some, None, inl, inr, refl, sym, ap, subst, arith}
-use mathlib.Core.Bool.{true≢false}
-use Rattle.std.specs.List.{find}
-use Rattle.std.specs.List.Sorted.{IsStrictlySortedBy}
+use Rattle.std.proofs.Common.{◌≡◌, ◌∙◌, ◌&&◌, ◌≤◌, ◌⊎◌, ℕ, List, [], ◌∷◌, map, filter, length, nat_le, Bool, true, false, cond, Option, Some, None, inl, inr}
+use Rattle.std.proofs.Common.{refl, sym, ap, subst, arith}
+use Rattle.farm_core.proofs.Names.{AllByRecursion-weaker, among_has, both, Claim, Equal, filter_all, find, found_passes, Greater, idle_boards, is_lt, IsClaim}
+use Rattle.farm_core.proofs.Names.{IsStrictlySortedBy, Less, nat_tests, Ordering, ordering_reverse, queue_claims, queue_lists, Queued, queued_of, QueueLists}
+use Rattle.farm_core.proofs.Names.{true≢false}
 use Rattle.std.specs.Option.{option_map}
-use Rattle.std.specs.Ordering.{is_lt, ordering_reverse}
-use Rattle.std.specs.declared.cmp.Ordering.{Ordering}
-use Rattle.std.specs.declared.cmp.Ordering.TheVariants.{Less, Equal, Greater}
-use Rattle.std.proofs.lemmas.Bool.Decides.{nat_tests}
-use Rattle.farm_types.specs.Farm.{Farm}
-use Rattle.farm_types.specs.Pick.{IsAmong, Claimed, claim_cmp, queue, shown_claim, shown_cmp}
-use Rattle.farm_types.specs.Sound.{IsSound}
-use Rattle.farm_types.specs.declared.claims.Claim.{Claim}
-use Rattle.farm_types.proofs.Put.{AllByRecursion-weaker, found_passes}
-use Rattle.farm_sound.proofs.Claims.{IsClaim, claim_total, queue_claims, queue_sorted}
-use Rattle.farm_sound.proofs.Lists.{among_has, filter_all}
-use Rattle.farm_sound.proofs.Tests.{both}
+use Rattle.farm_types.specs.Names.{claim_cmp, Claimed, Farm, IsAmong, IsSound, queue, shown_claim, shown_cmp}
+use Rattle.farm_sound.proofs.Claims.{claim_total, queue_sorted}
 use Rattle.farm_pick.specs.Heads.{earlier_of, is_later, last_spot}
-use Rattle.farm_pick.specs.Queued.{QueueLists, Queued, idle_boards, is_open, queue_lists, queued_of}
+use Rattle.farm_pick.specs.Queued.{is_open}
 use Rattle.farm_pick.specs.Walked.{claims_after}
 use Rattle.farm_pick.proofs.Closed.{closed_is_unmet}
 use Rattle.farm_pick.proofs.Later.{after_itself, among_later, less_from, not_back}

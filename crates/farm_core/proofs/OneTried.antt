@@ -1,14 +1,9 @@
 -- A claim is tried: it is served, or it isn't met and passed over.
 use Rattle.std.proofs.Common.{◌≡◌, ◌∙◌, ◌==◌, ℕ, List, length, filter, not, Bool, true, false, Option, Some, None, option_map, sym, ap, subst}
-use Rattle.farm_types.specs.Pick.{IsAmong, Claimed, is_free, least, queue, shown_claim}
-use Rattle.farm_types.specs.Sound.{IsSound}
-use Rattle.farm_types.specs.declared.claims.ClaimKind.{ClaimKind}
-use Rattle.farm_types.specs.declared.rows.BoardRow.{BoardRow}
-use Rattle.farm_sound.proofs.Claims.{IsClaim, queue_claims}
-use Rattle.farm_sound.proofs.Lists.{among_has}
+use Rattle.farm_types.specs.Names.{Claimed, is_free, IsAmong, IsSound, least, queue, shown_claim}
+use Rattle.farm_core.proofs.Names.{among_has, BoardRow, ClaimKind, IsClaim, queue_claims, Queued}
 use Rattle.farm_pick.proofs.Filling.{numbers_differ}
 use Rattle.farm_pick.specs.Least.{boards_at}
-use Rattle.farm_pick.specs.Queued.{Queued}
 use Rattle.farm_core.specs.Came.{Seen}
 use Rattle.farm_core.specs.Following.{without_boards}
 use Rattle.farm_core.specs.Serving.{MatchesRows, Serves, Tries, names_at, wants_of}

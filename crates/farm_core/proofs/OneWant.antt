@@ -1,9 +1,8 @@
 -- One want is met where some board fits it.
 use Rattle.std.proofs.Common.{◌≡◌, List, [], ◌∷◌, ◌&&◌, ◌||◌, not, is_none, Bool, true, false, cond, option_map, Some, refl}
-use Rattle.std.specs.List.{find, flat_map, list_any}
-use Rattle.farm_types.specs.Pick.{least, meets, fits}
-use Rattle.farm_types.specs.declared.rows.Want.{Want}
-use Rattle.farm_types.specs.declared.rows.BoardRow.{BoardRow}
+use Rattle.farm_core.proofs.Names.{BoardRow, find, list_any, Want}
+use Rattle.std.specs.List.{flat_map}
+use Rattle.farm_types.specs.Names.{fits, least, meets}
 
 module _ (test : BoardRow → Bool) (w : Want) where
   one : (xs : List BoardRow) → is_none (find (meets test (w ∷ [])) (flat_map (λ b. (b ∷ []) ∷ []) xs)) ≡ not (list_any (λ b. fits b w && test b) xs)

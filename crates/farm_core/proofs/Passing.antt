@@ -1,9 +1,6 @@
 -- What a claim asks for.
 use Rattle.std.proofs.Common.{◌≡◌, inl, inr, refl, sym, ap, subst, arith}
-use Rattle.farm_types.specs.Farm.{Farm}
-use Rattle.farm_types.specs.Pick.{Claimed}
-use Rattle.farm_types.specs.Small.{IsSmall}
-use Rattle.farm_types.specs.Sound.{IsSound}
+use Rattle.farm_types.specs.Names.{Claimed, Farm, IsSmall, IsSound}
 use Rattle.farm_sound.proofs.Accepted.{low_job, low_res}
 use Rattle.farm_sound.proofs.Claims.{IsClaim}
 use Rattle.farm_core.specs.Serving.{MatchesRows}

@@ -1,26 +1,18 @@
 -- Boards that are assigned, by their places.
-use Rattle.std.proofs.Common.{◌≡◌, ℕ, zero, suc, ◌+◌, ◌<◌, ◌++◌, List, [], ◌∷◌, length, set, take, get_or, Bool, true, false, cond, Option, Some, None, refl, sym, ap, subst, ◌∙◌, arith}
+use Rattle.std.proofs.Common.{◌≡◌, ℕ, zero, suc, ◌+◌, ◌<◌, ◌++◌, List, [], ◌∷◌, length, set, take, get_or, Bool, true, false, cond, Option, Some, None, refl}
+use Rattle.std.proofs.Common.{sym, ap, subst, ◌∙◌, arith}
 use Rattle.std.specs.Cmp.Lexicographic.{nat_list_cmp_total}
-use Rattle.std.specs.List.{All, AllByRecursion}
-use Rattle.std.specs.List.Sorted.{IsStrictlySortedBy}
+use Rattle.farm_core.proofs.Names.{AllByRecursion, BoardRow, bytes_eq, Holder, IdleBoard, IsStrictlySortedBy, length-map, recursion_from_All, same_names, State}
+use Rattle.std.specs.List.{All}
 use Rattle.std.specs.Option.{option_map}
 use Rattle.std.specs.Prelude.{slice_get}
-use Rattle.std.specs.Str.{bytes_eq}
-use Rattle.std.proofs.lemmas.List.{length-map, take_more}
-use Rattle.std.proofs.lemmas.List.Elements.{filter_map-append, recursion_from_All}
+use Rattle.std.proofs.lemmas.List.{take_more}
+use Rattle.std.proofs.lemmas.List.Elements.{filter_map-append}
 use Rattle.std.proofs.lemmas.Option.{slice_get-get_or, slice_get-map}
-use Rattle.farm_types.specs.Farm.{Farm}
-use Rattle.farm_types.specs.Pass.{held_board}
-use Rattle.farm_types.specs.Table.{board_cmp, change_where}
-use Rattle.farm_types.specs.Words.{text_cmp}
-use Rattle.farm_types.specs.declared.rows.BoardRow.{BoardRow}
-use Rattle.farm_types.specs.declared.rows.Holder.{Holder}
-use Rattle.farm_types.specs.declared.rows.State.{State}
-use Rattle.farm_types.proofs.Searched.{same_names}
+use Rattle.farm_types.specs.Names.{board_cmp, change_where, Farm, held_board, text_cmp}
 use Rattle.farm_sound.proofs.Own.{text_itself}
 use Rattle.farm_table.proofs.Steps.{apart_by_key, one_changes}
 use Rattle.farm_pick.specs.Least.{boards_at}
-use Rattle.farm_pick.specs.Queued.{IdleBoard}
 use Rattle.farm_core.specs.Following.{without_board, without_boards}
 use Rattle.farm_core.specs.Serving.{assign_first, name_at, names_at}
 use Rattle.farm_core.proofs.Serving.{names_of}

@@ -2,21 +2,15 @@
 pub mod Merged
 pub mod Packing
 pub mod Joined
-use Rattle.std.proofs.Common.{◌≡◌, ◌∙◌, ◌≤◌, ◌+◌, ◌++◌, ◌&&◌, ℕ, List, [], ◌∷◌, map, length, Bool, true, false, cond, Option, Some, None, IsTrue, nat_le, refl, sym, ap, subst, arith}
+use Rattle.std.proofs.Common.{◌≡◌, ◌∙◌, ◌≤◌, ◌+◌, ◌++◌, ◌&&◌, ℕ, List, [], ◌∷◌, map, length, Bool, true, false, cond, Option, Some, None, IsTrue, nat_le, refl}
+use Rattle.std.proofs.Common.{sym, ap, subst, arith}
 use Rattle.std.specs.Prelude.{not, option_map}
-use Rattle.std.specs.List.{AllByRecursion, filter, find, list_all}
-use Rattle.std.specs.List.Sorted.{IsStrictlySortedBy}
+use Rattle.farm_core.proofs.Names.{AllByRecursion, find, Global, IsStrictlySortedBy, kept_total, KeptRow, list_all, nat_tests, put_sorted}
+use Rattle.std.specs.List.{filter}
 use Rattle.std.specs.Option.{option_or, is_some}
 use Rattle.std.specs.declared.string.String.{String}
-use Rattle.std.specs.declared.alloc.Global.{Global}
-use Rattle.std.proofs.lemmas.Bool.Decides.{nat_tests}
 use Rattle.std.proofs.lemmas.List.Kept.{IsStrictlySortedBy-filter}
-use Rattle.farm_types.specs.Small.{IsSmallKept}
-use Rattle.farm_types.specs.Table.{put, put_all, kept_cmp}
-use Rattle.farm_types.specs.Words.{is_word, is_name_byte}
-use Rattle.farm_types.specs.declared.rows.KeptRow.{KeptRow}
-use Rattle.farm_types.proofs.Put.{put_sorted}
-use Rattle.farm_sound.proofs.Numbers.{kept_total}
+use Rattle.farm_types.specs.Names.{is_name_byte, is_word, IsSmallKept, kept_cmp, put, put_all}
 use Rattle.farm_table.proofs.Steps.{all_push}
 use Rattle.farm_core.proofs.Replies.Merged.{find_over, length_put_is, put_above, put_all_sorted, split_rows}
 use Rattle.farm_core.proofs.Replies.Packing.{is_asked, texts_tie}

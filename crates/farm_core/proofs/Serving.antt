@@ -1,19 +1,12 @@
 -- What the program does for one claim is what the machine does.
-use Rattle.std.proofs.Common.{◌≡◌, ℕ, zero, suc, ◌+◌, ◌<◌, ◌==◌, List, [], ◌∷◌, length, map, drop, get_or, Bool, true, false, cond, Option, Some, None, refl, sym, ap, ◌∙◌, arith, add-one}
-use Rattle.std.specs.List.{AllByRecursion, filter, fold, zip}
-use Rattle.std.specs.Option.{option_map, option_map_or}
-use Rattle.farm_types.specs.Farm.{Farm, members}
-use Rattle.farm_types.specs.Pass.{Served, give, give_res, give_group, give_member, pass_over, serve}
-use Rattle.farm_types.specs.Pick.{Claimed, least, is_free, shown_claim}
-use Rattle.farm_types.specs.Small.{IsSmall}
-use Rattle.farm_types.specs.declared.claims.ClaimKind.{ClaimKind}
-use Rattle.farm_types.specs.declared.rows.BoardRow.{BoardRow}
-use Rattle.farm_types.specs.declared.rows.JobRow.{JobRow}
-use Rattle.farm_types.specs.declared.rows.JobState.{JobState}
-use Rattle.farm_types.specs.declared.rows.Want.{Want}
-use Rattle.farm_sound.proofs.Lists.{filter_all}
+use Rattle.std.proofs.Common.{◌≡◌, ℕ, zero, suc, ◌+◌, ◌<◌, ◌==◌, List, [], ◌∷◌, length, map, drop, get_or, Bool, true, false, cond, Option, Some, None, refl}
+use Rattle.std.proofs.Common.{sym, ap, ◌∙◌, arith, add-one}
+use Rattle.farm_core.proofs.Names.{AllByRecursion, BoardRow, ClaimKind, filter_all, fold, IsFitJob, JobRow, JobState, option_map_or, Want, zip}
+use Rattle.std.specs.List.{filter}
+use Rattle.std.specs.Option.{option_map}
+use Rattle.farm_types.specs.Names.{Claimed, Farm, give, give_group, give_member, give_res, is_free, IsSmall, least, members, pass_over, serve, Served}
+use Rattle.farm_types.specs.Names.{shown_claim}
 use Rattle.farm_sound.proofs.Where.{AllByRecursion-map}
-use Rattle.farm_table.specs.Near.{IsFitJob}
 use Rattle.farm_core.specs.Came.{Seen}
 use Rattle.farm_core.specs.Serving.{Serves, Tries, assign_first, assign_named}
 

@@ -1,21 +1,12 @@
 -- Claims that want what was found unmet are passed over.
-use Rattle.std.proofs.Common.{◌≡◌, ◌∙◌, ◌+◌, ℕ, zero, suc, List, [], ◌∷◌, take, Bool, true, false, cond, Option, Some, None, IsSomeAnd, inl, inr, refl, sym, ap, subst, arith}
+use Rattle.std.proofs.Common.{◌≡◌, ◌∙◌, ◌+◌, ℕ, zero, suc, List, [], ◌∷◌, take, Bool, true, false, cond, Option, Some, None, IsSomeAnd, inl, inr, refl, sym, ap}
+use Rattle.std.proofs.Common.{subst, arith}
 use Rattle.std.specs.List.{filter}
-use Rattle.std.specs.Option.{option_map_or}
-use Rattle.farm_types.specs.Farm.{Farm, res_of}
-use Rattle.farm_types.specs.Pass.{Served, give, pass_over, serve}
-use Rattle.farm_types.specs.Pick.{IsAmong, Claimed, is_free, least, queue, shown_claim}
-use Rattle.farm_types.specs.Sound.{EachTwo, IsSound}
-use Rattle.farm_types.specs.declared.claims.ClaimKind.{ClaimKind}
-use Rattle.farm_types.specs.declared.rows.BoardRow.{BoardRow}
-use Rattle.farm_types.specs.declared.rows.ResRow.{ResRow}
-use Rattle.farm_types.specs.declared.rows.Want.{Want}
-use Rattle.farm_sound.proofs.Claims.{IsClaim, queue_claims}
-use Rattle.farm_sound.proofs.Lists.{among_has}
+use Rattle.farm_core.proofs.Names.{among_has, BoardRow, ClaimKind, Global, IsClaim, option_map_or, queue_claims, ResRow, Want}
+use Rattle.farm_types.specs.Names.{Claimed, EachTwo, Farm, give, is_free, IsAmong, IsSound, least, pass_over, queue, res_of, serve, Served, shown_claim}
 use Rattle.farm_pick.proofs.Merging.{unmet_stays}
 use Rattle.farm_core.specs.Came.{Seen}
 use Rattle.std.specs.Prelude.{Vec}
-use Rattle.std.specs.declared.alloc.Global.{Global}
 use Rattle.farm_core.specs.Serving.{AreMisses, MatchesRows, IsMissed, Serves, count_after, wants_of}
 use Rattle.farm_core.proofs.Passing.{asks_claim}
 

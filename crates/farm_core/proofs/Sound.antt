@@ -1,22 +1,14 @@
 -- What a sound farm gives the commands.
 use Rattle.std.proofs.Common.{◌≡◌, ◌≤◌, ◌==◌, ℕ, zero, suc, List, [], ◌∷◌, length, Bool, true, false, cond, Option, Some, None, refl, ap, subst, arith}
-use Rattle.std.specs.List.{AllByRecursion, filter}
-use Rattle.std.specs.Option.{option_map_or}
-use Rattle.farm_types.specs.Farm.{Farm, job_of, res_of}
-use Rattle.farm_types.specs.Small.{IsSmall, held_by, IsSmallType, IsSmallBoard, IsSmallRes, AreSmall}
-use Rattle.farm_types.specs.Sound.{IsSound, IsBoardRow, IsHeldBy, job_hold, res_hold, shown_hold}
-use Rattle.farm_types.specs.declared.rows.Holder.{Holder}
-use Rattle.farm_types.specs.declared.rows.BoardRow.{BoardRow}
-use Rattle.farm_types.specs.declared.rows.JobRow.{JobRow}
-use Rattle.farm_types.specs.declared.rows.ResRow.{ResRow}
+use Rattle.farm_core.proofs.Names.{AllByRecursion, AllByRecursion-weaker, BoardRow, Holder, IsFitJob, JobRow, option_map_or, ResRow, same_number}
+use Rattle.std.specs.List.{filter}
+use Rattle.farm_types.specs.Names.{AreSmall, Farm, held_by, IsBoardRow, IsHeldBy, IsSmall, IsSmallBoard, IsSmallRes, IsSmallType, IsSound, job_hold, job_of}
+use Rattle.farm_types.specs.Names.{res_hold, res_of, shown_hold}
 use Rattle.farm_types.specs.declared.rows.MetaRow.{MetaRow}
 use Rattle.farm_types.specs.declared.calls.Rows.{Rows}
-use Rattle.farm_table.specs.Near.{IsFitJob}
-use Rattle.farm_core.specs.SmallRows.{AreSmallRows}
+use Rattle.farm_core.specs.Came.{AreSmallRows}
 use Rattle.farm_core.proofs.Small.{small_frequency}
-use Rattle.farm_types.proofs.Put.{AllByRecursion-weaker}
 use Rattle.farm_sound.proofs.Accepted.{low_job, low_res}
-use Rattle.farm_sound.proofs.Tests.{same_number}
 use Rattle.farm_sound.proofs.Where.{AllByRecursion-both}
 
 module _ (F : Farm) (sound : IsSound F) where

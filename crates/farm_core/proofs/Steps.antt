@@ -1,15 +1,10 @@
 -- Steps on the tables, one after another.
 use Rattle.std.proofs.Common.{◌≡◌, ℕ, ap, sym, subst, ◌∙◌}
-use Rattle.std.specs.declared.cmp.Ordering.{Ordering}
-use Rattle.farm_types.specs.Table.{put_all, type_cmp, board_cmp, job_cmp, res_cmp, kept_cmp}
-use Rattle.farm_types.specs.Farm.{put_rows}
+use Rattle.farm_core.proofs.Names.{BoardRow, JobRow, Leads, Ordering, ResRow, Tabled}
+use Rattle.farm_types.specs.Names.{board_cmp, job_cmp, kept_cmp, put_all, put_rows, res_cmp, type_cmp}
 use Rattle.farm_types.specs.declared.calls.Rows.{Rows}
-use Rattle.farm_types.specs.declared.rows.BoardRow.{BoardRow}
-use Rattle.farm_types.specs.declared.rows.JobRow.{JobRow}
-use Rattle.farm_types.specs.declared.rows.ResRow.{ResRow}
-use Rattle.farm_table.specs.Tabled.{Leads, Tabled}
 use Rattle.farm_table.proofs.Steps.{leads_none, leads_join}
-use Rattle.farm_core.specs.Came.{AreLogged, IsAtRest, LeadOn}
+use Rattle.farm_core.specs.Came.{AreLogged, CameTo, IsAtRest, LeadOn, seen}
 use Rattle.farm_core.specs.Plain.{plain_farm}
 use Rattle.farm_core.specs.declared.tables.Tables.{Tables}
 
@@ -62,6 +57,14 @@ reservations_lead a b reservations first second = record {
 -- and where nothing changed
 pub leads_same : {R : Type 0} (cmp : R → R → Ordering) (a b : Tabled R) → b ≡ a → Leads cmp a b
 leads_same cmp a b same = subst (Leads cmp a) (sym same) (leads_none cmp a)
+
+pub stay_so : (T : Tables) (r : Tabled ResRow) → r ≡ T.reservations → CameTo T (seen T) (record T { reservations = r })
+stay_so T r same =
+    let logs = lead_on_none T in
+    record {
+      now = λ i. seen (record T { reservations = same i });
+      logs = record { types = logs.types; boards = logs.boards; jobs = logs.jobs; reservations = leads_same res_cmp _ _ same; kept = logs.kept };
+    }
 
 -- what is logged from rest on leads from there
 pub rows_led : (a b : Tables) (count : ℕ) (c : Rows) → IsAtRest a → LeadOn a b → AreLogged (record b { count = count }) c → put_rows (plain_farm a) c ≡ plain_farm (record b { count = count })

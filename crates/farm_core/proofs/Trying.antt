@@ -1,48 +1,33 @@
 -- The claims that may change the farm are tried one after the other, and lead to the end of the pass.
-use Rattle.std.proofs.Common.{◌≡◌, ◌∙◌, ◌==◌, ◌||◌, ◌&&◌, ◌+◌, ◌<◌, ◌≤◌, ℕ, List, [], ◌∷◌, length, map, filter, nat_le, Bool, true, false, cond, not, Option, Some, None, inl, inr, refl, sym, ap, subst, arith, Bor}
-use mathlib.Core.Bool.{true≢false}
-use Rattle.std.specs.List.{AllByRecursion, find, fold, list_all, list_any}
-use Rattle.std.specs.List.Sorted.{IsStrictlySortedBy}
+use Rattle.std.proofs.Common.{◌≡◌, ◌∙◌, ◌==◌, ◌||◌, ◌&&◌, ◌+◌, ◌<◌, ◌≤◌, ℕ, List, [], ◌∷◌, length, map, filter, nat_le, Bool, true, false, cond, not, Option}
+use Rattle.std.proofs.Common.{Some, None, inl, inr, refl, sym, ap, subst, arith, Bor}
+use Rattle.farm_core.proofs.Names.{AllByRecursion, among_has, BoardRow, both, bytes_eq, Claim, ClaimKind, Equal, find, fold, found_passes, Greater, idle_boards}
+use Rattle.farm_core.proofs.Names.{IdleBoard, is_lt, IsClaim, IsStrictlySortedBy, itself, JobRow, JobState, length-map, Less, list_all, list_any}
+use Rattle.farm_core.proofs.Names.{match_ordering, nat_tests, option_map_or, Ordering, queue_claims, queue_lists, Queued, queued_filter, queued_of, QueueLists}
+use Rattle.farm_core.proofs.Names.{same_number, true≢false}
 use mir.Val.{bool_byte}
-use Rattle.std.specs.Option.{option_copied, option_map_or}
-use Rattle.std.specs.Ordering.{is_lt, match_ordering}
-use Rattle.std.specs.Str.{bytes_eq}
-use Rattle.std.specs.declared.cmp.Ordering.{Ordering}
-use Rattle.std.specs.declared.cmp.Ordering.TheVariants.{Less, Equal, Greater}
+use Rattle.std.specs.Option.{option_copied}
 use Rattle.std.proofs.Math.Bool.{and-false}
-use Rattle.std.proofs.lemmas.Bool.Decides.{nat_tests}
-use Rattle.std.proofs.lemmas.List.{length-append, length-map}
-use Rattle.farm_types.specs.Limits.{highest_priority}
-use Rattle.farm_types.specs.Farm.{Farm, job_of, members}
-use Rattle.farm_types.specs.Pass.{Served, collect, give, is_group, may_collect, pass_over, serve, serve_all}
-use Rattle.farm_types.specs.Pick.{IsAmong, Claimed, claim_cmp, claims, group_claim, is_free, is_waiting, leads_claim, least, queue, res_claim, shown_claim, shown_cmp, waits}
-use Rattle.farm_types.specs.Small.{IsSmall}
-use Rattle.farm_types.specs.Sound.{IsSound}
-use Rattle.farm_types.specs.Table.{put, put_all}
-use Rattle.farm_types.specs.declared.claims.Claim.{Claim}
-use Rattle.farm_types.specs.declared.claims.ClaimKind.{ClaimKind}
-use Rattle.farm_types.specs.declared.rows.BoardRow.{BoardRow}
-use Rattle.farm_types.specs.declared.rows.JobRow.{JobRow}
-use Rattle.farm_types.specs.declared.rows.JobState.{JobState}
-use Rattle.farm_types.proofs.Put.{found_passes}
-use Rattle.farm_sound.proofs.Claims.{IsClaim, queue_claims, queue_sorted}
+use Rattle.std.proofs.lemmas.List.{length-append}
+use Rattle.farm_types.specs.Names.{claim_cmp, Claimed, claims, collect, Farm, give, group_claim, highest_priority, is_free, is_group, is_waiting, IsAmong}
+use Rattle.farm_types.specs.Names.{IsSmall, IsSound, job_of, leads_claim, least, may_collect, members, pass_over, put, put_all, queue, res_claim, serve}
+use Rattle.farm_types.specs.Names.{serve_all, Served, shown_claim, shown_cmp, waits}
+use Rattle.farm_sound.proofs.Claims.{queue_sorted}
 use Rattle.farm_sound.proofs.Collect.{collect_is, pairs_for}
-use Rattle.farm_sound.proofs.Lists.{among_has, none_pass}
-use Rattle.farm_sound.proofs.Own.{itself}
+use Rattle.farm_sound.proofs.Lists.{none_pass}
 use Rattle.farm_sound.proofs.Queue.{among_queue}
 use Rattle.farm_sound.proofs.Serve.{clock_kept, give_clock}
-use Rattle.farm_sound.proofs.Tests.{both, same_number}
 use Rattle.farm_sound.proofs.Where.{by_cases}
 use Rattle.farm_pick.specs.Heads.{is_later, last_spot}
 use Rattle.farm_pick.specs.Merged.{comes_after, rest}
-use Rattle.farm_pick.specs.Queued.{IdleBoard, QueueLists, Queued, idle_boards, queue_lists, queued_of}
 use Rattle.farm_pick.proofs.Apart.{same_bytes_back}
 use Rattle.farm_pick.proofs.Bridge.{later_same, place_of}
 use Rattle.farm_pick.proofs.Collects.{collecting_follows}
-use Rattle.farm_pick.proofs.Filling.{low_priority, numbers_differ, queued_filter}
+use Rattle.farm_pick.proofs.Filling.{low_priority, numbers_differ}
 use Rattle.farm_pick.proofs.Giving.{giving_follows}
 use Rattle.farm_pick.proofs.Later.{after_itself, later, later_none}
-use Rattle.farm_pick.proofs.Merging.{Begins, Goes, IsTrying, Skips, begins_with, begins_without, found_among, none_by, one_group, passed_by, serve_but, some_want, tried_by, unserved}
+use Rattle.farm_pick.proofs.Merging.{Begins, Goes, IsTrying, Skips, begins_with, begins_without, found_among, none_by, one_group, passed_by, serve_but}
+use Rattle.farm_pick.proofs.Merging.{some_want, tried_by, unserved}
 use Rattle.farm_core.specs.Following.{without_board, without_boards}
 use Rattle.farm_core.specs.Came.{Seen}
 use Rattle.farm_core.specs.Serving.{Begins as FirstServed, IsSkipped, IsNext, Serves, boards_for, count_after, queues_given}

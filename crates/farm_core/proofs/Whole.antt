@@ -1,21 +1,12 @@
 -- The four parts of a pass make the whole.
 use Rattle.std.proofs.Common.{◌≡◌, ◌==◌, ◌+◌, ◌∷◌, [], ℕ, List, Bool, true, false, cond, map, not, refl, sym, ap, ◌∙◌}
-use Rattle.std.specs.List.{filter, fold, list_any}
-use Rattle.std.specs.Str.{bytes_eq}
-use Rattle.farm_types.specs.Table.{change_where, job_cmp, put}
-use Rattle.farm_types.specs.Farm.{Farm}
-use Rattle.farm_types.specs.Pass.{giving_back, check_job, check_one, checks, expire, has_room, held_board, is_dead, is_due, serve_all}
-use Rattle.farm_types.specs.Pick.{Claimed, queue}
-use Rattle.farm_types.specs.declared.rows.BoardRow.{BoardRow}
-use Rattle.farm_types.specs.declared.rows.Holder.{Holder}
-use Rattle.farm_types.specs.declared.rows.ResRow.{ResRow}
-use Rattle.farm_types.specs.declared.rows.State.{State}
-use Rattle.farm_types.specs.Sound.{IsSound}
-use Rattle.farm_pick.specs.Queued.{queued_of}
+use Rattle.farm_core.proofs.Names.{BoardRow, bytes_eq, fold, Holder, list_any, queued_filter, queued_of, ResRow, State}
+use Rattle.std.specs.List.{filter}
+use Rattle.farm_types.specs.Names.{change_where, check_job, check_one, checks, Claimed, expire, Farm, giving_back, has_room, held_board, is_dead, is_due}
+use Rattle.farm_types.specs.Names.{IsSound, job_cmp, put, queue, serve_all}
 use Rattle.farm_pick.proofs.Commands.{backs_follow}
 use Rattle.farm_pick.proofs.Checking.{checks_follow}
 use Rattle.farm_pick.proofs.Ending.{ends_follow}
-use Rattle.farm_pick.proofs.Filling.{queued_filter}
 use Rattle.farm_core.specs.Following.{without_all}
 use Rattle.farm_core.proofs.Assigned.{without_each}
 use Rattle.farm_sound.proofs.Checks.{IsSound-checks, check_clock}

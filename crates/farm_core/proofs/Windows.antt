@@ -1,22 +1,18 @@
 -- The jobs whose numbers are near one another stand side by side.
-use Rattle.std.proofs.Common.{◌≡◌, ℕ, zero, suc, ◌+◌, ◌<◌, ◌≤◌, ◌-◌, ◌==◌, ◌&&◌, ◌⊎◌, inl, inr, Bool, true, false, List, [], ◌∷◌, length, get_or, Some, cond, Result, Ok, Err, MatchResult, sym, ap, ◌∙◌, refl, subst, arith}
-use Rattle.std.specs.List.{AllByRecursion, find}
-use Rattle.std.specs.Option.{option_map_or}
-use Rattle.farm_types.specs.Table.{job_cmp}
-use Rattle.std.specs.List.Sorted.{IsStrictlySortedBy, IsSortedBy, IsSearchInRange, IsBinarySearchResult}
+use Rattle.std.proofs.Common.{◌≡◌, ℕ, zero, suc, ◌+◌, ◌<◌, ◌≤◌, ◌-◌, ◌==◌, ◌&&◌, ◌⊎◌, inl, inr, Bool, true, false, List, [], ◌∷◌, length, get_or, Some, cond}
+use Rattle.std.proofs.Common.{Result, Ok, Err, MatchResult, sym, ap, ◌∙◌, refl, subst, arith}
+use Rattle.farm_core.proofs.Names.{AllByRecursion, both, Equal, find, Greater, is_lt, IsFitJob, IsStrictlySortedBy, JobRow, Less, nat_cmp}
+use Rattle.farm_core.proofs.Names.{option_map_or, ordering_reverse, same_number}
+use Rattle.farm_types.specs.Names.{job_cmp}
+use Rattle.std.specs.List.Sorted.{IsSortedBy, IsSearchInRange, IsBinarySearchResult}
 use Rattle.std.specs.Cmp.{nat_cmp_total}
-use Rattle.std.specs.Ordering.{ordering_reverse, is_lt, nat_cmp}
-use Rattle.std.specs.declared.cmp.Ordering.TheVariants.{Less, Equal, Greater}
-use Rattle.std.proofs.lemmas.Bool.Decides.{nat_tests}
 use Rattle.std.proofs.lemmas.Cmp.{ranked}
 use Rattle.std.proofs.lemmas.List.{get_or_default}
 use Rattle.std.proofs.lemmas.List.Sorted.{searchable_from_sorted}
 use Rattle.std.proofs.lemmas.Map.Keys.{Less-from_sorted}
-use Rattle.farm_types.specs.declared.rows.JobRow.{JobRow}
 use Rattle.farm_core.specs.declared.edits.JobFilter.{JobFilter}
-use Rattle.farm_core.specs.Edits.{job_passes, first_of, reach_of}
-use Rattle.farm_table.specs.Near.{IsFitJob, IsNear}
-use Rattle.farm_core.specs.PartitionPoint.{IsPartitionPoint}
+use Rattle.farm_core.specs.Edits.{job_passes, first_of, IsPartitionPoint}
+use Rattle.farm_table.specs.Near.{IsNear}
 
 same_or_less : (j k : ℕ) → j ≤ k → (j ≡ k) ⊎ (j < k)
 same_or_less j k le = grind arith
@@ -96,21 +92,14 @@ all_at P (r ∷ rows) zero d all low = all.0
 all_at P (r ∷ rows) (suc k) d all low = all_at P rows k d all.1 (omega arith)
 
 -- a job that passes has one of the filter's numbers
-both_true : (a b : Bool) → (a && b) ≡ true → (a ≡ true) × (b ≡ true)
-both_true true b is = (refl, is)
-both_true false b is = cc
+pub in_reach : (filter : JobFilter) (j : JobRow) → IsNear j → job_passes filter j ≡ true → (first_of filter ≤ j.number) × (j.number < first_of filter + 4)
+in_reach (JobFilter.Members group) j near passes = let is = same_number j.group group passes in (omega arith, omega arith)
+in_reach (JobFilter.Unstarted group) j near passes = let is = same_number j.group group (both _ _ passes).0 in (omega arith, omega arith)
+in_reach (JobFilter.Running group) j near passes = let is = same_number j.group group (both _ _ passes).0 in (omega arith, omega arith)
+in_reach (JobFilter.Scheduling group) j near passes = let is = same_number j.group group (both _ _ passes).0 in (omega arith, omega arith)
+in_reach (JobFilter.Numbered number) j near passes = let is = same_number j.number number passes in (omega arith, omega arith)
 
-same : (a b : ℕ) → (a == b) ≡ true → a ≡ b
-same a b is = grind (arith, nat_tests)
-
-pub in_reach : (filter : JobFilter) (j : JobRow) → IsNear j → job_passes filter j ≡ true → (first_of filter ≤ j.number) × (j.number < first_of filter + reach_of filter)
-in_reach (JobFilter.Members group) j near passes = let is = same j.group group passes in (omega arith, omega arith)
-in_reach (JobFilter.Unstarted group) j near passes = let is = same j.group group (both_true _ _ passes).0 in (omega arith, omega arith)
-in_reach (JobFilter.Running group) j near passes = let is = same j.group group (both_true _ _ passes).0 in (omega arith, omega arith)
-in_reach (JobFilter.Scheduling group) j near passes = let is = same j.group group (both_true _ _ passes).0 in (omega arith, omega arith)
-in_reach (JobFilter.Numbered number) j near passes = let is = same j.number number passes in (omega arith, omega arith)
-
-out_of_reach : (filter : JobFilter) (j : JobRow) → IsNear j → (v : Bool) → job_passes filter j ≡ v → ((first_of filter ≤ j.number) × (j.number < first_of filter + reach_of filter) → ⊥) → v ≡ false
+out_of_reach : (filter : JobFilter) (j : JobRow) → IsNear j → (v : Bool) → job_passes filter j ≡ v → ((first_of filter ≤ j.number) × (j.number < first_of filter + 4) → ⊥) → v ≡ false
 out_of_reach filter j near true passes out = absurd (out (in_reach filter j near passes))
 out_of_reach filter j near false passes out = refl
 
@@ -118,7 +107,7 @@ module _ (jobs : List JobRow) (filter : JobFilter) (fit : AllByRecursion IsFitJo
   pub none_before : (start : ℕ) → start ≤ length jobs → IsPartitionPoint (λ (r : JobRow). r.number) jobs (first_of filter) start → (k : ℕ) (d : JobRow) → k < start → job_passes filter (get_or jobs k d) ≡ false
   none_before start in_range place k d low = out_of_reach filter (get_or jobs k d) (all_at IsFitJob jobs k d fit (omega arith)).near _ refl (λ both. let less = place.below k d low in absurd (omega (arith, both.0)))
 
-  pub none_behind : (end : ℕ) → IsPartitionPoint (λ (r : JobRow). r.number) jobs (first_of filter + reach_of filter) end → (k : ℕ) (d : JobRow) → end ≤ k → k < length jobs → job_passes filter (get_or jobs k d) ≡ false
+  pub none_behind : (end : ℕ) → IsPartitionPoint (λ (r : JobRow). r.number) jobs (first_of filter + 4) end → (k : ℕ) (d : JobRow) → end ≤ k → k < length jobs → job_passes filter (get_or jobs k d) ≡ false
   none_behind end place k d high low = out_of_reach filter (get_or jobs k d) (all_at IsFitJob jobs k d fit low).near _ refl (λ both. let more = place.above k d high low in absurd (omega (arith, both.1)))
 
 -- none from four places behind a group's first one on is a member
@@ -136,5 +125,5 @@ none_so key P test number (r ∷ rows) all fails = by (key r == number) refl (no
   where
     by : (v : Bool) → (key r == number) ≡ v → option_map_or test (find (λ r. key r == number) rows) false ≡ false
         → option_map_or test (cond v (Some r) (find (λ r. key r == number) rows)) false ≡ false
-    by true is rest = fails r all.0 (same (key r) number is)
+    by true is rest = fails r all.0 (same_number (key r) number is)
     by false is rest = rest

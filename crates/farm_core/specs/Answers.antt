@@ -1,8 +1,6 @@
 -- What an answer of the program shows.
 use Rattle.std.specs.Prelude.{◌≡◌, ⊤}
-use Rattle.farm_types.specs.Farm.{Farm, put_rows}
-use Rattle.farm_types.specs.Machine.{Answered, Changed, Repeated, Denied}
-use Rattle.farm_types.specs.Small.{AreSmall}
+use Rattle.farm_types.specs.Names.{Answered, AreSmall, Changed, Denied, Farm, put_rows, Repeated}
 use Rattle.farm_types.specs.declared.calls.Answer.{Answer}
 use Rattle.farm_core.specs.Shown.{Shown}
 

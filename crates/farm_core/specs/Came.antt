@@ -1,10 +1,11 @@
 -- How a command leads from tables to tables in place.
 use Rattle.std.specs.Prelude.{◌≡◌, ℕ, List, []}
-use Rattle.farm_types.specs.Table.{type_cmp, board_cmp, job_cmp, res_cmp, kept_cmp}
-use Rattle.farm_types.specs.Change.{act, done_with}
-use Rattle.farm_types.specs.Farm.{Farm}
-use Rattle.farm_types.specs.declared.calls.Rows.{Rows}
+use Rattle.std.specs.List.{AllByRecursion}
+use Rattle.farm_types.specs.Names.{act, board_cmp, done_with, Farm, IsSmall, IsSmallBoard, IsSmallJob, IsSmallKept, IsSmallRes, IsSmallType}
+use Rattle.farm_types.specs.Names.{job_cmp, kept_cmp, res_cmp, type_cmp}
 use Rattle.farm_types.specs.declared.calls.Cmd.{Cmd}
+use Rattle.farm_types.specs.declared.calls.Rows.{Rows}
+use Rattle.farm_types.specs.declared.rows.Reply.{Reply}
 use Rattle.farm_pick.specs.Queued.{QueueLists}
 use Rattle.farm_table.specs.Tabled.{Leads}
 use Rattle.farm_core.specs.Following.{queues_after}
@@ -64,3 +65,14 @@ pub record AreLogged (t : Tables) (c : Rows) : Type 0 where
     count = t.count;
     next = t.next;
   }
+
+-- each number of the changed rows is small, the farm's own four aside
+pub record AreSmallRows (c : Rows) : Type 0 where
+  pub types : AllByRecursion IsSmallType c.types.items
+  pub boards : AllByRecursion IsSmallBoard c.boards.items
+  pub jobs : AllByRecursion IsSmallJob c.jobs.items
+  pub reservations : AllByRecursion IsSmallRes c.reservations.items
+  pub kept : AllByRecursion IsSmallKept c.kept.items
+
+abbrev pub IsSmallReply : Reply → Type 0
+IsSmallReply r = IsSmall r.0 × IsSmall r.1 × IsSmall r.2

@@ -1,27 +1,21 @@
 -- What happens to the rows of jobs and reservations, and to the boards that they hold.
-use Rattle.std.specs.Prelude.{ℕ, ◌==◌, ◌&&◌, Bool, List, [], Option, None, Some}
-use Rattle.std.specs.Prelude.{if◌then◌else◌, option_copied, unwrap_or}
+use Rattle.std.specs.Prelude.{ℕ, ◌==◌, ◌&&◌, ◌≤◌, ◌<◌, Bool, List, [], length, get_or, Option, None, Some, if◌then◌else◌, option_copied, unwrap_or}
 use Rattle.std.specs.Option.{option_or}
-use Rattle.farm_types.specs.Codes.{same_job_state}
-use Rattle.farm_types.specs.Limits.{most_wants}
-use Rattle.farm_types.specs.Farm.{empty_farm}
-use Rattle.farm_types.specs.Pass.{freed_board, held_board, is_dead, is_job_so, is_res_so}
-use Rattle.farm_types.specs.Change.{in_state, is_unstarted, after_check, after_job}
-use Rattle.farm_types.specs.Small.{IsSmall, held_by}
-use Rattle.farm_types.specs.declared.rows.Holder.{Holder}
-use Rattle.farm_types.specs.declared.rows.JobState.{JobState}
-use Rattle.farm_types.specs.declared.rows.State.{State}
-use Rattle.farm_types.specs.declared.rows.Outcome.{Outcome}
+use Rattle.farm_types.specs.Names.{after_check, after_job, empty_farm, freed_board, held_board, held_by, in_state, is_dead, is_job_so, is_res_so, is_unstarted}
+use Rattle.farm_types.specs.Names.{IsSmall, same_job_state}
 use Rattle.farm_types.specs.declared.rows.BoardRow.{BoardRow}
+use Rattle.farm_types.specs.declared.rows.Holder.{Holder}
 use Rattle.farm_types.specs.declared.rows.JobRow.{JobRow}
+use Rattle.farm_types.specs.declared.rows.JobState.{JobState}
+use Rattle.farm_types.specs.declared.rows.Outcome.{Outcome}
 use Rattle.farm_types.specs.declared.rows.ResRow.{ResRow}
+use Rattle.farm_types.specs.declared.rows.State.{State}
 use Rattle.farm_core.specs.declared.board_effect.BoardEffect.{BoardEffect}
 use Rattle.farm_core.specs.declared.edits.JobEdit.{JobEdit}
 use Rattle.farm_core.specs.declared.edits.JobFilter.{JobFilter}
 use Rattle.farm_core.specs.declared.edits.Placement.{Placement}
 use Rattle.farm_core.specs.declared.edits.Holders.{Holders}
 use Rattle.farm_core.specs.declared.edits.ResEdit.{ResEdit}
-use Rattle.farm_core.specs.declared.edits.ResFilter.{ResFilter}
 
 -- which jobs pass
 abbrev pub job_passes : JobFilter → JobRow → Bool
@@ -33,20 +27,13 @@ job_passes (JobFilter.Scheduling group) j = (j.group == group)
     && same_job_state j.state JobState.Scheduling
 job_passes (JobFilter.Numbered number) j = j.number == number
 
--- the least number of a job that passes, and how far the numbers of all reach
+-- the least number of a job that passes
 abbrev pub first_of : JobFilter → ℕ
 first_of (JobFilter.Members group) = group
 first_of (JobFilter.Unstarted group) = group
 first_of (JobFilter.Running group) = group
 first_of (JobFilter.Scheduling group) = group
 first_of (JobFilter.Numbered number) = number
-
-abbrev pub reach_of : JobFilter → ℕ
-reach_of (JobFilter.Members group) = most_wants
-reach_of (JobFilter.Unstarted group) = most_wants
-reach_of (JobFilter.Running group) = most_wants
-reach_of (JobFilter.Scheduling group) = most_wants
-reach_of (JobFilter.Numbered number) = 1
 
 -- the board that a job's row names
 abbrev pub placed_on : Placement → Option (List ℕ) → Option (List ℕ)
@@ -69,16 +56,12 @@ res_changed e r = record r {
   board = option_or (option_copied e.board) r.board;
 }
 
--- which reservations pass
-abbrev pub res_passes : ResFilter → ResRow → Bool
-res_passes (ResFilter.Numbered number) r = r.number == number
-res_passes (ResFilter.Dead now) r = is_dead now r
-
--- whether a holder is one of some rows that pass
+-- whether a holder is a job that passes, the reservation of a number, or one that is dead
 abbrev pub are_held_by : Holders → Holder → Bool
 are_held_by (Holders.Jobs jobs filter) holder = is_job_so (record empty_farm { jobs = jobs.now.rows }) (job_passes filter) holder
-are_held_by (Holders.Res reservations filter) holder =
-    is_res_so (record empty_farm { reservations = reservations.now.rows }) (res_passes filter) holder
+are_held_by (Holders.Res reservations number) holder =
+    is_res_so (record empty_farm { reservations = reservations.now.rows }) (λ r. r.number == number) holder
+are_held_by (Holders.Dead reservations now) holder = is_res_so (record empty_farm { reservations = reservations.now.rows }) (is_dead now) holder
 
 -- what becomes of a board
 abbrev pub board_after : BoardEffect → BoardRow → BoardRow
@@ -102,3 +85,9 @@ IsSmallEffect BoardEffect.Free = Unit {0}
 IsSmallEffect (BoardEffect.State state) = Unit {0}
 IsSmallEffect (BoardEffect.Reserve holder) = IsSmall (held_by holder)
 IsSmallEffect (BoardEffect.End checking outcome now) = IsSmall now
+
+-- among rows that rise by their numbers those before a place have smaller ones, those from it on have not
+pub record IsPartitionPoint {R : Type 0} (number_of : R → ℕ) (rows : List R) (number place : ℕ)
+    : Type 0 where
+  pub below : (k : ℕ) (d : R) → k < place → number_of (get_or rows k d) < number
+  pub above : (k : ℕ) (d : R) → place ≤ k → k < length rows → number ≤ number_of (get_or rows k d)

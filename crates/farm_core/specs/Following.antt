@@ -1,25 +1,19 @@
 -- How the queues follow the rows.
-use Rattle.std.specs.Prelude.{◌≡◌, ◌≢◌, ◌==◌, ◌+◌, ℕ, List, Option, None, false, not, map}
-use Rattle.std.specs.Prelude.{if◌then◌else◌}
+use Rattle.std.specs.Prelude.{◌≡◌, ◌≢◌, ◌==◌, ◌+◌, ℕ, List, Option, None, false, not, map, if◌then◌else◌}
 use Rattle.std.specs.List.{AllByRecursion, filter, fold}
 use Rattle.std.specs.List.Sorted.{IsStrictlySortedBy}
 use Rattle.std.specs.Option.{option_map_or}
 use Rattle.std.specs.Str.{bytes_eq}
-use Rattle.farm_types.specs.Limits.{lease}
-use Rattle.farm_types.specs.Table.{put, put_all, board_cmp}
-use Rattle.farm_types.specs.Farm.{Farm, job_of}
-use Rattle.farm_types.specs.Pick.{Claimed, is_free, res_claim}
-use Rattle.farm_types.specs.Change.{act, new_res}
-use Rattle.farm_types.specs.declared.calls.Cmd.{Cmd}
-use Rattle.farm_types.specs.declared.rows.TypeRow.{TypeRow}
+use Rattle.farm_types.specs.Names.{act, board_cmp, Claimed, Farm, is_free, job_of, lease, new_res, put, put_all, res_claim}
 use Rattle.farm_types.specs.declared.rows.BoardRow.{BoardRow}
-use Rattle.farm_types.specs.declared.rows.JobRow.{JobRow}
-use Rattle.farm_types.specs.declared.rows.ResRow.{ResRow}
 use Rattle.farm_types.specs.declared.claims.Claim.{Claim}
 use Rattle.farm_types.specs.declared.claims.ClaimKind.{ClaimKind}
+use Rattle.farm_types.specs.declared.calls.Cmd.{Cmd}
+use Rattle.farm_types.specs.declared.rows.JobRow.{JobRow}
+use Rattle.farm_types.specs.declared.rows.ResRow.{ResRow}
+use Rattle.farm_types.specs.declared.rows.TypeRow.{TypeRow}
 use Rattle.farm_sound.specs.Keys.{job_in}
-use Rattle.farm_pick.specs.Queued.{IdleBoard, QueueLists, Queued, idle_board, idle_boards}
-use Rattle.farm_pick.specs.Queued.{queue_lists, queued_of}
+use Rattle.farm_pick.specs.Queued.{IdleBoard, QueueLists, Queued, idle_board, idle_boards, queue_lists, queued_of}
 use Rattle.farm_pick.specs.Index.{named_cmp, queued_cmp}
 use Rattle.farm_core.specs.declared.tables.Tables.{Tables}
 

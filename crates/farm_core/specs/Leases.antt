@@ -1,13 +1,11 @@
 -- Which leases are noted: each that may yet end.
-use Rattle.std.specs.Prelude.{◌≡◌, ◌||◌, ℕ, Bool, true, false, List, Option, Some, None}
-use Rattle.std.specs.Prelude.{if◌then◌else◌}
+use Rattle.std.specs.Prelude.{◌≡◌, ◌||◌, ℕ, Bool, true, false, List}
 use Rattle.std.specs.List.{AllByRecursion}
 use Rattle.std.specs.BTreeSet.{BTreeSet, contains}
 use Rattle.std.specs.Option.{option_map_or}
 use Rattle.std.specs.Ordering.{nat_cmp, ordering_then}
 use Rattle.std.specs.declared.cmp.Ordering.{Ordering}
-use Rattle.farm_types.specs.Codes.{same_res_state}
-use Rattle.farm_types.specs.Pass.{is_dead}
+use Rattle.farm_types.specs.Names.{is_dead, same_res_state}
 use Rattle.farm_types.specs.declared.rows.ResRow.{ResRow}
 use Rattle.farm_types.specs.declared.rows.ResState.{ResState}
 use Rattle.farm_sound.specs.Keys.{res_in}
@@ -35,10 +33,6 @@ IsNoted leases r = may_end r ≡ true → is_noted leases (lease_of r) ≡ true
 
 abbrev pub AreNoted : BTreeSet Lease → List ResRow → Type 0
 AreNoted leases rows = AllByRecursion (IsNoted leases) rows
-
--- the lease of a reservation, if it may end
-abbrev pub lease_if : ResRow → Option Lease
-lease_if r = if may_end r then Some (lease_of r) else None
 
 -- no lease is lost
 abbrev pub Grows : BTreeSet Lease → BTreeSet Lease → Type 0

@@ -1,12 +1,9 @@
 pub mod Plain
-pub mod PartitionPoint
 pub mod Leases
 pub mod Replies
-pub mod SmallRows
 pub mod Following
 pub mod Came
 pub mod Edits
-pub mod Collecting
 pub mod Serving
 pub mod Shown
 pub mod Answers

@@ -1,5 +1,5 @@
 -- The farm that the program's tables are.
-use Rattle.farm_types.specs.Farm.{Farm}
+use Rattle.farm_types.specs.Names.{Farm}
 use Rattle.farm_core.specs.declared.tables.Tables.{Tables}
 
 abbrev pub plain_farm : Tables → Farm

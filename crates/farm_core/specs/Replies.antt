@@ -6,9 +6,7 @@ use Rattle.std.specs.List.Sorted.{IsStrictlySortedBy}
 use Rattle.std.specs.String.{string_bytes}
 use Rattle.std.specs.declared.string.String.{String}
 use Rattle.std.specs.declared.alloc.Global.{Global}
-use Rattle.farm_types.specs.Small.{IsSmallKept}
-use Rattle.farm_types.specs.Table.{put_all, kept_cmp}
-use Rattle.farm_types.specs.Words.{is_name_byte}
+use Rattle.farm_types.specs.Names.{is_name_byte, IsSmallKept, kept_cmp, put_all}
 use Rattle.farm_types.specs.declared.rows.KeptRow.{KeptRow}
 use Rattle.farm_core.specs.declared.kept.KeptReply.{KeptReply}
 use Rattle.farm_core.specs.declared.kept.packed.Entry.{Entry}

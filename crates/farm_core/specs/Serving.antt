@@ -1,27 +1,23 @@
--- What the program does for one claim of a pass.
-use Rattle.std.specs.Prelude.{◌≡◌, ◌≤◌, ◌==◌, ◌+◌, ℕ, Bool, true, false, List, [], ◌∷◌}
-use Rattle.std.specs.Prelude.{length, map, not, slice_get, take, Vec}
-use Rattle.std.specs.Prelude.{IsSomeAnd, Option, Some, None, filter_map, option_map}
-use Rattle.std.specs.Prelude.{if◌then◌else◌}
+-- What the program does for one claim of a pass, and for a member of a group that collects.
+use Rattle.std.specs.Prelude.{◌≡◌, ◌≤◌, ◌==◌, ◌+◌, ℕ, Bool, true, false, List, [], ◌∷◌, length, map, not, slice_get, take, Vec, IsSomeAnd, Option, Some, None}
+use Rattle.std.specs.Prelude.{filter_map, option_map, if◌then◌else◌}
 use Rattle.std.specs.List.{AllByRecursion, filter, fold}
 use Rattle.std.specs.Option.{option_map_or}
 use Rattle.std.specs.Ordering.{is_lt}
 use Rattle.std.specs.Str.{bytes_eq}
 use Rattle.std.specs.declared.alloc.Global.{Global}
-use Rattle.farm_types.specs.Table.{change_where}
-use Rattle.farm_types.specs.Farm.{Farm, job_of, members, res_of}
-use Rattle.farm_types.specs.Pass.{allocated_reservation, held_board, is_group, pass_over, placed_job, serve}
-use Rattle.farm_types.specs.Pick.{IsAmong, Claimed, is_free, leads_claim, least, queue}
-use Rattle.farm_types.specs.Pick.{shown_claim, shown_cmp}
-use Rattle.farm_pick.specs.Heads.{is_later, last_spot}
-use Rattle.farm_pick.specs.Queued.{QueueLists, idle_boards, queue_lists}
-use Rattle.farm_types.specs.declared.rows.Holder.{Holder}
-use Rattle.farm_types.specs.declared.rows.JobState.{JobState}
-use Rattle.farm_types.specs.declared.rows.State.{State}
+use Rattle.farm_types.specs.Names.{allocated_reservation, change_where, Claimed, collect_member, Farm, held_board, is_free, is_group, IsAmong, job_of}
+use Rattle.farm_types.specs.Names.{leads_claim, least, members, pass_over, placed_job, queue, res_of, serve, shown_claim, shown_cmp}
+use Rattle.farm_types.specs.declared.rows.BoardRow.{BoardRow}
 use Rattle.farm_types.specs.declared.claims.Claim.{Claim}
 use Rattle.farm_types.specs.declared.claims.ClaimKind.{ClaimKind}
-use Rattle.farm_types.specs.declared.rows.BoardRow.{BoardRow}
+use Rattle.farm_types.specs.declared.rows.Holder.{Holder}
+use Rattle.farm_types.specs.declared.rows.JobRow.{JobRow}
+use Rattle.farm_types.specs.declared.rows.JobState.{JobState}
+use Rattle.farm_types.specs.declared.rows.State.{State}
 use Rattle.farm_types.specs.declared.rows.Want.{Want}
+use Rattle.farm_pick.specs.Heads.{is_later, last_spot}
+use Rattle.farm_pick.specs.Queued.{QueueLists, idle_boards, queue_lists}
 use Rattle.farm_core.specs.Came.{Seen}
 use Rattle.farm_core.specs.Following.{without_boards}
 
@@ -127,3 +123,14 @@ pub record Begins (D : Seen) (former count : ℕ) (E : Seen) : Type 0 where
   pub serves : fold (serve D.farm.clock) (record { farm = D.farm; claims = 0 })
       (filter (is_group former) (queue D.farm)) ≡ record { farm = E.farm; claims = count }
   pub fits : E.queues ≡ queue_lists E.farm
+
+-- the job of that number is there and wants what this row wants
+abbrev pub HasWant : Farm → ℕ → JobRow → Type 0
+HasWant F number j = (j.number ≡ number) × IsSomeAnd (job_of F number) (λ r. r.want ≡ j.want)
+
+-- the member takes what it gets, and the free boards follow
+abbrev pub Collects : Seen → JobRow → Seen → Type 0
+Collects D j E = E ≡ record D {
+  farm = collect_member D.farm j;
+  queues = record D.queues { boards = idle_boards (collect_member D.farm j) };
+}

@@ -10,7 +10,7 @@ ghost use Rattle.farm_pick.specs.Queued.{queue_lists};
 ghost use Rattle.farm_core.specs.Came.{Acts, AreLogged, CameTo, IsAtRest, seen, seen_at};
 ghost use Rattle.farm_core.specs.Following.{FollowsIn, IsFresh};
 ghost use Rattle.farm_core.specs.Plain.{plain_farm};
-ghost use Rattle.farm_core.specs.SmallRows.{AreSmallRows, IsSmallReply};
+ghost use Rattle.farm_core.specs.Came.{AreSmallRows, IsSmallReply};
 
 use crate::tables::Tables;
 use farm_types::{Call, Changes, Cmd, KeptRow, MetaRow, Reply};

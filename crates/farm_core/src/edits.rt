@@ -7,7 +7,7 @@ ghost use Rattle.farm_types.specs.Pass.{is_dead, change_jobs, change_res};
 ghost use Rattle.farm_types.specs.declared.rows.ResRow.{ResRow};
 ghost use Rattle.farm_types.specs.Small.{IsSmall};
 ghost use Rattle.farm_table.specs.Near.{IsNear};
-ghost use Rattle.farm_core.specs.Edits.{first_of, job_passes, reach_of, res_passes, IsSmallEffect};
+ghost use Rattle.farm_core.specs.Edits.{first_of, job_passes, IsSmallEffect};
 ghost use Rattle.farm_core.specs.Edits.{board_after, job_changed, res_changed};
 ghost use Rattle.farm_core.specs.declared.edits.Placement.{Placement};
 ghost use Rattle.farm_core.specs.Came.{CameTo, seen, seen_at};
@@ -22,7 +22,7 @@ use farm_types::{BoardRow, Holder, JobRow, JobState, MOST_WANTS, Name, Outcome, 
 use std::alloc::AllocError;
 
 /// How far the numbers of a group's members reach.
-const GROUP_REACH: u64 = MOST_WANTS as u64;
+pub const GROUP_REACH: u64 = MOST_WANTS as u64;
 
 /// Which jobs: members of a group, or one job by its number.
 #[derive(Clone, Copy, Debug)]
@@ -94,16 +94,6 @@ impl JobFilter {
         }
     }
 
-    /// How far the numbers of the jobs that pass reach.
-    pub fn reach(&self) -> u64
-        ensures { result ≡ reach_of self.now }
-    {
-        match self {
-            JobFilter::Numbered(_) => 1,
-            _ => GROUP_REACH,
-        }
-    }
-
     /// Whether a job of that number may pass. A no costs no look at its row, so contracts say what
     /// it means.
     pub fn reaches(&self, number: u64) -> bool
@@ -111,7 +101,7 @@ impl JobFilter {
             → job_passes self.now j ≡ false }
     {
         let first = self.first();
-        first <= number && number - first < self.reach()
+        first <= number && number - first < GROUP_REACH
     }
 
     /// Whether a job passes.
@@ -160,13 +150,6 @@ impl Edit<JobRow> for JobEdit<'_> {
     }
 }
 
-/// Which reservations: one by its number, or those that are dead at a moment.
-#[derive(Clone, Copy, Debug)]
-pub enum ResFilter {
-    Numbered(u64),
-    Dead(u64),
-}
-
 /// A change of one reservation, by its number: each field that is given.
 #[derive(Clone, Copy, Debug)]
 pub struct ResEdit<'a> {
@@ -202,30 +185,6 @@ impl<'a> ResEdit<'a> {
     }
 }
 
-impl ResFilter {
-    /// Whether a reservation of that number may pass. A no costs no look at its row, so contracts
-    /// say what it means.
-    pub fn reaches(&self, number: u64) -> bool
-        ensures { result ≡ false → (r : ResRow) → r.number ≡ number
-            → res_passes self.now r ≡ false }
-    {
-        match *self {
-            ResFilter::Numbered(first) => number == first,
-            ResFilter::Dead(_) => true,
-        }
-    }
-
-    /// Whether a reservation passes.
-    pub fn accepts(&self, row: &ResRow) -> bool
-        ensures { result ≡ res_passes self.now row.now }
-    {
-        match *self {
-            ResFilter::Numbered(number) => row.number == number,
-            ResFilter::Dead(now) => is_dead(now, row),
-        }
-    }
-}
-
 impl Edit<ResRow> for ResEdit<'_> {
     ghost use Rattle.std.specs.Prelude.{◌==◌};
     ghost use Rattle.farm_core.specs.Edits.{res_changed};
@@ -247,11 +206,13 @@ impl Edit<ResRow> for ResEdit<'_> {
     }
 }
 
-/// Rows that may hold boards: the jobs, or the reservations, that pass.
+/// Rows that may hold boards: the jobs that pass, the reservation of a number, or those that are
+/// dead at a moment.
 #[derive(Drop)]
 pub enum Holders<'a> {
     Jobs(&'a Table<JobRow>, JobFilter),
-    Res(&'a ResTable, ResFilter),
+    Res(&'a ResTable, u64),
+    Dead(&'a ResTable, u64),
 }
 
 /// What becomes of the boards that they hold.
@@ -271,7 +232,8 @@ impl Edit<BoardRow> for Held<'_> {
     fn passes(&self, row: &BoardRow) -> bool {
         match (&self.holders, row.holder) {
             (Holders::Jobs(jobs, filter), Holder::Job(number)) => passes(jobs, filter, number),
-            (Holders::Res(rows, filter), Holder::Res(number)) => rows.passes(filter, number),
+            (Holders::Res(rows, one), Holder::Res(number)) => rows.has(*one, number),
+            (Holders::Dead(rows, now), Holder::Res(number)) => rows.is_dead_at(number, *now),
             _ => false,
         }
     }
@@ -316,7 +278,7 @@ impl Tables {
             (plain_farm self.old)) (seen self.old)) self.new) }
     {
         // The board first, as above.
-        let holders = Holders::Res(&self.reservations, ResFilter::Numbered(edit.number));
+        let holders = Holders::Res(&self.reservations, edit.number);
         self.boards.change_where(&Held { holders, effect })?;
         self.reservations.edit(edit)
     }

@@ -56,6 +56,23 @@ fn take_boards(queues: &mut Queues, boards: &[BoardRow], places: &[usize])
     }
 }
 
+/// Puts a claim into its queue: that of its first member's type, or of the reservations.
+fn put_waiting(queues: &mut Queues, jobs: &Table<JobRow>, claim: Claim) -> Result<(), AllocError>
+    requires { IsFresh claim.number queues.old.claims }
+    ensures { OnOk result (queues.new ≡ record queues.old {
+      claims = put queued_cmp queues.old.claims
+          (record { claim = claim; kind = kind_in jobs.now.rows claim });
+    }) }
+{
+    match claim.kind {
+        ClaimKind::Reservation => queues.put_claim(claim, &None),
+        ClaimKind::Group => match jobs.find(&claim.number) {
+            Some(job) => queues.put_claim(claim, &job.want.kind),
+            None => queues.put_claim(claim, &None),
+        },
+    }
+}
+
 impl Tables {
     /// The free boards follow the boards that are logged.
     pub fn refresh_free_boards(&mut self) -> Result<(), AllocError>
@@ -83,26 +100,7 @@ impl Tables {
         self.queues.take_claim(number);
         take_boards(&mut self.queues, self.boards.rows(), places);
     }
-}
 
-/// Puts a claim into its queue: that of its first member's type, or of the reservations.
-fn put_waiting(queues: &mut Queues, jobs: &Table<JobRow>, claim: Claim) -> Result<(), AllocError>
-    requires { IsFresh claim.number queues.old.claims }
-    ensures { OnOk result (queues.new ≡ record queues.old {
-      claims = put queued_cmp queues.old.claims
-          (record { claim = claim; kind = kind_in jobs.now.rows claim });
-    }) }
-{
-    match claim.kind {
-        ClaimKind::Reservation => queues.put_claim(claim, &None),
-        ClaimKind::Group => match jobs.find(&claim.number) {
-            Some(job) => queues.put_claim(claim, &job.want.kind),
-            None => queues.put_claim(claim, &None),
-        },
-    }
-}
-
-impl Tables {
     /// Fills the empty queues: the free boards, and the claims of the rows, the last one first.
     /// With J jobs, R reservations and C claims it costs O(J + R + C log C).
     pub fn fill_queues(&mut self) -> Result<(), AllocError>

@@ -6,27 +6,15 @@ ghost use Rattle.farm_types.specs.Table.{change_where, job_cmp};
 ghost use Rattle.farm_types.specs.declared.rows.JobRow.{JobRow};
 ghost use Rattle.farm_sound.specs.Keys.{job_in};
 ghost use Rattle.farm_table.specs.Tabled.{Leads};
-ghost use Rattle.farm_core.specs.Edits.{job_passes, job_changed, first_of};
-ghost use Rattle.farm_core.specs.PartitionPoint.{IsPartitionPoint};
+ghost use Rattle.farm_core.specs.Edits.{job_passes, job_changed, first_of, IsPartitionPoint};
 
-use crate::edits::{JobEdit, JobFilter};
+use crate::edits::{GROUP_REACH, JobEdit, JobFilter};
 use farm_table::Table;
 use farm_types::JobRow;
 use std::alloc::AllocError;
 
 /// How many places from a guess on are looked at before a search.
 const GUESS_REACH: usize = 5;
-
-/// How many jobs have a smaller number, by binary search.
-fn place_in(jobs: &Table<JobRow>, number: u64) -> usize
-    ensures within { result ≤ length jobs.now.rows }
-    ensures place { IsPartitionPoint (λ (r : JobRow). r.number) jobs.now.rows number result }
-{
-    match jobs.place_of(&number) {
-        Ok(at) => at,
-        Err(at) => at,
-    }
-}
 
 /// How many jobs have a smaller number: where the job of that number is one of the few from a guess
 /// on it is seen there, else it costs a binary search.
@@ -42,7 +30,10 @@ fn place_near(jobs: &Table<JobRow>, guess: usize, number: u64) -> usize
             }
         }
     }
-    place_in(jobs, number)
+    match jobs.place_of(&number) {
+        Ok(at) => at,
+        Err(at) => at,
+    }
 }
 
 /// How many jobs have a smaller number. Jobs and reservations draw their numbers from one counter,
@@ -77,6 +68,6 @@ pub fn edit_jobs(jobs: &mut Table<JobRow>, edit: JobEdit<'_>) -> Result<(), Allo
     let _rows = jobs.rows();
     let first = edit.jobs.first();
     let start = place_of(jobs, first);
-    let end = place_near(jobs, start, first + edit.jobs.reach());
+    let end = place_near(jobs, start, first + GROUP_REACH);
     jobs.change_between(start, end, &edit)
 }

@@ -65,7 +65,7 @@ impl fmt::Debug for KeptReplies {
         let mut shown = f.debug_map();
         let mut packed = self.packed.entries.as_slice();
         for (text, reply) in &self.others {
-            let words = words_in(text.as_str());
+            let words = text.as_str().split_once(' ').unwrap_or((text.as_str(), ""));
             while let [entry, rest @ ..] = packed
                 && self.packed.words(entry) <= words
             {
@@ -82,11 +82,6 @@ impl fmt::Debug for KeptReplies {
         }
         shown.finish()
     }
-}
-
-/// The caller's and the key's words in a text under which the map has a reply.
-fn words_in(text: &str) -> (&str, &str) {
-    text.split_once(' ').unwrap_or((text, ""))
 }
 
 /// The text under which the map has a caller's key. It lies in the value itself, so that a look-up

@@ -2,8 +2,7 @@
 //!
 //! Read `specs/` in the order Plain, Shown, Answers, which say what callers see; then Replies, how
 //! kept replies are kept, and Leases, what stands beside each reservation;
-//! then PartitionPoint, SmallRows, Following, Came, Edits, Serving, which say what a
-//! command keeps on its way.
+//! then Following, Came, Edits, Serving, which say what a command keeps on its way.
 #![tactic(auto)]
 
 mod board_effect;

@@ -10,11 +10,11 @@ ghost use Rattle.farm_types.specs.Small.{IsSmall, IsSmallRes};
 ghost use Rattle.farm_types.specs.declared.rows.ResRow.{ResRow};
 ghost use Rattle.farm_sound.specs.Keys.{res_in};
 ghost use Rattle.farm_table.specs.Tabled.{Leads};
-ghost use Rattle.farm_core.specs.Leases.{may_end_in, lease_if, is_dead_at, is_noted, AreNoted};
+ghost use Rattle.farm_core.specs.Leases.{may_end_in, is_dead_at, is_noted, AreNoted};
 ghost use Rattle.farm_core.specs.Leases.{Grows};
-ghost use Rattle.farm_core.specs.Edits.{res_changed, res_passes};
+ghost use Rattle.farm_core.specs.Edits.{res_changed};
 
-use crate::edits::{ResEdit, ResFilter, is_dead};
+use crate::edits::{ResEdit, is_dead};
 use farm_table::Table;
 use farm_types::{ResRow, ResState};
 use std::alloc::{AllocError, Global};
@@ -28,41 +28,32 @@ pub struct Lease {
     pub number: u64,
 }
 
-/// The lease of a reservation in a state, if it may end: it is dead once its lease is over while it
-/// waits or has been allocated.
-fn lease_if(state: ResState, deadline: u64, number: u64) -> Option<Lease>
-    ensures { result ≡ (if may_end_in state
-        then Some (record { deadline = deadline; number = number }) else None) }
-{
-    matches!(state, ResState::Waiting | ResState::Allocated).then_some(Lease { deadline, number })
-}
+/// Leases in the order in which they end.
+type Leases = BTreeSet<Lease>;
 
-/// The lease of a reservation, if it may end.
-fn lease_of(row: &ResRow) -> Option<Lease>
-    ensures { result ≡ lease_if row.now }
-{
-    lease_if(row.state, row.deadline, row.number)
-}
-
-/// Notes a lease, if there is one. With L leases it costs O(log L). No lease is lost, also where
-/// memory runs out.
-fn note(leases: &mut BTreeSet<Lease>, lease: Option<Lease>) -> Result<(), AllocError>
-    ensures noted { OnOk result (IfSome lease (λ l. is_noted leases.new l ≡ true)) }
+/// Notes the lease of a reservation in a state, if it may end: it is dead once its lease is over
+/// while it waits or has been allocated. With L leases it costs O(log L). No lease is lost, also
+/// where memory runs out.
+fn note(leases: &mut Leases, state: ResState, deadline: u64, number: u64) -> Result<(), AllocError>
+    ensures noted { OnOk result (may_end_in state ≡ true → is_noted leases.new (record {
+      deadline = deadline;
+      number = number;
+    }) ≡ true) }
     ensures grows { Grows leases.old leases.new }
 {
-    if let Some(lease) = lease {
-        let _added = leases.insert(lease)?;
+    if matches!(state, ResState::Waiting | ResState::Allocated) {
+        let _added = leases.insert(Lease { deadline, number })?;
     }
     Ok(())
 }
 
 /// Notes the leases of some reservations.
-fn note_leases(leases: &mut BTreeSet<Lease>, rows: &[ResRow]) -> Result<(), AllocError>
+fn note_leases(leases: &mut Leases, rows: &[ResRow]) -> Result<(), AllocError>
     ensures noted { OnOk result (AreNoted leases.new rows.now) }
     ensures grows { OnOk result (Grows leases.old leases.new) }
 {
     for row in rows {
-        note(leases, lease_of(row))?;
+        note(leases, row.state, row.deadline, row.number)?;
     }
     Ok(())
 }
@@ -79,7 +70,7 @@ fn is_dead_at(table: &Table<ResRow>, number: u64, now: u64) -> bool
 /// has ended, are forgotten on the way.
 ///
 /// With R reservations and L leases each lease that is forgotten costs O(log R + log L).
-fn first_dead(leases: &mut BTreeSet<Lease>, table: &Table<ResRow>, now: u64) -> Option<u64>
+fn first_dead(leases: &mut Leases, table: &Table<ResRow>, now: u64) -> Option<u64>
     requires { AreNoted leases.old table.now.rows }
     ensures noted { AreNoted leases.new table.now.rows }
     ensures dead { IfSome result (λ number. is_dead_at now table.now.rows number ≡ true) }
@@ -107,7 +98,7 @@ fn first_dead(leases: &mut BTreeSet<Lease>, table: &Table<ResRow>, now: u64) -> 
 #[derive(Drop)]
 pub struct ResTable {
     table: Table<ResRow>,
-    leases: BTreeSet<Lease>,
+    leases: Leases,
 }
 
 impl Model for ResTable {
@@ -120,15 +111,6 @@ impl Model for ResTable {
     ghost view = { λ t. t.table };
 
     ghost invariant = { λ t. AreNoted t.leases t.table.rows };
-}
-
-/// The lease that a reservation has once it was changed, if it may end then.
-fn lease_after(edit: &ResEdit<'_>, row: &ResRow) -> Option<Lease>
-    ensures { result ≡ lease_if (res_changed edit.now row.now) }
-{
-    let state = edit.state.unwrap_or(row.state);
-    let deadline = edit.deadline.unwrap_or(row.deadline);
-    lease_if(state, deadline, row.number)
 }
 
 impl ResTable {
@@ -178,13 +160,21 @@ impl ResTable {
         self.table.find(&number)
     }
 
-    /// Whether the reservation of a number passes, by binary search where one of that number may.
-    pub fn passes(&self, filter: &ResFilter, number: u64) -> bool
-        ensures { result ≡ option_map_or (res_passes filter.now) (res_in self.now.rows number) false }
+    /// Whether a number is that of the one reservation, and it is there: by binary search, where it
+    /// is the number.
+    pub fn has(&self, one: u64, number: u64) -> bool
+        ensures { result ≡ option_map_or (λ r. r.number == one) (res_in self.now.rows number) false }
     {
         // no row is read: it tells proofs that they fit
         let _rows = self.rows();
-        filter.reaches(number) && self.find(number).is_some_and(|row| filter.accepts(row))
+        number == one && self.find(number).is_some_and(|row| row.number == one)
+    }
+
+    /// Whether the reservation of a number is dead, by binary search.
+    pub fn is_dead_at(&self, number: u64, now: u64) -> bool
+        ensures { result ≡ is_dead_at now self.now.rows number }
+    {
+        is_dead_at(&self.table, number, now)
     }
 
     /// Puts a reservation, and notes its lease, if it may end. A row with the next number is added
@@ -197,7 +187,7 @@ impl ResTable {
         ensures stays { OnErr result (self.new ≡ self.old) }
     {
         // The lease first: one more that is noted does no harm where the row can't be put.
-        note(&mut self.leases, lease_of(&row))?;
+        note(&mut self.leases, row.state, row.deadline, row.number)?;
         self.table.put(row)?;
         Ok(())
     }
@@ -215,8 +205,11 @@ impl ResTable {
         let Ok(at) = self.table.place_of(&edit.number) else {
             return Ok(());
         };
+        let row = &self.table.rows()[at];
+        let state = edit.state.unwrap_or(row.state);
+        let deadline = edit.deadline.unwrap_or(row.deadline);
         // The lease first, as in `put`.
-        note(&mut self.leases, lease_after(&edit, &self.table.rows()[at]))?;
+        note(&mut self.leases, state, deadline, row.number)?;
         self.table.change_at(at, &edit)?;
         Ok(())
     }

@@ -1,9 +1,8 @@
 //! The tables of a farm, and what is looked up in them.
-ghost use Rattle.std.specs.Prelude.{◌≡◌, [], IfOk, IfSome, option_map};
+ghost use Rattle.std.specs.Prelude.{◌≡◌, [], IfOk, option_map};
 ghost use Rattle.std.specs.Option.{option_copied};
-ghost use Rattle.farm_types.specs.Farm.{empty_farm, farm_of, type_of, board_of};
+ghost use Rattle.farm_types.specs.Farm.{empty_farm, farm_of, type_of};
 ghost use Rattle.farm_types.specs.Refuse.{kept_for};
-ghost use Rattle.farm_types.specs.Small.{IsSmallBoard};
 ghost use Rattle.farm_types.specs.Sound.{IsSound};
 ghost use Rattle.farm_pick.specs.Queued.{queue_lists};
 ghost use Rattle.farm_core.specs.Plain.{plain_farm};
@@ -100,14 +99,6 @@ impl Tables {
         ensures { option_copied result ≡ type_of (plain_farm self.now) name.now }
     {
         self.types.find(name)
-    }
-
-    /// The board of that name, by binary search.
-    pub fn find_board(&self, name: &Name) -> Option<&BoardRow>
-        ensures found { option_copied result ≡ board_of (plain_farm self.now) name.now }
-        ensures small { IfSome result (λ board. IsSmallBoard board.now) }
-    {
-        self.boards.find(name)
     }
 
     /// What is kept for the call's caller and key, if the call has a key.

@@ -1,24 +1,16 @@
 -- The text under which a reply stands in the map: its caller, a space, its key. A space stands below
 -- each byte of a name, so these texts stand in the order of callers and then keys.
-use Rattle.std.proofs.Common.{◌≡◌, ◌∙◌, ◌<◌, ◌+◌, ◌&&◌, ◌==◌, ℕ, suc, List, [], ◌∷◌, map, length, take, drop, Bool, true, false, cond, IsTrue, nat_le, Some, refl, sym, ap, subst, arith}
+use Rattle.std.proofs.Common.{◌≡◌, ◌∙◌, ◌<◌, ◌+◌, ◌&&◌, ◌==◌, ℕ, suc, List, [], ◌∷◌, map, length, take, drop, Bool, true, false, cond, IsTrue, nat_le, Some}
+use Rattle.std.proofs.Common.{refl, sym, ap, subst, arith}
 use Rattle.std.specs.Prelude.{option_map}
-use Rattle.std.specs.List.{AllByRecursion, find, list_all}
+use Rattle.farm_core.proofs.Names.{AllByRecursion, bytes_eq, Equal, find, Global, Greater, is_eq, KeptRow, Less, list_all, match_ordering, nat_cmp, nat_tests}
+use Rattle.farm_core.proofs.Names.{Ordering, ordering_then, same_names, string_bytes}
 use Rattle.std.specs.Map.{lookup}
 use Rattle.std.specs.BTreeMap.{insert_entry}
-use Rattle.std.specs.Str.{bytes_eq}
-use Rattle.std.specs.String.{string_bytes, string_cmp}
+use Rattle.std.specs.String.{string_cmp}
 use Rattle.std.specs.declared.string.String.{String}
-use Rattle.std.specs.declared.alloc.Global.{Global}
-use Rattle.std.specs.Ordering.{is_eq, match_ordering, nat_cmp, ordering_then}
-use Rattle.std.specs.declared.cmp.Ordering.{Ordering}
-use Rattle.std.specs.declared.cmp.Ordering.TheVariants.{Less, Equal, Greater}
-use Rattle.std.proofs.lemmas.Bool.Decides.{nat_tests}
 use Rattle.std.proofs.lemmas.Slice.Eq.{bytes_eq-Decides}
-use Rattle.farm_types.specs.Table.{put, kept_cmp}
-use Rattle.farm_types.specs.Words.{IsName, text_cmp, is_word, is_name_byte}
-use Rattle.farm_types.specs.Limits.{longest_name}
-use Rattle.farm_types.specs.declared.rows.KeptRow.{KeptRow}
-use Rattle.farm_types.proofs.Searched.{same_names}
+use Rattle.farm_types.specs.Names.{is_name_byte, is_word, IsName, kept_cmp, longest_name, put, text_cmp}
 use Rattle.farm_sound.proofs.Grow.{same_texts}
 use Rattle.farm_core.specs.Replies.{IsJoined, joined_caller, joined, joined_key, kept_reply, kept_row}
 use Rattle.farm_core.specs.declared.kept.KeptReply.{KeptReply}

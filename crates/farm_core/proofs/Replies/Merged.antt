@@ -1,17 +1,14 @@
 -- Rows that are put over others: which row is found then, how many there are, and that rows may be
 -- split between the two.
 use Rattle.std.proofs.Common.{◌≡◌, ◌∙◌, ◌+◌, List, [], ◌∷◌, length, Bool, true, false, cond, not, Option, Some, None, refl, sym, ap, arith}
-use Rattle.std.specs.List.{AllByRecursion, filter, find}
-use Rattle.std.specs.List.Sorted.{IsStrictlySortedBy}
+use Rattle.farm_core.proofs.Names.{AllByRecursion, AllByRecursion-weaker, Equal, find, Greater, is_eq, IsStrictlySortedBy, Less, match_ordering, Ordering}
+use Rattle.farm_core.proofs.Names.{ordering_reverse, put_sorted}
+use Rattle.std.specs.List.{filter}
 use Rattle.std.specs.Option.{option_or, is_some}
 use Rattle.std.specs.Cmp.{IsTotalOrder}
-use Rattle.std.specs.Ordering.{is_eq, match_ordering, ordering_reverse}
-use Rattle.std.specs.declared.cmp.Ordering.{Ordering}
-use Rattle.std.specs.declared.cmp.Ordering.TheVariants.{Less, Equal, Greater}
 use Rattle.std.proofs.lemmas.Cmp.{alike_right}
 use Rattle.std.proofs.lemmas.List.Kept.{IsStrictlySortedBy-filter}
-use Rattle.farm_types.specs.Table.{put, put_all}
-use Rattle.farm_types.proofs.Put.{AllByRecursion-weaker, put_sorted}
+use Rattle.farm_types.specs.Names.{put, put_all}
 
 pub All-filter : {R : Type 0} (P : R → Type 0) (p : R → Bool) (rows : List R) → AllByRecursion P rows → AllByRecursion P (filter p rows)
 All-filter P p [] all = tt

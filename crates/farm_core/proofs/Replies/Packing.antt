@@ -1,18 +1,13 @@
 -- Packed entries and their rows.
-use Rattle.std.proofs.Common.{◌≡◌, ◌∙◌, ◌+◌, ◌≤◌, ◌++◌, ◌&&◌, ℕ, List, [], ◌∷◌, map, length, take, drop, get_or, Bool, true, false, cond, Some, None, refl, sym, ap, arith, length-append, length-drop, Result, Ok, Err, MatchResult}
+use Rattle.std.proofs.Common.{◌≡◌, ◌∙◌, ◌+◌, ◌≤◌, ◌++◌, ◌&&◌, ℕ, List, [], ◌∷◌, map, length, take, drop, get_or, Bool, true, false, cond, Some, None, refl, sym}
+use Rattle.std.proofs.Common.{ap, arith, length-append, length-drop, Result, Ok, Err, MatchResult}
 use Rattle.std.specs.Prelude.{option_map}
-use Rattle.std.specs.List.{AllByRecursion, find}
-use Rattle.std.specs.List.Sorted.{IsBinarySearchResult, IsSearchInRange, IsStrictlySortedBy}
-use Rattle.std.specs.Str.{bytes_eq}
-use Rattle.std.specs.Ordering.{is_eq, ordering_then}
-use Rattle.std.specs.declared.cmp.Ordering.{Ordering}
-use Rattle.std.specs.declared.cmp.Ordering.TheVariants.{Less, Equal, Greater}
+use Rattle.farm_core.proofs.Names.{AllByRecursion, bytes_eq, Equal, find, Greater, is_eq, IsStrictlySortedBy, kept_total, KeptRow, Less, Ordering}
+use Rattle.farm_core.proofs.Names.{ordering_then, same_names}
+use Rattle.std.specs.List.Sorted.{IsBinarySearchResult, IsSearchInRange}
 use Rattle.std.proofs.lemmas.List.{take-append-le, take_all, drop-append-le, map-append}
-use Rattle.farm_types.specs.Table.{kept_cmp}
-use Rattle.farm_types.specs.Words.{text_cmp}
-use Rattle.farm_types.specs.declared.rows.KeptRow.{KeptRow}
-use Rattle.farm_types.proofs.Searched.{same_names, found_at}
-use Rattle.farm_sound.proofs.Numbers.{kept_total}
+use Rattle.farm_types.specs.Names.{kept_cmp, text_cmp}
+use Rattle.farm_types.proofs.Searched.{found_at}
 use Rattle.farm_table.proofs.Steps.{all_push}
 use Rattle.farm_core.specs.Replies.{LiesIn, entry_row}
 use Rattle.farm_core.specs.declared.kept.packed.Entry.{Entry}

@@ -4,7 +4,7 @@ ghost use Rattle.std.specs.List.{filter};
 ghost use Rattle.std.specs.Str.{bytes_eq};
 ghost use Rattle.farm_types.specs.Farm.{put_type, put_board};
 ghost use Rattle.farm_types.specs.Proper.{is_frequency};
-ghost use Rattle.farm_types.specs.Refuse.{first_code, add_type_reasons, is_retired};
+ghost use Rattle.farm_types.specs.Refuse.{first_code, add_type_reasons};
 ghost use Rattle.farm_types.specs.Refuse.{add_board_reasons, set_tags_reasons, set_health_reasons};
 ghost use Rattle.farm_types.specs.Pass.{with_board};
 ghost use Rattle.farm_types.specs.Change.{new_board};
@@ -35,16 +35,7 @@ impl Tables {
         let name = name.copy();
         self.types.put(TypeRow { name, check })
     }
-}
 
-/// Whether a board is retired.
-fn is_retired(row: &BoardRow) -> bool
-    ensures { result ≡ is_retired row.now }
-{
-    matches!(row.health, Health::Retired)
-}
-
-impl Tables {
     /// How many boards are of a type.
     pub fn count_kind(&self, kind: &Name) -> usize
         ensures { result ≡ length (filter (λ b. bytes_eq b.kind kind.now) (plain_farm self.now).boards) }
@@ -60,16 +51,16 @@ impl Tables {
         if self.find_type(kind).is_none() {
             return Some(NO_TYPE);
         }
-        self.find_board(name).is_some().then_some(BOARD_EXISTS)
+        self.boards.find(name).is_some().then_some(BOARD_EXISTS)
     }
 
     /// Why a board's tags aren't set.
     pub fn refuse_set_tags(&self, name: &Name) -> Option<u16>
         ensures { result ≡ first_code (set_tags_reasons (plain_farm self.now) name.now) }
     {
-        match self.find_board(name) {
+        match self.boards.find(name) {
             None => Some(NO_BOARD),
-            Some(row) if is_retired(row) => Some(RETIRED),
+            Some(row) if matches!(row.health, Health::Retired) => Some(RETIRED),
             Some(_) => None,
         }
     }
@@ -78,9 +69,9 @@ impl Tables {
     pub fn refuse_set_health(&self, name: &Name, health: Health) -> Option<u16>
         ensures { result ≡ first_code (set_health_reasons (plain_farm self.now) name.now health) }
     {
-        match self.find_board(name) {
+        match self.boards.find(name) {
             None => Some(NO_BOARD),
-            Some(row) if is_retired(row) => Some(RETIRED),
+            Some(row) if matches!(row.health, Health::Retired) => Some(RETIRED),
             Some(row) if health == Health::Retired && row.holder != Holder::Nobody => Some(HELD),
             Some(_) => None,
         }
@@ -100,7 +91,7 @@ impl Tables {
         ensures { OnOk result (CameTo self.old (seen_at (with_board (λ b. record b { tags = tags.now })
             (plain_farm self.old) (Some name.now)) (seen self.old)) self.new) }
     {
-        if let Some(board) = self.find_board(name) {
+        if let Some(board) = self.boards.find(name) {
             let mut row = board.copy()?;
             row.tags = tags.copy()?;
             self.boards.put(row)?;
@@ -113,7 +104,7 @@ impl Tables {
         ensures { OnOk result (CameTo self.old (seen_at (with_board (λ b. record b { health = health })
             (plain_farm self.old) (Some name.now)) (seen self.old)) self.new) }
     {
-        if let Some(board) = self.find_board(name) {
+        if let Some(board) = self.boards.find(name) {
             let mut row = board.copy()?;
             row.health = health;
             self.boards.put(row)?;

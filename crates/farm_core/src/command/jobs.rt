@@ -118,9 +118,7 @@ impl Tables {
             Some(_) => Some(WRONG_STATE),
         }
     }
-}
 
-impl Tables {
     /// The group collects no more, if it did.
     fn stop_collecting(&mut self, group: u64)
         ensures { CameTo self.old (seen_at (record (plain_farm self.old) {

@@ -1,14 +1,12 @@
 //! The commands on reservations: Reserve, Acquire, Release, Refresh and CancelRes.
 ghost use Rattle.std.specs.Prelude.{◌≡◌, ◌≤◌, ◌&&◌, None, IfOk, ◌+◌, ◌||◌, ◌∷◌, [], not};
 ghost use Rattle.std.specs.List.{list_any};
-ghost use Rattle.std.specs.Option.{option_copied};
 ghost use Rattle.farm_types.specs.Limits.{last_moment, numbers_end};
 ghost use Rattle.farm_types.specs.Pick.{not_retired, fits};
 ghost use Rattle.farm_types.specs.Refuse.{first_code, reserve_reasons, owned_by, is_alive};
 ghost use Rattle.farm_types.specs.Refuse.{acquire_reasons, release_reasons, alive_reasons};
 ghost use Rattle.farm_types.specs.declared.calls.Cmd.{Cmd};
 ghost use Rattle.farm_types.specs.Codes.{same_res_state};
-ghost use Rattle.farm_types.specs.Farm.{res_of};
 ghost use Rattle.farm_types.specs.Pass.{is_dead};
 ghost use Rattle.farm_types.specs.Refusals.{forbidden, reservation_expired};
 ghost use Rattle.farm_types.specs.Refusals.{wrong_reservation_state};
@@ -36,6 +34,31 @@ fn may_serve(board: &BoardRow, tags: &Tags) -> bool
     !matches!(board.health, Health::Retired) && farm_pick::carries_all(board, tags.items())
 }
 
+/// Whether a reservation waits, or has been allocated or acquired: it has not ended.
+fn is_alive(row: &ResRow) -> bool
+    ensures { result ≡ is_alive row.now }
+{
+    !matches!(row.state, ResState::Expired | ResState::Canceled)
+}
+
+/// Why a command on a reservation is refused, where it is there: it is another's, its deadline has
+/// come, or its state is wrong.
+fn refuse_row(row: &ResRow, now: u64, mine: bool, right: bool) -> Option<u16>
+    ensures { result ≡ first_code ((not mine, forbidden) ∷ (
+      same_res_state row.now.state ResState.Expired
+          || is_dead now row.now,
+      reservation_expired,
+    ) ∷ (not right, wrong_reservation_state) ∷ []) }
+{
+    if !mine {
+        return Some(FORBIDDEN);
+    }
+    if matches!(row.state, ResState::Expired) || is_dead(now, row) {
+        return Some(EXPIRED);
+    }
+    (!right).then_some(WRONG_RESERVATION_STATE)
+}
+
 impl Tables {
     /// Whether some board may ever serve a reservation with these tags.
     fn can_serve(&self, tags: &Tags) -> bool
@@ -53,9 +76,7 @@ impl Tables {
     {
         (!self.can_serve(tags)).then_some(NO_SUCH_BOARDS)
     }
-}
 
-impl Tables {
     /// Makes a reservation that waits for a lease from now on. Gives its number.
     pub fn reserve(
         &mut self,
@@ -91,46 +112,12 @@ impl Tables {
         self.next = number + 1;
         Ok(number)
     }
-}
-
-/// Whether a reservation waits, or has been allocated or acquired: it has not ended.
-fn is_alive(row: &ResRow) -> bool
-    ensures { result ≡ is_alive row.now }
-{
-    !matches!(row.state, ResState::Expired | ResState::Canceled)
-}
-
-/// Why a command on a reservation is refused, where it is there: it is another's, its deadline has
-/// come, or its state is wrong.
-fn refuse_row(row: &ResRow, now: u64, mine: bool, right: bool) -> Option<u16>
-    ensures { result ≡ first_code ((not mine, forbidden) ∷ (
-      same_res_state row.now.state ResState.Expired
-          || is_dead now row.now,
-      reservation_expired,
-    ) ∷ (not right, wrong_reservation_state) ∷ []) }
-{
-    if !mine {
-        return Some(FORBIDDEN);
-    }
-    if matches!(row.state, ResState::Expired) || is_dead(now, row) {
-        return Some(EXPIRED);
-    }
-    (!right).then_some(WRONG_RESERVATION_STATE)
-}
-
-impl Tables {
-    /// The reservation of that number, by binary search.
-    pub fn find_reservation(&self, number: u64) -> Option<&ResRow>
-        ensures { option_copied result ≡ res_of (plain_farm self.now) number }
-    {
-        self.reservations.find(number)
-    }
 
     /// Why a reservation isn't acquired: its owner alone may.
     pub fn refuse_acquire(&self, caller: &Name, now: u64, number: u64) -> Option<u16>
         ensures { result ≡ first_code (acquire_reasons (plain_farm self.now) now caller.now number) }
     {
-        let Some(row) = self.find_reservation(number) else {
+        let Some(row) = self.reservations.find(number) else {
             return Some(NO_RESERVATION);
         };
         let right = matches!(row.state, ResState::Allocated);
@@ -141,7 +128,7 @@ impl Tables {
     pub fn refuse_release(&self, caller: &Name, now: u64, number: u64) -> Option<u16>
         ensures { result ≡ first_code (release_reasons (plain_farm self.now) now caller.now number) }
     {
-        let Some(row) = self.find_reservation(number) else {
+        let Some(row) = self.reservations.find(number) else {
             return Some(NO_RESERVATION);
         };
         let right = matches!(row.state, ResState::Acquired);
@@ -152,14 +139,12 @@ impl Tables {
     pub fn refuse_alive(&self, caller: &Name, now: u64, number: u64) -> Option<u16>
         ensures { result ≡ first_code (alive_reasons (plain_farm self.now) now caller.now number) }
     {
-        match self.find_reservation(number) {
+        match self.reservations.find(number) {
             None => Some(NO_RESERVATION),
             Some(row) => refuse_row(row, now, owned_by(caller, &row.owner), is_alive(row)),
         }
     }
-}
 
-impl Tables {
     /// The reservation is acquired, and its board runs.
     pub fn acquire(&mut self, number: u64) -> Result<u64, AllocError>
         ensures { IfOk result (λ n. Acts self.old [] (Cmd.Acquire number) n self.new) }

@@ -63,9 +63,7 @@ impl Tables {
         let least = farm_pick::least(boards, types, wants, Free::NotRetired);
         least.is_none().then_some(NO_SUCH_BOARDS)
     }
-}
 
-impl Tables {
     /// Adds the members of a group, numbered from the group's number on; the first carries the
     /// text.
     fn add_members(

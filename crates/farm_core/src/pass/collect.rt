@@ -6,7 +6,7 @@ ghost use Rattle.farm_types.specs.Sound.{IsSound};
 ghost use Rattle.farm_types.specs.declared.rows.JobRow.{JobRow};
 ghost use Rattle.farm_pick.specs.Queued.{idle_boards};
 ghost use Rattle.farm_core.specs.Came.{CameTo, LeadOn, seen, seen_at};
-ghost use Rattle.farm_core.specs.Collecting.{Collects, HasWant};
+ghost use Rattle.farm_core.specs.Serving.{Collects, HasWant};
 ghost use Rattle.farm_core.specs.Plain.{plain_farm};
 
 use crate::board_effect::BoardEffect;
@@ -27,7 +27,8 @@ impl Tables {
         ensures within { IfSome result (λ at. at < length (plain_farm self.now).boards) }
     {
         let row = self.find_job(number)?;
-        self.pick_one(&row.want)
+        let picked = self.pick(&[&row.want])?;
+        Some(picked.places()[0])
     }
 
     /// The group that collects gives back what its members hold: they are Submitted, their boards

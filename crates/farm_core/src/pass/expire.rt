@@ -12,25 +12,12 @@ ghost use Rattle.farm_core.specs.Leases.{is_dead_at};
 ghost use Rattle.farm_core.specs.Plain.{plain_farm};
 
 use crate::board_effect::BoardEffect;
-use crate::edits::{Held, Holders, ResEdit, ResFilter};
+use crate::edits::{Held, Holders, ResEdit};
 use crate::tables::Tables;
 use farm_types::ResState;
 use std::alloc::AllocError;
 
 impl Tables {
-    /// The number of a reservation that is dead, if there is one.
-    fn first_dead(&mut self) -> Option<u64>
-        ensures stays { CameTo self.old (seen self.old) self.new }
-        ensures ordered { IsStrictlySortedBy res_cmp (plain_farm self.old).reservations }
-        ensures few { length (plain_farm self.old).reservations < 2 ^ 63 }
-        ensures dead { IfSome result (λ number.
-            is_dead_at self.old.clock (plain_farm self.old).reservations number ≡ true) }
-        ensures none { IfNone result (AllByRecursion (λ r. is_dead self.old.clock r ≡ false)
-            (plain_farm self.old).reservations) }
-    {
-        self.reservations.first_dead(self.clock)
-    }
-
     /// The reservation of a number is expired, and its claim waits no more.
     fn end_reservation(&mut self, number: u64) -> Result<(), AllocError>
         ensures { OnOk result (CameTo self.old (record {
@@ -63,7 +50,7 @@ impl Tables {
             ≡ length (filter (is_dead self.old.clock) (plain_farm self.old).reservations)) }
     {
         let mut count = 0;
-        while let Some(number) = self.first_dead() {
+        while let Some(number) = self.reservations.first_dead(self.clock) {
             self.end_reservation(number)?;
             count += 1;
         }
@@ -86,7 +73,7 @@ impl Tables {
             ≡ length (filter (is_dead self.old.clock) (plain_farm self.old).reservations)) }
     {
         // The boards first: the reservations as they were say which are freed.
-        let holders = Holders::Res(&self.reservations, ResFilter::Dead(self.clock));
+        let holders = Holders::Dead(&self.reservations, self.clock);
         let effect = BoardEffect::Free;
         self.boards.change_where(&Held { holders, effect })?;
         let count = self.expire_reservations()?;

@@ -110,7 +110,10 @@ impl Tables {
                 let rows = self.member_rows(number);
                 Some(wants_in(rows, number, &rows.first()?.want))
             }
-            ClaimKind::Reservation => Some(([&self.find_reservation(number)?.want; MOST_WANTS], 1)),
+            ClaimKind::Reservation => {
+                let want = &self.reservations.find(number)?.want;
+                Some(([want; MOST_WANTS], 1))
+            }
         }
     }
 

@@ -117,17 +117,6 @@ impl Tables {
         }
     }
 
-    /// The place of the first free board, in name order, that fits a want.
-    pub fn pick_one(&self, want: &Want) -> Option<usize>
-        requires free { self.now.queues.boards ≡ idle_boards (plain_farm self.now) }
-        ensures first { option_and_then (slice_get (plain_farm self.now).boards) result
-            ≡ first_free (plain_farm self.now) want.now }
-        ensures within { IfSome result (λ at. at < length (plain_farm self.now).boards) }
-    {
-        let picked = self.pick(&[want])?;
-        Some(picked.places()[0])
-    }
-
     /// How many boards a group waits for, if it is a claim, and else none.
     fn waits_for(&self, group: u64) -> u64
         requires small { IsSmall group }

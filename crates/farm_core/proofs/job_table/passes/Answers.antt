@@ -1,6 +1,5 @@
 use Rattle.std.proofs.Common.{◌∙◌, sym}
-use Rattle.farm_types.specs.declared.rows.JobRow.{JobRow}
-use Rattle.farm_table.specs.Near.{IsFitJob}
+use Rattle.farm_core.proofs.Names.{IsFitJob, JobRow}
 use Rattle.farm_core.specs.Edits.{job_passes}
 use Rattle.farm_core.proofs.Windows.{none_so}
 use Rattle.farm_core.proofs.job_table.passes.Goals as goal

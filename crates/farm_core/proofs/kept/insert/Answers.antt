@@ -1,7 +1,6 @@
 use Rattle.std.proofs.Common.{◌≡◌, ◌∙◌, map, ap, sym, subst}
-use Rattle.std.specs.String.{string_bytes}
-use Rattle.farm_types.specs.declared.rows.KeptRow.{KeptRow}
-use Rattle.farm_types.specs.Table.{put, kept_cmp}
+use Rattle.farm_core.proofs.Names.{KeptRow, string_bytes}
+use Rattle.farm_types.specs.Names.{kept_cmp, put}
 use Rattle.farm_core.specs.Replies.{AreJoined, IsJoined, joined_caller, joined, joined_key, kept_row}
 use Rattle.farm_core.proofs.Replies.Joined.{All-insert_entry, caller_joined, is_joined, key_joined, name_bytes, rows_insert}
 use Rattle.farm_core.proofs.kept.insert.Goals as goal

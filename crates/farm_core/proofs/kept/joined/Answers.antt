@@ -1,5 +1,5 @@
 use Rattle.std.proofs.Common.{◌≡◌, ◌≤◌, length, ap, arith}
-use Rattle.farm_types.specs.Limits.{longest_key, longest_name}
+use Rattle.farm_types.specs.Names.{longest_key, longest_name}
 use Rattle.farm_core.proofs.Replies.{word_fits}
 use Rattle.farm_core.proofs.kept.joined.Goals as goal
 

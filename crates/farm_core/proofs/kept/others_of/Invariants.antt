@@ -1,7 +1,7 @@
 use Rattle.std.proofs.Common.{◌≡◌, [], map, take}
 use Rattle.std.specs.Prelude.{not}
 use Rattle.std.specs.List.{filter}
-use Rattle.farm_types.specs.Table.{put_all, kept_cmp}
+use Rattle.farm_types.specs.Names.{kept_cmp, put_all}
 use Rattle.farm_core.specs.Replies.{AreJoined, is_packable, kept_row}
 use Rattle.farm_core.proofs.kept.others_of.Given as goal
 

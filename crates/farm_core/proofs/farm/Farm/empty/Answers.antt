@@ -1,5 +1,5 @@
 use Rattle.std.proofs.Common.{ap, sym, subst, ◌∙◌}
-use Rattle.farm_types.specs.Sound.{IsSound}
+use Rattle.farm_types.specs.Names.{IsSound}
 use Rattle.farm_pick.specs.Queued.{queue_lists}
 use Rattle.farm_sound.proofs.Numbers.{IsSound-empty}
 use Rattle.farm_core.proofs.farm.Farm.empty.Goals as goal

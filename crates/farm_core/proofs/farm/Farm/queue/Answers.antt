@@ -1,6 +1,6 @@
 use Rattle.std.proofs.Common.{◌∙◌, map, ap}
 use Rattle.std.proofs.lemmas.Simd.{map-map}
-use Rattle.farm_types.specs.Pick.{queue}
+use Rattle.farm_types.specs.Names.{queue}
 use Rattle.farm_pick.specs.Queued.{QueueLists, Queued, queued_of}
 use Rattle.farm_core.specs.Plain.{plain_farm}
 use Rattle.farm_core.proofs.farm.Farm.queue.Goals as goal

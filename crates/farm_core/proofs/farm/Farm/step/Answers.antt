@@ -1,5 +1,5 @@
 use Rattle.std.proofs.Common.{ap, sym, ◌∙◌}
-use Rattle.farm_types.specs.Machine.{Changed}
+use Rattle.farm_types.specs.Names.{Changed}
 use Rattle.farm_core.specs.Plain.{plain_farm}
 use Rattle.farm_sound.proofs.Answered.{answers_repeated, answers_denied, answers_changed}
 use Rattle.farm_sound.proofs.Step.{IsSound-change}

@@ -1,12 +1,9 @@
 use Rattle.std.proofs.Common.{◌∙◌, ◌&&◌, sym, ap}
 use Rattle.std.specs.Prelude.{option_map}
-use Rattle.std.specs.List.{find}
+use Rattle.farm_core.proofs.Names.{bytes_eq, find, is_eq, string_bytes}
 use Rattle.std.specs.Map.{lookup}
 use Rattle.std.specs.Option.{option_copied}
-use Rattle.std.specs.Ordering.{is_eq}
-use Rattle.std.specs.Str.{bytes_eq}
-use Rattle.std.specs.String.{string_bytes}
-use Rattle.farm_types.specs.Words.{text_cmp}
+use Rattle.farm_types.specs.Names.{text_cmp}
 use Rattle.farm_core.specs.Replies.{asked_row, kept_reply}
 use Rattle.farm_core.proofs.Replies.{finds_above, finds_below}
 use Rattle.farm_core.proofs.Replies.Joined.{rows_find}

@@ -1,6 +1,6 @@
 use Rattle.std.proofs.Common.{◌∙◌, [], ap, not}
 use Rattle.std.specs.List.{filter}
-use Rattle.farm_types.specs.Table.{put_all, kept_cmp}
+use Rattle.farm_types.specs.Names.{kept_cmp, put_all}
 use Rattle.farm_core.specs.Replies.{is_packable}
 use Rattle.farm_core.proofs.Replies.{kept_made, kept_split}
 use Rattle.farm_core.proofs.kept.KeptReplies.of.Goals as goal

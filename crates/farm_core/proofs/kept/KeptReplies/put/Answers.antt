@@ -1,13 +1,9 @@
 use Rattle.std.proofs.Common.{◌≡◌, ◌∙◌, ◌+◌, ◌++◌, ◌∷◌, [], cond, Option, Some, None, ap, sym, refl, subst, arith}
 use Rattle.std.specs.Prelude.{option_map}
-use Rattle.std.specs.List.{find}
+use Rattle.farm_core.proofs.Names.{find, kept_total, KeptRow, Tabled}
 use Rattle.std.specs.Option.{is_some}
 use Rattle.std.proofs.lemmas.Grind.{common_steps}
-use Rattle.farm_types.specs.Small.{IsSmallKept}
-use Rattle.farm_types.specs.Table.{kept_cmp, put}
-use Rattle.farm_types.specs.declared.rows.KeptRow.{KeptRow}
-use Rattle.farm_sound.proofs.Numbers.{kept_total}
-use Rattle.farm_table.specs.Tabled.{Tabled}
+use Rattle.farm_types.specs.Names.{IsSmallKept, kept_cmp, put}
 use Rattle.farm_table.proofs.Steps.{leads_put}
 use Rattle.farm_core.specs.Replies.{IsKept, kept_reply, kept_rows}
 use Rattle.farm_core.proofs.Replies.{kept_next, kept_put}

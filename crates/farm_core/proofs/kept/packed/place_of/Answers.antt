@@ -1,6 +1,6 @@
 use Rattle.std.proofs.Common.{rules}
 use Rattle.std.proofs.lemmas.Fn.{always_returns_same}
-use Rattle.farm_types.specs.Table.{kept_cmp}
+use Rattle.farm_types.specs.Names.{kept_cmp}
 use Rattle.farm_core.specs.Replies.{asked_row, entry_row}
 use Rattle.farm_core.proofs.kept.packed.place_of.Goals as goal
 

@@ -1,5 +1,5 @@
 use Rattle.std.proofs.Common.{◌≡◌, ◌∙◌, ◌≤◌, ◌++◌, length, ap, refl, arith}
-use Rattle.farm_types.specs.Limits.{longest_key, longest_name}
+use Rattle.farm_types.specs.Names.{longest_key, longest_name}
 use Rattle.farm_types.specs.declared.rows.KeptRow.{KeptRow}
 use Rattle.farm_core.specs.declared.kept.packed.Entry.{Entry}
 use Rattle.farm_core.proofs.Replies.{word_fits}

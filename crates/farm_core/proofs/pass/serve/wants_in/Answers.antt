@@ -3,9 +3,7 @@ use Rattle.std.specs.List.{filter}
 use Rattle.std.proofs.lemmas.Grind.{common_steps}
 use Rattle.std.proofs.lemmas.List.{length-set, map-append, take_more, take_more_set}
 use Rattle.std.proofs.lemmas.List.Elements.{filter-append}
-use Rattle.farm_types.specs.declared.rows.JobRow.{JobRow}
-use Rattle.farm_types.specs.declared.rows.Want.{Want}
-use Rattle.farm_sound.proofs.Own.{itself}
+use Rattle.farm_core.proofs.Names.{itself, JobRow, Want}
 use Rattle.farm_core.proofs.Serving.{wants_of}
 use Rattle.farm_core.proofs.pass.serve.wants_in.Goals as goal
 use Rattle.farm_core.proofs.pass.serve.wants_in.Goals.{then-row-group, else-row-group}

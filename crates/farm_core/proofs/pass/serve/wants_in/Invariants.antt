@@ -1,6 +1,6 @@
 use Rattle.std.proofs.Common.{◌≡◌, ◌≤◌, ◌==◌, length, map, take}
 use Rattle.std.specs.List.{filter}
-use Rattle.farm_types.specs.Limits.{most_wants}
+use Rattle.farm_types.specs.Names.{most_wants}
 use Rattle.farm_core.proofs.Serving.{wants_of}
 use Rattle.farm_core.proofs.pass.serve.wants_in.Given as goal
 

@@ -1,15 +1,13 @@
 use Rattle.std.proofs.Common.{◌≡◌, ◌∙◌, ◌==◌, true, IfSome, get_or, set, refl, sym, ap, subst}
 use Rattle.std.specs.Cmp.{nat_cmp_total}
-use Rattle.std.specs.Ordering.{nat_cmp}
-use Rattle.farm_types.specs.Table.{change_where, res_cmp}
-use Rattle.farm_types.specs.declared.rows.ResRow.{ResRow}
+use Rattle.farm_core.proofs.Names.{Leads, nat_cmp, ResRow, Tabled}
+use Rattle.farm_types.specs.Names.{change_where, res_cmp}
 use Rattle.farm_types.proofs.Searched.{same_numbers}
-use Rattle.farm_table.specs.Tabled.{Leads, Tabled}
 use Rattle.farm_table.proofs.Steps.{found_changes, nobody_changes}
 use Rattle.farm_core.specs.Edits.{res_changed}
-use Rattle.farm_core.specs.Leases.{is_noted}
+use Rattle.farm_core.specs.Leases.{is_noted, IsNoted, may_end_in}
 use Rattle.farm_core.proofs.EditLemmas.{keeps_small}
-use Rattle.farm_core.proofs.Leasing.{noted_if, noted_on, noted_set}
+use Rattle.farm_core.proofs.Leasing.{noted_on, noted_set}
 use Rattle.farm_core.proofs.res_table.ResTable.edit.Goals as goal
 
 -- there is no such reservation
@@ -38,7 +36,8 @@ invariant_of-self-2 c =
     let row = c.index-rows-at.result in
     let changed = res_changed c.args.edit in
     let own : get_or rows at row ≡ row = sym (c.index-rows-at.is ∙ ap (λ rs. get_or rs at row) c.rows.ensures.rows) in
-    let here = noted_if c.note.new.leases (changed row) (subst (λ o. IfSome o (λ l. is_noted c.note.new.leases l ≡ true)) c.lease_after.ensures c.in_ok-note.ensures.noted) in
+    let here : IsNoted c.note.new.leases (changed row) = λ may.
+    subst (λ d. is_noted c.note.new.leases (record { deadline = d; number = row.number }) ≡ true) c.unwrap_or-deadline.ensures (c.in_ok-note.ensures.noted (ap may_end_in c.unwrap_or-state.ensures ∙ may)) in
     noted_set c.self.inside.leases c.note.new.leases c.note.ensures.grows rows c.change_at.new.self.rows at (changed row) c.self.invariant here
     (c.in_ok-change_at.ensures.rows row ∙ ap (λ r. set rows at (changed r)) own)
 

@@ -1,7 +1,5 @@
 use Rattle.std.proofs.Common.{◌∙◌, ap, sym, subst}
-use Rattle.farm_types.specs.Change.{Done}
-use Rattle.farm_types.specs.Farm.{Farm}
-use Rattle.farm_types.specs.Table.{board_cmp, put_all}
+use Rattle.farm_types.specs.Names.{board_cmp, Done, Farm, put_all}
 use Rattle.farm_pick.specs.Queued.{QueueLists, idle_boards}
 use Rattle.farm_pick.proofs.Filling.{fresh_shown}
 use Rattle.farm_core.specs.Came.{Seen}

@@ -1,7 +1,5 @@
 use Rattle.std.proofs.Common.{◌≡◌, ℕ, List, ◌+◌, ◌∷◌, [], drop, ap, sym, ◌∙◌, arith}
-use Rattle.farm_types.specs.Farm.{put_jobs}
-use Rattle.farm_types.specs.Pass.{new_job}
-use Rattle.farm_types.specs.Change.{new_members}
+use Rattle.farm_types.specs.Names.{new_job, new_members, put_jobs}
 use Rattle.farm_types.specs.declared.rows.JobRow.{JobRow}
 use Rattle.farm_core.specs.Came.{Seen, seen, seen_at}
 use Rattle.farm_core.specs.Edits.{text_at}

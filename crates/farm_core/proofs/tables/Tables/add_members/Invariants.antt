@@ -1,6 +1,5 @@
 use Rattle.std.proofs.Common.{◌≡◌, ◌+◌, drop}
-use Rattle.farm_types.specs.Farm.{put_jobs}
-use Rattle.farm_types.specs.Change.{new_members}
+use Rattle.farm_types.specs.Names.{new_members, put_jobs}
 use Rattle.farm_core.specs.Came.{LeadOn, seen, seen_at}
 use Rattle.farm_core.specs.Edits.{text_at}
 use Rattle.farm_core.specs.Plain.{plain_farm}

@@ -1,11 +1,5 @@
 use Rattle.std.proofs.Common.{◌+◌, ◌<◌, List, ℕ, drop, get_or, length, refl, ap, sym, ◌∙◌, arith}
-use Rattle.std.specs.List.{fold, zip}
-use Rattle.std.specs.Str.{bytes_eq}
-use Rattle.std.proofs.lemmas.List.Elements.{recursion_from_All}
-use Rattle.farm_types.specs.declared.rows.BoardRow.{BoardRow}
-use Rattle.farm_types.specs.declared.rows.Holder.{Holder}
-use Rattle.farm_types.specs.declared.rows.JobState.{JobState}
-use Rattle.farm_types.specs.declared.rows.State.{State}
+use Rattle.farm_core.proofs.Names.{BoardRow, bytes_eq, fold, Holder, JobState, recursion_from_All, State, zip}
 use Rattle.farm_core.specs.Came.{Seen, seen, seen_at}
 use Rattle.farm_core.specs.Plain.{plain_farm}
 use Rattle.farm_core.specs.Serving.{assign_named, names_at}

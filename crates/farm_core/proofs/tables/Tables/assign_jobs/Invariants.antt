@@ -1,6 +1,5 @@
 use Rattle.std.proofs.Common.{◌≡◌, drop}
-use Rattle.std.specs.List.{fold, zip}
-use Rattle.farm_types.specs.declared.rows.JobState.{JobState}
+use Rattle.farm_core.proofs.Names.{fold, JobState, zip}
 use Rattle.farm_core.specs.Came.{LeadOn, seen, seen_at}
 use Rattle.farm_core.specs.Plain.{plain_farm}
 use Rattle.farm_core.specs.Serving.{assign_named, names_at}

@@ -1,12 +1,6 @@
 use Rattle.std.proofs.Common.{◌≡◌, ◌==◌, get_or, ap, sym, ◌∙◌}
-use Rattle.std.specs.Str.{bytes_eq}
-use Rattle.farm_types.specs.Farm.{Farm}
-use Rattle.farm_types.specs.Pass.{held_board, allocated_reservation}
-use Rattle.farm_types.specs.Table.{change_where}
-use Rattle.farm_types.specs.declared.rows.BoardRow.{BoardRow}
-use Rattle.farm_types.specs.declared.rows.Holder.{Holder}
-use Rattle.farm_types.specs.declared.rows.ResRow.{ResRow}
-use Rattle.farm_types.specs.declared.rows.State.{State}
+use Rattle.farm_core.proofs.Names.{BoardRow, bytes_eq, Holder, ResRow, State}
+use Rattle.farm_types.specs.Names.{allocated_reservation, change_where, Farm, held_board}
 use Rattle.farm_core.specs.Came.{seen, seen_at}
 use Rattle.farm_core.specs.Plain.{plain_farm}
 use Rattle.farm_core.proofs.Places.{assigned_first, first_low}

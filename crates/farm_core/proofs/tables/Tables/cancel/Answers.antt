@@ -1,9 +1,6 @@
 use Rattle.std.proofs.Common.{ap, sym, ◌∙◌}
-use Rattle.std.specs.Option.{option_map_or}
-use Rattle.farm_types.specs.Farm.{Farm}
-use Rattle.farm_types.specs.Pass.{change_jobs, freed_board}
-use Rattle.farm_types.specs.Table.{change_where}
-use Rattle.farm_types.specs.declared.rows.JobRow.{JobRow}
+use Rattle.farm_core.proofs.Names.{JobRow, option_map_or}
+use Rattle.farm_types.specs.Names.{change_jobs, change_where, Farm, freed_board}
 use Rattle.farm_core.specs.Came.{Seen}
 use Rattle.farm_core.specs.Edits.{job_changed, job_passes}
 use Rattle.farm_core.specs.Following.{without_claim}

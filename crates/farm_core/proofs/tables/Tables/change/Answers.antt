@@ -1,8 +1,5 @@
 use Rattle.std.proofs.Common.{◌+◌, ◌≤◌, ap, sym, ◌∙◌, subst, arith}
-use Rattle.farm_types.specs.Limits.{last_moment, numbers_end}
-use Rattle.farm_types.specs.Change.{act, keep, change}
-use Rattle.farm_types.specs.Farm.{Farm, put_rows}
-use Rattle.farm_types.specs.Sound.{IsSound}
+use Rattle.farm_types.specs.Names.{act, change, Farm, IsSound, keep, last_moment, numbers_end, put_rows}
 use Rattle.farm_sound.proofs.Step.{acted_call, IsSound-moved_to}
 use Rattle.farm_pick.specs.Queued.{queue_lists}
 use Rattle.farm_core.specs.Came.{Seen}

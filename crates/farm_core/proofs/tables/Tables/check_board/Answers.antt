@@ -1,12 +1,7 @@
 use Rattle.std.proofs.Common.{◌≡◌, ◌+◌, get_or, true, cond, ap, sym, ◌∙◌}
-use Rattle.std.specs.Str.{bytes_eq}
+use Rattle.farm_core.proofs.Names.{BoardRow, bytes_eq, Holder, State}
 use Rattle.std.proofs.lemmas.List.{get_or_read}
-use Rattle.farm_types.specs.Farm.{Farm}
-use Rattle.farm_types.specs.Table.{change_where, job_cmp, put}
-use Rattle.farm_types.specs.Pass.{check_job, has_room, held_board}
-use Rattle.farm_types.specs.declared.rows.BoardRow.{BoardRow}
-use Rattle.farm_types.specs.declared.rows.Holder.{Holder}
-use Rattle.farm_types.specs.declared.rows.State.{State}
+use Rattle.farm_types.specs.Names.{change_where, check_job, Farm, has_room, held_board, job_cmp, put}
 use Rattle.farm_core.specs.Came.{seen, seen_at}
 use Rattle.farm_core.specs.Plain.{plain_farm}
 use Rattle.farm_core.proofs.Steps.{jobs_lead, lead_on_join, lead_on_none}

@@ -1,6 +1,5 @@
 use Rattle.std.proofs.Common.{◌≡◌, ◌+◌, ◌<◌, length, get_or, ap, sym, ◌∙◌, arith}
-use Rattle.farm_types.specs.Farm.{Farm}
-use Rattle.farm_types.specs.Pass.{checks, is_due}
+use Rattle.farm_types.specs.Names.{checks, Farm, is_due}
 use Rattle.farm_core.specs.Came.{Seen, seen, seen_at}
 use Rattle.farm_core.specs.Plain.{plain_farm}
 use Rattle.farm_core.proofs.Checking.{checks_end, checks_from, checks_none, checked_clock, checked_long, checked_next, is_checked, not_due}

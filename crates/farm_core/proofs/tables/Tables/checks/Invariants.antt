@@ -1,5 +1,5 @@
 use Rattle.std.proofs.Common.{◌≡◌, ◌≤◌, length}
-use Rattle.farm_types.specs.Pass.{checks}
+use Rattle.farm_types.specs.Names.{checks}
 use Rattle.farm_core.specs.Came.{LeadOn, seen, seen_at}
 use Rattle.farm_core.specs.Plain.{plain_farm}
 use Rattle.farm_core.proofs.Checking.{checks_from}

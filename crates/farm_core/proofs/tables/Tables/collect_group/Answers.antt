@@ -1,10 +1,8 @@
 use Rattle.std.proofs.Common.{◌≡◌, ap, sym, subst, ◌∙◌, arith}
-use Rattle.std.specs.List.{AllByRecursion}
-use Rattle.farm_types.specs.Farm.{members}
-use Rattle.farm_types.specs.Small.{IsSmall}
+use Rattle.farm_core.proofs.Names.{AllByRecursion, idle_boards, QueueLists}
+use Rattle.farm_types.specs.Names.{IsSmall, members}
 use Rattle.farm_core.specs.Came.{Seen, seen}
 use Rattle.farm_core.specs.Plain.{plain_farm}
-use Rattle.farm_pick.specs.Queued.{QueueLists, idle_boards}
 use Rattle.farm_core.proofs.Collected.{takes_begin, takes_end, takes_on}
 use Rattle.farm_core.proofs.Serving.{numbers_of, numbers_small, small_at}
 use Rattle.farm_core.proofs.Steps.{lead_on_join, lead_on_none}

@@ -1,10 +1,7 @@
 use Rattle.std.proofs.Common.{◌≡◌, ◌∙◌, Some, filter, get_or, not, option_map, ap, sym}
-use Rattle.std.specs.Str.{bytes_eq}
+use Rattle.farm_core.proofs.Names.{BoardRow, bytes_eq, idle_boards, IdleBoard}
 use Rattle.std.proofs.lemmas.Option.{slice_get-get_or}
-use Rattle.farm_types.specs.Farm.{Farm}
-use Rattle.farm_types.specs.Pass.{first_free}
-use Rattle.farm_types.specs.declared.rows.BoardRow.{BoardRow}
-use Rattle.farm_pick.specs.Queued.{IdleBoard, idle_boards}
+use Rattle.farm_types.specs.Names.{Farm, first_free}
 use Rattle.farm_core.specs.Came.{Seen, seen}
 use Rattle.farm_core.proofs.Collected.{held_free, takes_one}
 use Rattle.farm_core.proofs.Places.{board_at}

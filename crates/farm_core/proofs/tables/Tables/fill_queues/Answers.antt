@@ -1,10 +1,9 @@
 use Rattle.std.proofs.Common.{rules, ◌≡◌, ◌∙◌, [], length, refl, ap, sym}
 use Rattle.std.specs.List.{fold}
-use Rattle.farm_types.specs.Table.{put}
+use Rattle.farm_types.specs.Names.{Farm, put}
 use Rattle.farm_pick.specs.Index.{queued_cmp}
 use Rattle.farm_core.specs.Following.{kind_in, free_boards_with}
 use Rattle.farm_core.proofs.Free.{noted_whole}
-use Rattle.farm_types.specs.Farm.{Farm}
 use Rattle.farm_core.specs.Plain.{plain_farm}
 use Rattle.farm_core.proofs.Filled.{fills_begin, fills_end, fills_fresh, fills_on, no_claims}
 use Rattle.farm_core.proofs.tables.Tables.fill_queues.Goals as goal

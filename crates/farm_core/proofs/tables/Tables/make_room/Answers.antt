@@ -1,4 +1,4 @@
-use Rattle.farm_types.specs.Table.{board_cmp, job_cmp}
+use Rattle.farm_types.specs.Names.{board_cmp, job_cmp}
 use Rattle.farm_core.specs.Came.{seen}
 use Rattle.farm_core.proofs.Steps.{lead_on_none, leads_same}
 use Rattle.farm_core.proofs.tables.Tables.make_room.Goals as goal

@@ -1,5 +1,5 @@
 use Rattle.std.proofs.Common.{filter, subst, sym, ◌∙◌}
-use Rattle.farm_types.specs.Pick.{queue}
+use Rattle.farm_types.specs.Names.{queue}
 use Rattle.farm_core.specs.Plain.{plain_farm}
 use Rattle.farm_core.proofs.Next.{Left, all_left, lends, none_left, one_left, reached}
 use Rattle.farm_core.proofs.tables.Tables.next_open.Goals as goal

@@ -1,5 +1,5 @@
 use Rattle.std.proofs.Common.{List}
-use Rattle.farm_types.specs.Pick.{Claimed}
+use Rattle.farm_types.specs.Names.{Claimed}
 use Rattle.farm_core.specs.Plain.{plain_farm}
 use Rattle.farm_core.proofs.Next.{Left}
 use Rattle.farm_core.proofs.tables.Tables.next_open.Given as goal

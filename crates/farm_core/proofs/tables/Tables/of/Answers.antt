@@ -1,4 +1,4 @@
-use Rattle.farm_types.specs.Farm.{farm_of}
+use Rattle.farm_types.specs.Names.{farm_of}
 use Rattle.farm_core.proofs.Sound.{fit_jobs, small_boards, small_reservations, small_types}
 use Rattle.farm_core.proofs.tables.Tables.of.Goals as goal
 

@@ -1,5 +1,5 @@
 use Rattle.std.proofs.Common.{◌∙◌, ap, sym}
-use Rattle.farm_types.specs.Refuse.{own_refusal, first_code, reasons, moment}
+use Rattle.farm_types.specs.Names.{first_code, moment, own_refusal, reasons}
 use Rattle.farm_core.specs.Plain.{plain_farm}
 use Rattle.farm_core.proofs.tables.Tables.own_refusal.Goals as goal
 

@@ -1,9 +1,5 @@
 use Rattle.std.proofs.Common.{◌≡◌, ◌-◌, filter, length, ap, sym, ◌∙◌, subst}
-use Rattle.farm_types.specs.Farm.{Farm}
-use Rattle.farm_types.specs.Pass.{Served, giving_back, checks, expire, is_dead, serve_all}
-use Rattle.farm_types.specs.Sound.{IsSound}
-use Rattle.farm_types.specs.Change.{reply_of}
-use Rattle.farm_types.specs.Table.{board_cmp, put_all}
+use Rattle.farm_types.specs.Names.{board_cmp, checks, expire, Farm, giving_back, is_dead, IsSound, put_all, reply_of, serve_all, Served}
 use Rattle.farm_pick.specs.Queued.{QueueLists, idle_boards, queue_lists}
 use Rattle.farm_core.specs.Came.{LeadOn, Seen}
 use Rattle.farm_core.specs.Following.{free_of, without_all}

@@ -1,7 +1,5 @@
 use Rattle.std.proofs.Common.{◌∙◌, ◌+◌, ◌==◌, ap, sym, refl}
-use Rattle.farm_types.specs.Change.{done_with}
-use Rattle.farm_types.specs.Farm.{Farm}
-use Rattle.farm_types.specs.Table.{change_where}
+use Rattle.farm_types.specs.Names.{change_where, done_with, Farm}
 use Rattle.farm_types.specs.declared.rows.ResRow.{ResRow}
 use Rattle.farm_core.specs.Edits.{res_changed}
 use Rattle.farm_core.specs.Plain.{plain_farm}

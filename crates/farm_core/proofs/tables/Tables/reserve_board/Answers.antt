@@ -1,4 +1,4 @@
-use Rattle.farm_types.specs.Pass.{held_board}
+use Rattle.farm_types.specs.Names.{held_board}
 use Rattle.farm_types.specs.declared.rows.State.{State}
 use Rattle.farm_core.specs.Came.{seen, seen_at}
 use Rattle.farm_core.specs.Plain.{plain_farm}

@@ -1,10 +1,11 @@
 use Rattle.std.proofs.Common.{◌∙◌, ap, subst, arith}
-use Rattle.farm_types.specs.Pass.{Served}
+use Rattle.farm_types.specs.Names.{Served}
 use Rattle.farm_pick.specs.Queued.{queue_lists}
 use Rattle.farm_core.specs.Came.{seen}
 use Rattle.farm_core.specs.Plain.{plain_farm}
 use Rattle.farm_core.proofs.Steps.{lead_on_join}
-use Rattle.farm_core.proofs.Trying.{Trying, as_counted, goes_end, next_here, next_small, one_at_most, passed_less, passed_on, place_after, queue_few, tried_less, tried_on, trying_begins}
+use Rattle.farm_core.proofs.Trying.{Trying, as_counted, goes_end, next_here, next_small, one_at_most, passed_less, passed_on, place_after, queue_few}
+use Rattle.farm_core.proofs.Trying.{tried_less, tried_on, trying_begins}
 use Rattle.farm_core.proofs.tables.Tables.serve.Goals as goal
 
 pub loop-misses-init : goal.loop-misses-init

@@ -1,8 +1,6 @@
 use Rattle.std.proofs.Common.{◌==◌, filter, not, ap, sym, ◌∙◌}
-use Rattle.std.specs.List.{fold, zip}
-use Rattle.farm_types.specs.Farm.{Farm, members}
-use Rattle.farm_types.specs.declared.rows.JobState.{JobState}
-use Rattle.farm_pick.specs.Queued.{Queued}
+use Rattle.farm_core.proofs.Names.{fold, JobState, Queued, zip}
+use Rattle.farm_types.specs.Names.{Farm, members}
 use Rattle.farm_core.specs.Came.{Seen, seen}
 use Rattle.farm_core.specs.Following.{without_boards}
 use Rattle.farm_core.specs.Serving.{assign_first, assign_named, names_at}

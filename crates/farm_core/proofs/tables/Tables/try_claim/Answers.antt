@@ -1,5 +1,5 @@
 use Rattle.std.proofs.Common.{◌≡◌, true, false, refl, sym, subst}
-use Rattle.farm_types.specs.Sound.{IsSound}
+use Rattle.farm_types.specs.Names.{IsSound}
 use Rattle.farm_pick.specs.Queued.{idle_boards}
 use Rattle.farm_core.specs.Came.{Seen, seen}
 use Rattle.farm_core.specs.Plain.{plain_farm}

@@ -1,7 +1,6 @@
 use Rattle.std.proofs.Common.{◌∙◌, ◌&&◌, [], map, get_or, Some, Ok, Err, sym, ap}
 use Rattle.std.specs.Prelude.{option_map}
-use Rattle.std.specs.List.{find}
-use Rattle.std.specs.Str.{bytes_eq}
+use Rattle.farm_core.proofs.Names.{bytes_eq, find}
 use Rattle.farm_core.specs.Replies.{asked_row, entry_row, kept_reply}
 use Rattle.farm_core.specs.declared.kept.packed.Entry.{Entry}
 use Rattle.farm_core.proofs.Replies.Packing.{found_entry}
