@@ -1,41 +1,21 @@
 -- The statement that writes the farm's numbers over those that are there.
 use Rattle.std.proofs.Common.{refl, ◌≡◌, ◌&&◌, inl, inr, ℕ, ℤ, pos, List, [], ◌∷◌, codes, Bool, true, false, None, Ok, sym, ap, subst, ◌∙◌, is_eq, arith, Some}
-use Rattle.std.specs.Ordering.{int_cmp, is_ne}
+use Rattle.farm_store.proofs.Names.{Binary, by_first, case, cast_row, col, command_of, Compare, differ, Eq, farm_schema, Has, id_in, int_cmp, int_cmp_total}
+use Rattle.farm_store.proofs.Names.{int_is, is_int, is_ne, IsInside, IsPlain, lit, meta_row, meta_rows, meta_table, meta_values, MetaRow, Ne, number_rows}
+use Rattle.farm_store.proofs.Names.{of_meta, op1, op2, put_at, Row, row_less_rowid, rowid, second_schema, TableRows, Term, tied_itself, Update, value_cmp-Int}
+use Rattle.farm_store.proofs.Names.{value_cmp-Text}
 use Rattle.std.specs.Str.{bytes_eq}
-use Rattle.std.proofs.lemmas.Cmp.{tied_itself, int_cmp_total}
 use Rattle.std.proofs.lemmas.Int.{ints}
 use Rattle.std.proofs.lemmas.Map.Text.{is_eq-slice_cmp}
 use Rattle.sqlite.specs.declared.types.Value.TheVariants.{Int, Text}
-use Rattle.sqlite.specs.Order.{Row}
 use Rattle.sqlite.specs.Table.{Table}
-use Rattle.sqlite.specs.Term.{Term, lit, col}
-use Rattle.sqlite.specs.Command.TheVariants.{Update}
-use Rattle.sqlite.specs.Cast.{cast_row}
-use Rattle.sqlite.specs.Edit.{id_in}
 use Rattle.sqlite.specs.Listing.{understood}
 use Rattle.sqlite.specs.State.{State, ExecutesInside}
-use Rattle.sqlite.proofs.Callers.{IsPlain, command_of}
 use Rattle.sqlite_tied.specs.Compute.{everything}
 use Rattle.sqlite_sql.specs.Ops.{binary, from_truth, is_true, unary}
-use Rattle.sqlite_sql.specs.Term.{op1, op2, case}
-use Rattle.sqlite_sql.specs.declared.ops.BinaryOp.TheVariants.{Compare}
-use Rattle.sqlite_sql.specs.declared.ops.CompareOp.TheVariants.{Eq, Ne}
 use Rattle.sqlite_sql.specs.declared.ops.UnaryOp.TheVariants.{ToNumeric}
-use Rattle.sqlite_value.specs.declared.keys.Collation.TheVariants.{Binary}
-use Rattle.sqlite_value.proofs.OrderLemmas.{value_cmp-Int, value_cmp-Text}
-use Rattle.sqlite_trees.specs.Tree.{rowid}
-use Rattle.sqlite_trees.specs.View.{is_int}
-use Rattle.sqlite_schema.specs.Rules.{differ}
-use Rattle.sqlite_rules.specs.Lists.{Has}
-use Rattle.sqlite_rules.proofs.TableLemmas.{int_is}
 use Rattle.farm_types.specs.Table.{put_all as put_all_rows}
-use Rattle.farm_types.specs.declared.rows.MetaRow.{MetaRow}
 use Rattle.farm_store.specs.declared.meta.TheConstants.{CHANGE}
-use Rattle.farm_store.specs.Columns.{TableRows, by_first, meta_row, meta_rows, number_rows, meta_values, second_schema}
-use Rattle.farm_store.specs.Holds.{IsInside}
-use Rattle.farm_store.specs.Places.{of_meta, put_at}
-use Rattle.farm_store.specs.Schema.{farm_schema, meta_table}
-use Rattle.farm_store.specs.Stored.{row_less_rowid}
 use Rattle.farm_store.proofs.Clause.{query}
 use Rattle.farm_store.proofs.Commute.{of_meta as numbers_put}
 use Rattle.farm_store.proofs.Keys.{and_true, equal_is_tied, from_test}

@@ -1,34 +1,14 @@
 -- What the query of ON CONFLICT's clause answers of the row that is there.
-use Rattle.std.proofs.Common.{refl, ◌≡◌, inl, inr, ℕ, pos, negsuc, List, [], ◌∷◌, ◌++◌, map, flat_map, ap, ap₂, sym, subst, ◌∙◌, append-nil, arith, true, false, is_eq, Less, Equal, Greater, None, Some}
-use Rattle.std.specs.List.{AllByRecursion}
-use Rattle.std.specs.List.Sorted.{IsPermutation}
-use Rattle.std.specs.Ordering.{ordering_reverse}
-use Rattle.std.proofs.lemmas.Cmp.{tied_itself}
-use Rattle.std.proofs.lemmas.List.Sorted.{length_permutation}
+use Rattle.std.proofs.Common.{refl, ◌≡◌, inl, inr, ℕ, pos, negsuc, List, [], ◌∷◌, ◌++◌, map, flat_map, ap, ap₂, sym, subst, ◌∙◌, append-nil, arith, true, false}
+use Rattle.std.proofs.Common.{is_eq, Less, Equal, Greater, None, Some}
+use Rattle.farm_store.proofs.Names.{all_from, all_has, AllByRecursion, Binary, col, Compare, end, Eq, equal, Has, inner, int_is, is_int, is_null, IsAnswer}
+use Rattle.farm_store.proofs.Names.{IsPermutation, IsTable, length_permutation, lit, matches, ordering_reverse, Output, output, overlay, page, Query, Row}
+use Rattle.farm_store.proofs.Names.{rowid, Term, tied_itself, Trees, Upsert, Value, value_cmp-Null, value_cmp-Text, value_cmp_total}
 use Rattle.std.proofs.lemmas.Map.Text.{is_eq-slice_cmp}
 use Rattle.std.proofs.lemmas.Slice.Eq.{bytes_eq-Decides}
-use Rattle.sqlite.specs.declared.types.Value.{Value}
 use Rattle.sqlite.specs.declared.types.Value.TheVariants.{Null, Int, Real, Text, Blob}
-use Rattle.sqlite.specs.Order.{Row}
-use Rattle.sqlite.specs.Tree.{Trees}
-use Rattle.sqlite.specs.Term.{Term, lit, col}
-use Rattle.sqlite.specs.Query.{Query, inner, end, Output, output, page, IsAnswer}
-use Rattle.sqlite.specs.Program.{overlay}
-use Rattle.sqlite_schema.specs.Rules.{equal}
-use Rattle.sqlite_schema.specs.declared.command.Upsert.{Upsert}
-use Rattle.sqlite_sql.specs.Ops.{is_null}
-use Rattle.sqlite_sql.specs.Query.{matches}
 use Rattle.sqlite_sql.specs.Term.{op2, eval_all}
-use Rattle.sqlite_sql.specs.declared.ops.BinaryOp.TheVariants.{Compare}
-use Rattle.sqlite_sql.specs.declared.ops.CompareOp.TheVariants.{Eq}
 use Rattle.sqlite_value.specs.Order.{column, value_cmp}
-use Rattle.sqlite_value.specs.declared.keys.Collation.TheVariants.{Binary}
-use Rattle.sqlite_value.proofs.OrderLemmas.{value_cmp_total, value_cmp-Null, value_cmp-Text}
-use Rattle.sqlite_trees.specs.Tree.{rowid, IsTable}
-use Rattle.sqlite_trees.specs.View.{is_int}
-use Rattle.sqlite_rules.specs.Lists.{Has}
-use Rattle.sqlite_rules.proofs.ListLemmas.{all_has, all_from}
-use Rattle.sqlite_rules.proofs.TableLemmas.{int_is}
 use Rattle.farm_store.proofs.Keys.{equal_is_tied}
 use Rattle.farm_store.proofs.Order.{permuted}
 

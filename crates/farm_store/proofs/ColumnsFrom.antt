@@ -1,9 +1,6 @@
 -- The columns of a row from one place on.
 use Rattle.std.proofs.Common.{refl, ◌≡◌, ℕ, zero, suc, [], ◌∷◌, length, ap, ap₂, sym, ◌∙◌, arith}
-use Rattle.sqlite.specs.Order.{Row}
-use Rattle.sqlite_value.specs.Order.{column}
-use Rattle.farm_store.specs.Reading.{HasColumns}
-use Rattle.farm_store.specs.Stored.{IsWide, row_less_rowid, with_number}
+use Rattle.farm_store.proofs.Names.{column, HasColumns, IsWide, Row, row_less_rowid, with_number}
 
 abbrev pub columns_from : ℕ → ℕ → Row → Row
 columns_from at zero r = []

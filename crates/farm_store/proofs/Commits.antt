@@ -1,13 +1,8 @@
 -- What a transaction begins with, and what its commit leaves.
 use Rattle.std.proofs.Common.{refl, inl, inr, ◌≡◌, false, sym, ap, subst, ◌∙◌, true}
-use Rattle.sqlite.specs.Effect.{Database}
-use Rattle.sqlite.specs.Held.{Held, state}
+use Rattle.farm_store.proofs.Names.{CommitShows, Database, Held, Holds, IsInside, ShowsTables, Stands, state, TableRows, Trees}
 use Rattle.sqlite.specs.State.{State, HasCleanDisk, IsRolledBack, Shows, Survives}
-use Rattle.sqlite.specs.Tree.{Trees}
 use Rattle.sqlite_trees.specs.declared.store.Store.{Ghosts}
-use Rattle.farm_store.specs.Columns.{TableRows}
-use Rattle.farm_store.specs.Holds.{Holds, IsInside, ShowsTables, Stands}
-use Rattle.farm_store.specs.Reading.{CommitShows}
 
 pub begun : {S : Type 0} (g : Ghosts S) (old mid : Held S) → mid ≡ record old { in_transaction = true } → (T : TableRows) → Stands (state g old) T → IsInside (state g mid) T
 begun g old mid is T at = subst (λ h. IsInside (state g h) T) (sym is) (record { inside = refl; shown = at.shown })

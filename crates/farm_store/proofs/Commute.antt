@@ -1,25 +1,16 @@
 -- Rows put into a farm are rows put into its tables.
-use Rattle.std.specs.Cmp.{int_cmp_is}
-use Rattle.std.specs.Ordering.{MatchOrdering, match_ordering, nat_cmp}
+use Rattle.farm_store.proofs.Names.{BoardRow, Farm, int_cmp_is, JobRow, KeptRow, match_ordering, MatchOrdering, MetaRow, nat_cmp, nat_tests, put_rows, ResRow}
+use Rattle.farm_store.proofs.Names.{Rows, TypeRow, value_cmp-Int, value_cmp-Text}
 use Rattle.std.specs.Prelude.{◌<ℤ◌, nat_lt, ◌==◌}
-use Rattle.std.proofs.lemmas.Bool.Decides.{nat_tests}
 use Rattle.std.proofs.lemmas.Int.{ints}
 use Rattle.std.proofs.Common.{arith, ◌<◌, Bool, true, false, cond, ◌≡◌, ℕ, pos, List, [], ◌∷◌, map, refl, sym, ap, ◌∙◌, Ordering, Less, Equal, Greater}
 use Rattle.std.specs.Cmp.Lexicographic.{slice_cmp}
 use Rattle.sqlite.specs.declared.types.Value.TheVariants.{Int, Text}
 use Rattle.sqlite_value.specs.Order.{value_cmp}
-use Rattle.sqlite_value.proofs.OrderLemmas.{value_cmp-Int, value_cmp-Text}
 use Rattle.farm_types.specs.Table.{put, put_all, type_cmp, board_cmp, job_cmp, res_cmp, kept_cmp}
-use Rattle.farm_types.specs.Farm.{Farm, put_rows}
-use Rattle.farm_types.specs.declared.calls.Rows.{Rows}
-use Rattle.farm_types.specs.declared.rows.TypeRow.{TypeRow}
-use Rattle.farm_types.specs.declared.rows.BoardRow.{BoardRow}
-use Rattle.farm_types.specs.declared.rows.JobRow.{JobRow}
-use Rattle.farm_types.specs.declared.rows.ResRow.{ResRow}
-use Rattle.farm_types.specs.declared.rows.KeptRow.{KeptRow}
-use Rattle.farm_types.specs.declared.rows.MetaRow.{MetaRow}
-use Rattle.farm_store.specs.Columns.{rows_of, by_first, by_two, type_columns, board_columns, job_columns, res_columns, kept_columns, meta_rows, number_rows, numbers_of}
-use Rattle.farm_store.specs.Places.{put_tables}
+use Rattle.farm_store.specs.Columns.{rows_of, by_first, by_two, type_columns, board_columns, job_columns, res_columns, kept_columns, meta_rows, number_rows}
+use Rattle.farm_store.specs.Columns.{numbers_of}
+use Rattle.farm_store.proofs.PutAt.{put_tables}
 
 module _ {X Y : Type 0} (f : X → Y) (c : Y → Y → Ordering) (d : X → X → Ordering) (same : (a b : X) → c (f a) (f b) ≡ d a b) where
   map_put : (rows : List X) (x : X) → map f (put d rows x) ≡ put c (map f rows) (f x)

@@ -1,31 +1,22 @@
 -- The tables are made.
-use Rattle.std.proofs.Common.{◌≡◌, ◌⊎◌, inl, inr, ℕ, List, [], ◌∷◌, true, false, Ok, Err, Result, is_ok, refl, sym, ap, subst, ◌∙◌}
+use Rattle.std.proofs.Common.{◌≡◌, ◌⊎◌, ℕ, List, [], ◌∷◌, true, false, Ok, is_ok, refl, sym, ap, subst, ◌∙◌}
 use Rattle.sqlite.specs.Table.{Table}
-use Rattle.sqlite.specs.Tree.{Trees}
+use Rattle.farm_store.proofs.Names.{AreListed, boards_table, catalog_tree, command_of, CreateTable, Database, farm_schema, HasRun, IsDatabase, IsInside}
+use Rattle.farm_store.proofs.Names.{IsPlain, jobs_table, kept_table, lacks_sequence, ListsRows, meta_table, no_rows, no_schema, of_meta, reservations_table}
+use Rattle.farm_store.proofs.Names.{runs_as, statement_of, TableRows, TableSlot, Tally, Trees, types_table}
 use Rattle.sqlite.specs.Schema.{Schema}
-use Rattle.sqlite.specs.Command.TheVariants.{CreateTable}
 use Rattle.sqlite.specs.Compile.{table_defined_by}
 use Rattle.sqlite.specs.Change.{created, next_tree, KeepsRows}
-use Rattle.sqlite.specs.Does.{Tally, lacks_sequence}
 use Rattle.sqlite_tied.specs.Compute.{everything}
 use Rattle.sqlite.specs.Listing.{understood}
-use Rattle.sqlite.specs.Effect.{Database, IsDatabase}
 use Rattle.sqlite.specs.State.{State, Writes, ExecutesIn}
-use Rattle.sqlite.proofs.Callers.{IsPlain, command_of, statement_of, runs_as}
 use Rattle.farm_store.specs.declared.types.TheConstants.{MAKE as MAKE_TYPES}
 use Rattle.farm_store.specs.declared.boards.TheConstants.{MAKE as MAKE_BOARDS}
 use Rattle.farm_store.specs.declared.jobs.TheConstants.{MAKE as MAKE_JOBS}
 use Rattle.farm_store.specs.declared.reservations.TheConstants.{MAKE as MAKE_RESERVATIONS}
 use Rattle.farm_store.specs.declared.kept.TheConstants.{MAKE as MAKE_KEPT}
 use Rattle.farm_store.specs.declared.meta.TheConstants.{MAKE as MAKE_META}
-use Rattle.farm_store.specs.Schema.{farm_schema, no_schema, types_table, boards_table, jobs_table, reservations_table, kept_table, meta_table}
-use Rattle.farm_store.specs.Columns.{TableRows, no_rows}
-use Rattle.farm_store.specs.Edits.{HasRun}
-use Rattle.farm_store.specs.Holds.{IsInside}
-use Rattle.farm_store.specs.Places.{TableSlot, of_types, of_boards, of_jobs, of_reservations, of_kept, of_meta}
-use Rattle.farm_store.specs.Stored.{ListsRows}
-use Rattle.sqlite_catalog.specs.Listing.{AreListed}
-use Rattle.sqlite_trees.specs.Objects.{catalog_tree}
+use Rattle.farm_store.proofs.PutAt.{of_types, of_boards, of_jobs, of_reservations, of_kept}
 use Rattle.farm_store.proofs.Replace.{went, same_value}
 
 pub record Makes (old new : State) (schema : Schema) (table : Table) : Type 0 where

@@ -1,19 +1,14 @@
 -- The tables are taken away.
-use Rattle.std.proofs.Common.{◌≡◌, ℕ, List, [], Option, Some, None, Ok, codes, refl, ap, subst, ◌∙◌}
+use Rattle.std.proofs.Common.{◌≡◌, ℕ, List, [], Some, None, Ok, codes, refl, ap, subst, ◌∙◌}
 use Rattle.sqlite.specs.Table.{Table}
 use Rattle.sqlite.specs.Schema.{Schema}
-use Rattle.sqlite.specs.Command.TheVariants.{DropTable}
+use Rattle.farm_store.proofs.Names.{AtPlace, command_of, Database, Drops, DropTable, HasRun, HasSixTables, IsPlain, no_schema, runs_as, statement_of, Tally}
+use Rattle.farm_store.proofs.Names.{Task}
 use Rattle.sqlite_catalog.specs.Change.{without_table}
-use Rattle.sqlite.specs.Does.{AtPlace, Drops, Tally}
-use Rattle.sqlite.specs.Rows.{Task}
-use Rattle.sqlite.specs.Effect.{Database}
 use Rattle.sqlite_tied.specs.Compute.{everything}
 use Rattle.sqlite.specs.Listing.{understood}
 use Rattle.sqlite.specs.State.{State, Writes, mode_of}
-use Rattle.sqlite.proofs.Callers.{IsPlain, command_of, statement_of, runs_as}
 use Rattle.std.specs.Prelude.{slice_get}
-use Rattle.farm_store.specs.Schema.{HasSixTables, no_schema}
-use Rattle.farm_store.specs.Edits.{HasRun}
 use Rattle.farm_store.proofs.Replace.{went, same_value}
 
 -- the table that comes first is taken away

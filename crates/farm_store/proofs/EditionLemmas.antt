@@ -1,16 +1,11 @@
 -- The two editions of the tables.
 use Rattle.std.proofs.Common.{refl, ◌≡◌, ◌≢◌, List, [], ◌∷◌, map, Result, Ok, Err, IfErr, IsErrAnd, sym, subst, ◌∙◌}
-use Rattle.std.specs.List.{AllByRecursion}
-use Rattle.farm_types.specs.Farm.{Farm}
-use Rattle.farm_types.specs.declared.rows.JobRow.{JobRow}
+use Rattle.farm_store.proofs.Names.{AllByRecursion, BadStore, Edition, Farm, IsCollectorIn, IsNoVersionFault, IsReadableIn, IsReadableJobIn, IsStateIn}
+use Rattle.farm_store.proofs.Names.{job_columns_in, JobRow, meta_rows_in, other_edition, rows_in, schema_of, Store, StoreFault, version_fault}
 use Rattle.farm_types.proofs.Put.{AllByRecursion-weaker}
-use Rattle.farm_store.specs.Columns.{IsOfSchema, TableRows, rows_of, first_rows_of, type_columns, board_columns, res_columns, kept_columns, numbers_of, second_schema}
-use Rattle.farm_store.specs.Editions.{IsCollectorIn, IsReadableIn, IsReadableJobIn, IsStateIn, job_columns_in, meta_rows_in, other_edition, rows_in, schema_of, version_fault}
+use Rattle.farm_store.specs.Columns.{IsOfSchema, TableRows, rows_of, first_rows_of, type_columns, board_columns, res_columns, kept_columns, numbers_of}
+use Rattle.farm_store.specs.Columns.{second_schema}
 use Rattle.farm_store.specs.Readable.{IsReadable, IsReadableJob}
-use Rattle.farm_store.specs.Reading.{IsNoVersionFault}
-use Rattle.farm_store.specs.declared.edition.Edition.{Edition}
-use Rattle.farm_store.specs.declared.fault.StoreFault.{StoreFault}
-use Rattle.farm_store.specs.declared.fault.StoreFault.TheVariants.{BadStore, Store}
 
 pub no_version : (e : Edition) (fault : StoreFault) → IsNoVersionFault fault → fault ≢ version_fault e
 no_version Edition.First fault none = none.0

@@ -1,8 +1,7 @@
 -- What a statement did in a transaction, where it is done.
 use Rattle.std.proofs.Common.{ℕ, List, IsTrue, Result, Ok, Err, OnOk}
-use Rattle.sqlite.specs.Order.{Row}
+use Rattle.farm_store.proofs.Names.{Error, Row}
 use Rattle.sqlite.specs.State.{State, ExecutesInside}
-use Rattle.sqlite.specs.declared.error.Error.{Error}
 
 pub on_executed : (sql : List ℕ) (params : Row) (old new : State) {P : Type 0} (r : Result ℕ Error) → (IsTrue old.in_transaction → ExecutesInside 0 sql params old new r)
     → ((count : ℕ) → (IsTrue old.in_transaction → ExecutesInside 0 sql params old new (Ok count)) → P) → OnOk r P

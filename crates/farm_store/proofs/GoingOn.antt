@@ -1,11 +1,9 @@
 -- A transaction that goes on, call after call.
 use Rattle.std.proofs.Common.{◌∙◌, arith}
-use Rattle.sqlite.specs.Held.{state}
-use Rattle.sqlite.specs.State.{HasCleanDisk}
+use Rattle.farm_store.proofs.Names.{GoesOn, HasCleanDisk, state}
 use Rattle.sqlite.specs.declared.transaction.Transaction.{Transaction}
 use Rattle.sqlite.proofs.StateLemmas.{survives_then}
 use Rattle.sqlite_trees.specs.declared.store.Store.{Ghosts}
-use Rattle.farm_store.specs.Edits.{GoesOn}
 
 module _ {S : Type 0} {g : Ghosts S} where
   -- the disk was clean before

@@ -1,57 +1,26 @@
 -- What INSERT of one row makes of the tables; and with ON CONFLICT, in a table that is keyed by its first column, a text: the row is written over the one that has the key, or is new.
-use Rattle.std.proofs.Common.{◌≡◌, inl, inr, ℕ, ℤ, List, [], ◌∷◌, ◌++◌, false, length, ◌/◌, slice_get, Option, Some, None, Ok, sym, ap, subst, ◌∙◌, refl, ◌||◌, true, ap₂, is_eq, Equal}
-use Rattle.sqlite.specs.Order.{Row}
+use Rattle.std.proofs.Common.{◌≡◌, inl, inr, ℕ, ℤ, List, [], ◌∷◌, ◌++◌, false, length, ◌/◌, slice_get, Option, Some, None, Ok, sym, ap, subst, ◌∙◌, refl, ◌||◌}
+use Rattle.std.proofs.Common.{true, ap₂, is_eq, Equal}
+use Rattle.farm_store.proofs.Names.{Abort, agree, all_has, AreConflicts, AreListed, AtPlace, by_first, cases_Bool, cast_row, catalog_tree, Chosen, Column}
+use Rattle.farm_store.proofs.Names.{command_of, conflicts, Database, Does, farm_schema, Given, Has, HasInt, HoldsAt, ids_of, InsertOr, int_is, is_int, IsInside}
+use Rattle.farm_store.proofs.Names.{IsPlain, IsWide, Keys, ListsRows, next_rowid, one_step, OnRows, Order, overlay, plain, put, put_at, Row, row_less_rowid}
+use Rattle.farm_store.proofs.Names.{rowid, runs_as, statement_of, strict_table, TableRows, TableSlot, Tally, Term, tied_back, tied_same, Trees, Upsert, Value}
+use Rattle.farm_store.proofs.Names.{value_rows, works}
 use Rattle.sqlite.specs.Table.{Table}
-use Rattle.sqlite.specs.Term.{Term}
-use Rattle.sqlite.specs.Tree.{Trees}
 use Rattle.sqlite.specs.Source.TheVariants.{Values}
-use Rattle.sqlite.specs.Command.TheVariants.{InsertOr}
 use Rattle.sqlite.specs.Listing.{understood}
-use Rattle.sqlite.specs.Effect.{Database, value_rows}
 use Rattle.sqlite.specs.Edit.{with_rowid, edit_of, are_fresh, without_all, put_all, id_in, taken_by}
-use Rattle.sqlite.specs.Rowids.TheVariants.{Chosen, Given}
-use Rattle.sqlite.specs.Cast.{cast_row}
-use Rattle.sqlite.specs.Does.{Tally, Does, AtPlace, OnRows}
-use Rattle.sqlite.specs.Rows.{Task, Written, Upserts, Judged, Tries, TriesEach, InsertsOr, count_of, mended, nothing, passes_over, Then, Gives, Edited, shown, Updates, Puts, Clears, Meets}
+use Rattle.sqlite.specs.Rows.{Task, Written, Upserts, Judged, Tries, TriesEach, InsertsOr, count_of, mended, nothing, passes_over, Then, Gives, Edited, shown}
+use Rattle.sqlite.specs.Rows.{Updates, Puts, Clears, Meets}
 use Rattle.sqlite.specs.State.{State, mode_of, ExecutesInside}
 use Rattle.sqlite.specs.declared.run.Mode.{Mode}
-use Rattle.sqlite.proofs.Callers.{IsPlain, command_of, statement_of, runs_as, one_step}
-use Rattle.sqlite_value.specs.declared.keys.Order.{Order}
-use Rattle.sqlite_schema.specs.declared.schema.Column.{Column}
 use Rattle.sqlite_schema.specs.declared.command.Conflict.{Conflict}
-use Rattle.sqlite_schema.specs.declared.command.Upsert.{Upsert}
 use Rattle.sqlite_rules.specs.declared.error.Refusal.{Refusal}
-use Rattle.sqlite_catalog.specs.Listing.{AreListed}
-use Rattle.sqlite_trees.specs.Objects.{catalog_tree}
-use Rattle.farm_types.specs.Table.{put}
-use Rattle.farm_store.specs.Columns.{TableRows, by_first}
-use Rattle.farm_store.specs.Holds.{IsInside}
-use Rattle.farm_store.specs.Places.{HoldsAt, TableSlot, put_at}
-use Rattle.farm_store.specs.Schema.{farm_schema, strict_table}
 use Rattle.farm_store.proofs.PutAt.{IsKnown, stands_rewritten}
 use Rattle.farm_store.proofs.Replace.{TableBecomes, went, same_value, eq_is, apart_same, cast_int, from_put, clears}
-use Rattle.std.proofs.lemmas.Bool.{cases_Bool}
-use Rattle.std.proofs.lemmas.Cmp.{tied_back}
-use Rattle.sqlite.specs.declared.types.Value.{Value}
 use Rattle.sqlite.specs.declared.types.Value.TheVariants.{Null, Int, Text}
-use Rattle.sqlite.specs.Program.{overlay}
 use Rattle.sqlite_sql.specs.Term.{eval_all}
-use Rattle.sqlite_value.specs.Keys.{plain}
 use Rattle.sqlite_value.specs.Order.{column, value_cmp}
-use Rattle.sqlite_trees.specs.Tree.{rowid}
-use Rattle.sqlite_trees.specs.View.{is_int}
-use Rattle.sqlite_schema.specs.Rules.{agree}
-use Rattle.sqlite_schema.specs.declared.schema.Keys.{Keys}
-use Rattle.sqlite_schema.specs.declared.command.Conflict.TheVariants.{Abort}
-use Rattle.sqlite_rules.specs.Action.{works}
-use Rattle.sqlite_rules.specs.Calls.{ids_of}
-use Rattle.sqlite_rules.specs.Edit.{next_rowid}
-use Rattle.sqlite_rules.specs.Keys.{conflicts, AreConflicts}
-use Rattle.sqlite_rules.specs.Lists.{Has}
-use Rattle.sqlite_rules.proofs.ListLemmas.{all_has}
-use Rattle.sqlite_rules.proofs.PlaceLemmas.{tied_same}
-use Rattle.sqlite_rules.proofs.TableLemmas.{int_is}
-use Rattle.farm_store.specs.Stored.{HasInt, IsWide, ListsRows, row_less_rowid}
 use Rattle.farm_store.proofs.Sorted.{tie_same}
 use Rattle.farm_store.proofs.Keys.{first_total, by_next, or_false, agree_one, agree_next}
 use Rattle.farm_store.proofs.Stays.{all_fit, all_stay}

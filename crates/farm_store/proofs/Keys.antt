@@ -1,28 +1,12 @@
 -- Which rows have the key of a new row.
 use Rattle.std.proofs.Common.{refl, ◌≡◌, ℤ, List, [], ◌∷◌, Bool, true, false, ◌||◌, ◌&&◌, sym, ap, ◌∙◌, Ordering, Less, Equal, Greater, is_eq, Some}
-use Rattle.std.specs.Cmp.{IsTotalOrder}
-use Rattle.std.specs.List.{AllByRecursion}
-use Rattle.std.specs.Ordering.{ordering_then}
-use Rattle.std.proofs.lemmas.Cmp.{on_total, then_total}
-use Rattle.std.proofs.lemmas.Bool.{false_from_ne_true}
-use Rattle.sqlite.specs.declared.types.Value.{Value}
+use Rattle.farm_store.proofs.Names.{agree, all_has, AllByRecursion, Binary, by_first, by_two, Chosen, equal, false_from_ne_true, Has, HasInt, is_int, is_taken}
+use Rattle.farm_store.proofs.Names.{IsTable, IsTotalOrder, next_is_free, next_rowid, on_total, ordering_then, Row, row_less_rowid, rowid, some_from, then_total}
+use Rattle.farm_store.proofs.Names.{Value, value_cmp-Null, value_cmp_total, with_number}
 use Rattle.sqlite.specs.declared.types.Value.TheVariants.{Null, Int, Real, Text, Blob}
-use Rattle.sqlite.specs.Order.{Row}
 use Rattle.sqlite_value.specs.Order.{column, value_cmp}
 use Rattle.sqlite_value.specs.Keys.{plain, first_key}
-use Rattle.sqlite_value.specs.declared.keys.Collation.TheVariants.{Binary}
-use Rattle.sqlite_value.proofs.OrderLemmas.{value_cmp_total, value_cmp-Null}
 use Rattle.sqlite_sql.specs.Ops.{binary, is_null, is_true, from_truth}
-use Rattle.sqlite_schema.specs.Rules.{agree, equal}
-use Rattle.sqlite_trees.specs.Tree.{rowid, IsTable}
-use Rattle.sqlite_trees.specs.View.{is_int}
-use Rattle.sqlite_rules.specs.Lists.{Has}
-use Rattle.sqlite_rules.specs.Edit.{is_taken, next_rowid}
-use Rattle.sqlite.specs.Rowids.TheVariants.{Chosen}
-use Rattle.sqlite_rules.proofs.ListLemmas.{some_from, all_has}
-use Rattle.sqlite_rules.proofs.PlaceLemmas.{next_is_free}
-use Rattle.farm_store.specs.Columns.{by_first, by_two}
-use Rattle.farm_store.specs.Stored.{HasInt, row_less_rowid, with_number}
 
 pub first_total : IsTotalOrder by_first
 first_total = on_total (λ (r : Row). column r 0) value_cmp_total

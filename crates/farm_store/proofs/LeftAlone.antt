@@ -1,19 +1,10 @@
 -- What a call that only reads leaves of a connection.
 use Rattle.std.proofs.Common.{inl, inr, ◌≡◌, ◌⊎◌, ◌++◌, ℕ, false, List, [], Option, Some, None, sym, subst, ◌∙◌, arith}
 use Rattle.sqlite.specs.Clock.{timed}
-use Rattle.sqlite.specs.Effect.{Database}
-use Rattle.sqlite.specs.Order.{Row}
+use Rattle.farm_store.proofs.Names.{AllByRecursion, AsksFor, Database, Error, IsWide, ReadsOnly, Row, ShowsTablesWith, StandsWith, TableColumns, TableRows}
+use Rattle.farm_store.proofs.Names.{TableSlot, Trees}
 use Rattle.sqlite.specs.State.{State, HasCleanDisk, Begins, FailsToQuery, FailsToShow, IsNotRun, IsRolledBack, IsUnchanged, Shown, Survives}
-use Rattle.sqlite.specs.Tree.{Trees}
-use Rattle.sqlite.specs.declared.error.Error.{Error}
 use Rattle.sqlite_schema.specs.declared.command.Returning.{Returning}
-use Rattle.std.specs.List.{AllByRecursion}
-use Rattle.farm_store.specs.Columns.{TableRows}
-use Rattle.farm_store.specs.Holds.{ReadsOnly, ShowsTablesWith, StandsWith}
-use Rattle.farm_store.specs.Places.{TableSlot}
-use Rattle.farm_store.specs.Queries.{AsksFor}
-use Rattle.farm_store.specs.Schema.{TableColumns}
-use Rattle.farm_store.specs.Stored.{IsWide}
 use Rattle.farm_store.proofs.OnlyReads.{shown, shown_first}
 
 -- it is as it was, or it went back to the last commit

@@ -1,3 +1,4 @@
+pub mod Names
 pub mod Sorted
 pub mod Order
 pub mod Replace

@@ -1,31 +1,21 @@
 -- A list of objects lists one schema at most.
-use Rattle.std.proofs.Common.{MatchBool, Option, ◌≡◌, ◌≢◌, ◌⊎◌, inl, inr, ℕ, pos, ◌+◌, ◌<◌, List, [], ◌∷◌, ◌++◌, codes, filter, slice_get, slice_index_or, Bool, true, false, None, Some, Ok, refl, sym, ap, subst, ◌∙◌, arith, zero, suc}
+use Rattle.std.proofs.Common.{MatchBool, Option, ◌≡◌, ◌≢◌, ◌⊎◌, inl, inr, ℕ, pos, ◌+◌, ◌<◌, List, [], ◌∷◌, ◌++◌, codes, filter, slice_get, slice_index_or, Bool}
+use Rattle.std.proofs.Common.{true, false, None, Some, Ok, refl, sym, ap, subst, ◌∙◌, arith}
 use Rattle.std.specs.Fmt.{decimal}
-use Rattle.std.specs.List.{AllZip}
+use Rattle.farm_store.proofs.Names.{all_has, AllZip, append_cancel_left, catalog_tree, column, Database, farm_schema, Has, Holds, IsAscending, Row, rowid}
+use Rattle.farm_store.proofs.Names.{Stands, TableRows, Trees, Value}
 use Rattle.std.proofs.lemmas.Fmt.{decimal_injective}
-use Rattle.std.proofs.lemmas.List.{append_cancel_left}
-use Rattle.sqlite.specs.declared.types.Value.{Value}
 use Rattle.sqlite.specs.declared.types.Value.TheVariants.{Null, Int, Real, Text, Blob}
-use Rattle.sqlite.specs.Order.{Row}
-use Rattle.sqlite_value.specs.Order.{column}
-use Rattle.sqlite_trees.specs.Tree.{IsAscending, rowid}
 use Rattle.sqlite_schema.specs.Names.{same_name}
 use Rattle.sqlite_schema.specs.declared.schema.Table.{Table}
 use Rattle.sqlite_schema.specs.declared.schema.Index.{Index}
 use Rattle.sqlite_schema.specs.declared.schema.Schema.{Schema}
 use Rattle.sqlite_schema.specs.declared.schema.View.{View}
-use Rattle.sqlite_rules.specs.Lists.{Has}
-use Rattle.sqlite_catalog.specs.Listing.{AreListed, IsAside, IsDefined, IsForeign, IsIndexRow, IsReadable, IsTableRow, IsViewRow, automatic, is_table_row, is_index_row, is_view_row}
+use Rattle.sqlite_catalog.specs.Listing.{AreListed, IsAside, IsDefined, IsForeign, IsIndexRow, IsReadable, IsTableRow, IsViewRow, automatic, is_table_row}
+use Rattle.sqlite_catalog.specs.Listing.{is_index_row, is_view_row}
 use Rattle.sqlite_resolve.specs.Compile.{table_defined_by}
-use Rattle.sqlite_rules.proofs.ListLemmas.{all_has}
 use Rattle.sqlite_catalog.proofs.StepLemmas.{same_itself}
-use Rattle.sqlite.specs.Effect.{Database}
 use Rattle.sqlite.specs.State.{State, Opens, IsLive}
-use Rattle.sqlite_trees.specs.Objects.{catalog_tree}
-use Rattle.sqlite.specs.Tree.{Trees}
-use Rattle.farm_store.specs.Columns.{TableRows}
-use Rattle.farm_store.specs.Holds.{Holds, Stands}
-use Rattle.farm_store.specs.Schema.{farm_schema}
 
 same_ok : {A E : Type 0} {a b : A} → ◌≡◌ {A = Rattle.std.proofs.Common.Result A E} (Ok a) (Ok b) → a ≡ b
 same_ok e = cc

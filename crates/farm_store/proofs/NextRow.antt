@@ -1,8 +1,7 @@
 -- What taking the next row of a query leaves.
 use Rattle.std.proofs.Common.{inl, inr, ◌≡◌, ◌⊎◌, false, Result, Ok, Err, IfErr, OnOk}
 use Rattle.sqlite.specs.State.{State, HasCleanDisk, Fails, IsUnchanged, Survives}
-use Rattle.sqlite.specs.declared.error.Error.{Error}
-use Rattle.farm_store.specs.Holds.{ReadsOnly}
+use Rattle.farm_store.proofs.Names.{Error, ReadsOnly}
 use Rattle.farm_store.proofs.LeftAlone.{IsLeft, only_then, reads_only}
 
 module _ {A : Type 0} (first old new : State) where

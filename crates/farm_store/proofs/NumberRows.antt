@@ -1,15 +1,8 @@
 -- The rows of the farm's numbers.
 use Rattle.std.proofs.Common.{◌≡◌, ◌≢◌, ◌<◌, ℕ, pos, List, [], ◌∷◌, length, get_or, Result, Ok, Err, IsErrAnd, sym, ap, subst, ◌∙◌, arith}
 use Rattle.std.specs.Prelude.{⊤}
-use Rattle.std.specs.List.{AllByRecursion}
+use Rattle.farm_store.proofs.Names.{AllByRecursion, column, IsWide, meta_row, MetaRow, of_meta, ReadsAs, Row}
 use Rattle.sqlite.specs.declared.types.Value.TheVariants.{Int, Text}
-use Rattle.sqlite.specs.Order.{Row}
-use Rattle.sqlite_value.specs.Order.{column}
-use Rattle.farm_types.specs.declared.rows.MetaRow.{MetaRow}
-use Rattle.farm_store.specs.Columns.{meta_row}
-use Rattle.farm_store.specs.Places.{of_meta}
-use Rattle.farm_store.specs.Reading.{ReadsAs}
-use Rattle.farm_store.specs.Stored.{IsWide}
 use Rattle.farm_types.specs.declared.refusal.Refusal.{Refusal}
 use Rattle.farm_store.proofs.ColumnsFrom.{whole}
 use Rattle.farm_store.proofs.ReadRows.{all_at}

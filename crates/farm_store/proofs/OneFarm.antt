@@ -1,34 +1,23 @@
 -- Farms whose words are words are one where their tables are.
-use Rattle.std.proofs.Common.{refl, ◌≡◌, ◌≢◌, ℕ, pos, List, [], ◌∷◌, map, Bool, true, false, Option, None, Some, unwrap_or, IfSome, get_or, sym, ap, subst, ◌∙◌, arith}
+use Rattle.std.proofs.Common.{refl, ◌≡◌, ◌≢◌, ℕ, pos, List, [], ◌∷◌, map, Bool, true, false, Option, None, Some, unwrap_or, IfSome, get_or, sym, ap, subst, ◌∙◌}
+use Rattle.std.proofs.Common.{arith}
 use Rattle.std.specs.Option.{option_map_or}
 use Rattle.std.specs.Prelude.{◌==◌}
-use Rattle.std.specs.List.{AllByRecursion, find}
-use Rattle.sqlite.specs.declared.types.Value.TheVariants.{Int}
-use Rattle.sqlite.specs.Order.{Row}
-use Rattle.sqlite_value.specs.Order.{column}
+use Rattle.farm_store.proofs.Names.{AllByRecursion, BoardRow, column, Edition, every_of, Farm, find, health_code, health_with, held_by, Int, IsCollectorIn}
+use Rattle.farm_store.proofs.Names.{IsReadableIn, IsReadableJobIn, IsStateIn, job_columns_in, job_state_code, job_state_with, JobRow, JobState, KeptRow}
+use Rattle.farm_store.proofs.Names.{meta_rows_in, MetaRow, outcome_code, outcome_with, res_state_code, res_state_with, ResRow, Row, rows_in, state_code}
+use Rattle.farm_store.proofs.Names.{state_code_in, state_with, tags_read_back, TypeRow}
 use Rattle.farm_types.specs.Words.{IsName, IsTags, is_word}
-use Rattle.farm_types.specs.Small.{every_of, held_by}
 use Rattle.farm_types.specs.Tags.{tags_text, tags_read}
-use Rattle.farm_types.specs.Farm.{Farm}
-use Rattle.farm_types.specs.Codes.{health_code, health_with, state_code, state_with, job_state_code, job_state_with, outcome_code, outcome_with, res_state_code, res_state_with}
 use Rattle.farm_types.specs.declared.rows.Check.{Check}
 use Rattle.farm_types.specs.declared.rows.Health.{Health}
 use Rattle.farm_types.specs.declared.rows.Holder.{Holder}
-use Rattle.farm_types.specs.declared.rows.JobState.{JobState}
 use Rattle.farm_types.specs.declared.rows.Outcome.{Outcome}
 use Rattle.farm_types.specs.declared.rows.ResState.{ResState}
 use Rattle.farm_types.specs.declared.rows.State.{State}
-use Rattle.farm_types.specs.declared.rows.TypeRow.{TypeRow}
-use Rattle.farm_types.specs.declared.rows.BoardRow.{BoardRow}
-use Rattle.farm_types.specs.declared.rows.JobRow.{JobRow}
-use Rattle.farm_types.specs.declared.rows.ResRow.{ResRow}
-use Rattle.farm_types.specs.declared.rows.KeptRow.{KeptRow}
-use Rattle.farm_types.proofs.SortedTags.{tags_read_back}
-use Rattle.farm_types.specs.declared.rows.MetaRow.{MetaRow}
-use Rattle.farm_store.specs.Columns.{rows_of, unit_code, holder_of, checking_code, first_state_code, type_columns, board_columns, res_columns, kept_columns, numbers_of}
-use Rattle.farm_store.specs.Editions.{IsCollectorIn, IsReadableIn, IsReadableJobIn, IsStateIn, job_columns_in, meta_rows_in, rows_in, state_code_in}
+use Rattle.farm_store.specs.Columns.{rows_of, unit_code, holder_of, checking_code, first_state_code, type_columns, board_columns, res_columns, kept_columns}
+use Rattle.farm_store.specs.Columns.{numbers_of}
 use Rattle.farm_store.specs.Readable.{IsReadable, IsReadableType, IsReadableBoard, IsReadableRes, IsReadableKept}
-use Rattle.farm_store.specs.declared.edition.Edition.{Edition}
 use Rattle.farm_store.proofs.EditionLemmas.{collector_in, readable_jobs, spelled, words_in}
 
 same_number : (m n : ℕ) → Int (pos m) ≡ Int (pos n) → m ≡ n

@@ -1,14 +1,12 @@
 -- A query that only reads, whatever the schema is.
-use Rattle.std.proofs.Common.{refl, inl, inr, ◌≡◌, ◌+◌, ℕ, Bool, true, false, if◌then◌else◌, List, [], Option, Some, None, Result, Ok, Err, IsSome, is_ok, sym, ap, subst, ◌∙◌}
+use Rattle.std.proofs.Common.{refl, inl, inr, ◌≡◌, ◌+◌, ℕ, Bool, true, false, if◌then◌else◌, List, [], Option, Some, None, Result, Ok, Err, IsSome, is_ok, sym}
+use Rattle.std.proofs.Common.{ap, subst, ◌∙◌}
 use Rattle.sqlite.specs.Clock.{timed as with_time}
-use Rattle.sqlite.specs.Effect.{Reads, ReadsFirst}
+use Rattle.farm_store.proofs.Names.{Held, OnlyReads, Reads, ReadsFirst, ReturnsFirstRows, ReturnsRows, Row, state, Trees}
 use Rattle.sqlite.specs.Given.{HasBegun, HasGiven, Returns}
-use Rattle.sqlite.specs.Held.{Held, state}
 use Rattle.sqlite.specs.Listing.{understood, reads_listing, if_select, listing_schema, IsSourceOf}
-use Rattle.sqlite.specs.Order.{Row}
 use Rattle.sqlite.specs.Schema.{Schema}
 use Rattle.sqlite.specs.State.{State, Begins, CommitsShowing, IsUnchanged, Shown, ShowsRows}
-use Rattle.sqlite.specs.Tree.{Trees}
 use Rattle.sqlite_tied.specs.Compute.{everything}
 use Rattle.sqlite_trees.specs.declared.store.Store.{Ghosts}
 use Rattle.sqlite_schema.specs.declared.command.Command.{Command}
@@ -17,7 +15,6 @@ use Rattle.sqlite_resolve.specs.Compile.{compiled, command, returning, timed, fi
 use Rattle.sqlite_resolve.specs.Lowering.{Checked, and_then}
 use Rattle.sqlite_resolve.specs.declared.compiled.Compiled.{Compiled}
 use Rattle.sqlite_resolve.specs.declared.error.CompileError.{CompileError}
-use Rattle.farm_store.specs.Queries.{OnlyReads, ReturnsRows, ReturnsFirstRows}
 
 -- a statement without RETURNING that reads no time
 abbrev IsBare : {P : Type 0} → (P → List (List ℕ)) → (P → Checked (Option Returning)) → Checked P → Type 0

@@ -1,17 +1,9 @@
 -- A list in weak order, with the elements of a list without ties, is in strict order; and a list in strict order is known by its elements.
-use Rattle.std.proofs.Common.{◌≡◌, ◌≢◌, inl, inr, ℕ, zero, suc, ◌+◌, ◌<◌, ◌≤◌, List, [], ◌∷◌, length, get_or, true, false, cond, All, refl, sym, ap, subst, ◌∙◌, arith, Ordering, Less, Equal, Greater, is_eq, is_lt}
-use Rattle.std.specs.List.{AllByRecursion, sum_by}
-use Rattle.std.specs.List.Sorted.{IsPermutation, IsSorted}
-use Rattle.std.specs.Ordering.{ordering_reverse}
-use Rattle.std.specs.Cmp.{IsTotalOrder}
-use Rattle.std.proofs.lemmas.Bool.{cases_Bool}
-use Rattle.std.proofs.lemmas.Cmp.{tied_itself, tied_back}
+use Rattle.std.proofs.Common.{◌≡◌, ◌≢◌, inl, inr, ℕ, zero, suc, ◌+◌, ◌<◌, ◌≤◌, List, [], ◌∷◌, length, get_or, true, false, cond, All, refl, sym, ap, subst, ◌∙◌}
+use Rattle.std.proofs.Common.{arith, Ordering, Less, Equal, Greater, is_eq, is_lt}
+use Rattle.farm_store.proofs.Names.{All-permutation, all_from, all_has, AllByRecursion, cases_Bool, Has, IsAscending, IsPermutation, IsSorted, IsStrict}
+use Rattle.farm_store.proofs.Names.{IsTotalOrder, ordering_reverse, ranks_by, sorted_far, sum_by, tied_back, tied_itself}
 use Rattle.std.proofs.lemmas.List.Sums.{sum_by-cons}
-use Rattle.std.proofs.lemmas.List.Sorted.{All-permutation, sorted_far, ranks_by}
-use Rattle.sqlite_trees.specs.Tree.{IsAscending}
-use Rattle.sqlite_rules.specs.Lists.{Has}
-use Rattle.sqlite_rules.proofs.ListLemmas.{all_has, all_from}
-use Rattle.farm_store.specs.Stored.{IsStrict}
 
 module _ {A : Type 0} where
   has_at : (xs : List A) (k : ℕ) (d : A) → k < length xs → Has xs (get_or xs k d)

@@ -1,20 +1,39 @@
 -- Rows are put at one of the six places, and the others keep theirs.
-use Rattle.std.proofs.Common.{refl, ◌≡◌, ◌≢◌, ◌==◌, ◌⊎◌, inl, inr, ℕ, zero, suc, ◌+◌, ◌<◌, List, [], ◌∷◌, map, take, length, get_or, IsTrue, false, sym, ap, subst, ◌∙◌, arith, add-one}
-use Rattle.std.proofs.lemmas.Bool.Decides.{nat_tests}
-use Rattle.std.specs.Cmp.{IsTotalOrder}
-use Rattle.std.specs.List.{AllByRecursion}
-use Rattle.sqlite.specs.Order.{Row}
+use Rattle.std.proofs.Common.{refl, ◌≡◌, ◌≢◌, ◌==◌, ◌⊎◌, inl, inr, ℕ, zero, suc, ◌+◌, ◌<◌, List, [], ◌∷◌, map, take, length, get_or, IsTrue, false, sym, ap}
+use Rattle.std.proofs.Common.{subst, ◌∙◌, arith, add-one}
+use Rattle.farm_store.proofs.Names.{AllByRecursion, AreListed, board_columns, catalog_tree, farm_columns, farm_schema, Holds, HoldsAt, IsInside, IsTableSlot}
+use Rattle.farm_store.proofs.Names.{IsTotalOrder, job_columns, kept_columns, ListsRows, nat_tests, number_rows, of_boards_with, of_jobs_with, of_kept_with}
+use Rattle.farm_store.proofs.Names.{of_meta, of_reservations_with, of_types_with, put_at, res_columns, Row, Rows, ShowsTables, TableRows, TableSlot, Trees}
+use Rattle.farm_store.proofs.Names.{type_columns}
 use Rattle.sqlite.specs.State.{State}
-use Rattle.sqlite.specs.Tree.{Trees}
 use Rattle.farm_types.specs.Table.{put, put_all}
-use Rattle.sqlite_catalog.specs.Listing.{AreListed}
-use Rattle.sqlite_trees.specs.Objects.{catalog_tree}
-use Rattle.farm_store.specs.Columns.{TableRows}
-use Rattle.farm_store.specs.Holds.{Holds, ShowsTables, IsInside}
-use Rattle.farm_store.specs.Places.{TableSlot, IsTableSlot, HoldsAt, put_at, of_types, of_boards, of_jobs, of_reservations, of_kept, of_meta}
-use Rattle.farm_store.specs.Schema.{farm_schema}
-use Rattle.farm_store.specs.Stored.{ListsRows}
 use Rattle.farm_store.proofs.Keys.{first_total, two_total}
+
+-- the places of this version
+abbrev pub of_types : TableSlot
+of_types = of_types_with farm_columns.types
+
+abbrev pub of_boards : TableSlot
+of_boards = of_boards_with farm_columns.boards
+
+abbrev pub of_jobs : TableSlot
+of_jobs = of_jobs_with farm_columns.jobs
+
+abbrev pub of_reservations : TableSlot
+of_reservations = of_reservations_with farm_columns.reservations
+
+abbrev pub of_kept : TableSlot
+of_kept = of_kept_with farm_columns.kept
+
+-- the tables with all changed rows and the four numbers put
+abbrev pub put_tables : TableRows → Rows → TableRows
+put_tables T c =
+    put_at of_meta
+    (put_at of_kept (put_at of_reservations (put_at of_jobs (put_at of_boards (put_at of_types T
+    (map type_columns c.types.items)) (map board_columns c.boards.items))
+    (map job_columns c.jobs.items)) (map res_columns c.reservations.items))
+    (map kept_columns c.kept.items))
+    (number_rows c.meta)
 
 abbrev places : List TableSlot
 places = of_types ∷ of_boards ∷ of_jobs ∷ of_reservations ∷ of_kept ∷ of_meta ∷ []

@@ -1,13 +1,8 @@
 -- A farm's tables of the first edition, with its jobs as the second has them and two numbers put, are those of the second.
 use Rattle.std.proofs.Common.{◌≡◌, [], ◌∷◌, codes, refl, sym, ap, ◌∙◌}
-use Rattle.sqlite_value.proofs.OrderLemmas.{value_cmp-Text}
+use Rattle.farm_store.proofs.Names.{Edition, Farm, MetaRow, of_meta, put_at, tables_with_jobs, value_cmp-Text}
 use Rattle.farm_types.specs.Table.{put_all}
-use Rattle.farm_types.specs.Farm.{Farm}
-use Rattle.farm_types.specs.declared.rows.MetaRow.{MetaRow}
-use Rattle.farm_store.specs.declared.edition.Edition.{Edition}
 use Rattle.farm_store.specs.Columns.{by_first, first_meta_rows, first_rows_of, meta_row, meta_rows, numbers_of, rows_of, second_schema}
-use Rattle.farm_store.specs.Editions.{tables_with_jobs}
-use Rattle.farm_store.specs.Places.{of_meta, put_at}
 
 pub first_is : (F : Farm) → first_rows_of F ≡ tables_with_jobs Edition.First F.jobs (first_rows_of F)
 unfolding first_rows_of

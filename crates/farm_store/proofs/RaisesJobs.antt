@@ -1,45 +1,21 @@
 -- The statement that makes the rows of the jobs from one number to another those of the second edition.
-use Rattle.std.proofs.Common.{refl, ◌≡◌, ◌≤◌, ◌-◌, ◌++◌, ℕ, zero, suc, length, pos, List, [], ◌∷◌, map, drop, codes, Bool, true, false, cond, not, ◌&&◌, Some, Ok, sym, ap, ap₂, subst, ◌∙◌, arith, Less, Greater, Equal}
+use Rattle.std.proofs.Common.{refl, ◌≡◌, ◌≤◌, ◌-◌, ◌++◌, ℕ, zero, suc, length, pos, List, [], ◌∷◌, map, drop, codes, Bool, true, false, cond, not, ◌&&◌, Some}
+use Rattle.std.proofs.Common.{Ok, sym, ap, ap₂, subst, ◌∙◌, arith, Less, Greater, Equal}
 use Rattle.std.specs.Prelude.{nat_lt}
-use Rattle.std.specs.Ordering.{int_cmp}
-use Rattle.std.specs.List.{AllByRecursion}
-use Rattle.std.proofs.lemmas.Bool.{lt-ltb, le-ltb}
-use Rattle.std.proofs.lemmas.Bool.Decides.{nat_tests}
-use Rattle.sqlite.specs.declared.types.Value.{Value}
-use Rattle.sqlite.specs.declared.types.Value.TheVariants.{Null, Int}
-use Rattle.sqlite.specs.Order.{Row}
+use Rattle.farm_store.proofs.Names.{AllByRecursion, Arith, Binary, cast_row, col, columns_below, command_of, Compare, Edition, edition_below, farm_schema}
+use Rattle.farm_store.proofs.Names.{first_state_code, Ge, Gt, Int, int_cmp, IsInside, IsPlain, IsSmallJob, job_columns_in, job_state_code, JobRow, jobs_table}
+use Rattle.farm_store.proofs.Names.{JobState, le-ltb, lit, Lt, lt-ltb, nat_tests, Null, op2, raised_below, Row, rowid, state_code_in, TableRows, Term, Update}
+use Rattle.farm_store.proofs.Names.{Value, value_cmp-Int, with_number}
 use Rattle.sqlite.specs.Table.{Table}
-use Rattle.sqlite.specs.Term.{Term, lit, col}
-use Rattle.sqlite.specs.Command.TheVariants.{Update}
-use Rattle.sqlite.specs.Cast.{cast_row}
 use Rattle.sqlite.specs.Listing.{understood}
 use Rattle.sqlite.specs.State.{State, ExecutesInside}
-use Rattle.sqlite.proofs.Callers.{IsPlain, command_of}
 use Rattle.sqlite_tied.specs.Compute.{everything}
 use Rattle.sqlite_sql.specs.Ops.{binary, from_truth, is_true, test}
-use Rattle.sqlite_sql.specs.Term.{op2}
-use Rattle.sqlite_sql.specs.declared.ops.BinaryOp.TheVariants.{Arith, Compare}
 use Rattle.sqlite_sql.specs.declared.ops.ArithOp.TheVariants.{Add, Rem}
-use Rattle.sqlite_sql.specs.declared.ops.CompareOp.TheVariants.{Ge, Gt, Lt}
 use Rattle.sqlite_sql.specs.declared.ops.CompareOp.{CompareOp}
-use Rattle.sqlite_value.specs.declared.keys.Collation.TheVariants.{Binary}
-use Rattle.sqlite_value.proofs.OrderLemmas.{value_cmp-Int}
-use Rattle.sqlite_trees.specs.Tree.{rowid}
-use Rattle.farm_types.specs.Codes.{job_state_code}
-use Rattle.farm_types.specs.Small.{IsSmallJob}
-use Rattle.farm_types.specs.declared.rows.JobRow.{JobRow}
-use Rattle.farm_types.specs.declared.rows.JobState.{JobState}
-use Rattle.farm_store.specs.declared.edition.Edition.{Edition}
 use Rattle.farm_store.specs.declared.jobs.TheConstants.{END, RAISE}
-use Rattle.farm_store.specs.Columns.{TableRows, first_state_code}
-use Rattle.farm_store.specs.Editions.{job_columns_in, state_code_in}
-use Rattle.farm_store.specs.Holds.{IsInside}
-use Rattle.farm_store.specs.Places.{of_jobs}
-use Rattle.farm_store.specs.Raising.{columns_below, edition_below, raised_below}
-use Rattle.farm_store.specs.Schema.{farm_schema, jobs_table}
-use Rattle.farm_store.specs.Stored.{with_number}
 use Rattle.farm_store.proofs.Keys.{and_true, from_test}
-use Rattle.farm_store.proofs.PutAt.{jobs_known}
+use Rattle.farm_store.proofs.PutAt.{jobs_known, of_jobs}
 use Rattle.farm_store.proofs.Replace.{cast_int}
 use Rattle.farm_store.proofs.Clause.{query as query_of}
 use Rattle.farm_store.proofs.Stays.{all_stay}

@@ -1,19 +1,11 @@
 -- The tables of a farm, read.
 use Rattle.std.proofs.Common.{refl, ◌≡◌, ◌≢◌, ◌⊎◌, inl, inr, Result, Ok, Err, IfErr, IfOk, IsErrAnd, IsTrue, List, map, sym, ap, ◌∙◌}
-use Rattle.std.specs.List.{AllByRecursion}
-use Rattle.sqlite.specs.Order.{Row}
+use Rattle.farm_store.proofs.Names.{AllByRecursion, BadStore, board_columns, Edition, Farm, farm_of, IsCollectorIn, IsNoVersionFault, IsReadableBoard}
+use Rattle.farm_store.proofs.Names.{IsReadableIn, IsReadableJobIn, IsReadableKept, IsReadableRes, IsReadableType, IsVersion, IsVersionFault, job_columns_in}
+use Rattle.farm_store.proofs.Names.{kept_columns, LooksFirst, meta_rows_in, other_edition, ReadsEdition, ReadsFarm, res_columns, Row, Rows, rows_in}
+use Rattle.farm_store.proofs.Names.{schema_with, StandsIn, Store, StoreFault, table_columns_in, TableRows, type_columns, version_fault}
 use Rattle.sqlite.specs.State.{State}
-use Rattle.farm_types.specs.Farm.{Farm, farm_of}
-use Rattle.farm_types.specs.declared.calls.Rows.{Rows}
-use Rattle.farm_store.specs.Columns.{TableRows, type_columns, board_columns, res_columns, kept_columns}
-use Rattle.farm_store.specs.Editions.{IsCollectorIn, IsReadableIn, IsReadableJobIn, job_columns_in, meta_rows_in, other_edition, rows_in, table_columns_in, version_fault}
-use Rattle.farm_store.specs.Readable.{IsReadableType, IsReadableBoard, IsReadableRes, IsReadableKept}
-use Rattle.farm_store.specs.Reading.{LooksFirst, ReadsEdition, ReadsFarm, IsNoVersionFault, IsVersion, IsVersionFault, StandsIn}
-use Rattle.farm_store.specs.Schema.{schema_with}
 use Rattle.farm_store.specs.Versions.{ShowsNumbers}
-use Rattle.farm_store.specs.declared.edition.Edition.{Edition}
-use Rattle.farm_store.specs.declared.fault.StoreFault.{StoreFault}
-use Rattle.farm_store.specs.declared.fault.StoreFault.TheVariants.{BadStore, Store}
 use Rattle.farm_store.proofs.OneFarm.{one_farm_in}
 use Rattle.farm_store.proofs.EditionLemmas.{is_in, own_schema, never_version_fault, not_bad, not_store, states_of, whole_in, words_of}
 use Rattle.farm_store.proofs.RowSelects.{schema_from_version, version_from_schema}

@@ -1,12 +1,7 @@
 -- Rows read one after another.
-use Rattle.std.proofs.Common.{◌≡◌, ◌≢◌, ℕ, zero, suc, ◌<◌, List, [], ◌∷◌, ◌++◌, map, length, get_or, Result, Ok, Err, OnOk, IfErr, IsErrAnd, sym, ap, subst, ◌∙◌, arith}
-use Rattle.std.specs.List.{AllByRecursion}
-use Rattle.std.proofs.lemmas.List.{map-append}
-use Rattle.sqlite.specs.Order.{Row}
-use Rattle.farm_store.specs.Reading.{ReadsAll, ReadsRow, HasColumns, IsNoVersionFault}
-use Rattle.farm_store.specs.Stored.{IsWide}
-use Rattle.farm_store.specs.declared.fault.StoreFault.{StoreFault}
-use Rattle.farm_store.specs.declared.fault.StoreFault.TheVariants.{BadStore}
+use Rattle.std.proofs.Common.{◌≡◌, ◌≢◌, ℕ, zero, suc, ◌<◌, List, [], ◌∷◌, ◌++◌, map, length, get_or, Result, Ok, Err, OnOk, IfErr, IsErrAnd, sym, ap, subst}
+use Rattle.std.proofs.Common.{◌∙◌, arith}
+use Rattle.farm_store.proofs.Names.{AllByRecursion, BadStore, HasColumns, IsNoVersionFault, IsWide, map-append, ReadsAll, ReadsRow, Row, StoreFault}
 use Rattle.farm_store.specs.Faults.{fault_of_word}
 use Rattle.farm_types.specs.declared.fault.WordFault.{WordFault}
 use Rattle.farm_types.specs.declared.fault.WordFault.TheVariants.{NoMemory}

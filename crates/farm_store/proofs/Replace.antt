@@ -1,43 +1,18 @@
 -- What a row that is put into one table makes of it: it stands in the place of those that conflict with it.
-use Rattle.std.proofs.Common.{◌≡◌, ◌≢◌, ◌⊎◌, inl, inr, ℕ, ℤ, List, [], ◌∷◌, Bool, true, false, not, cond, filter, Option, None, Ok, Err, Result, Ordering, Less, Equal, Greater, is_eq, refl, sym, ap, subst, ◌∙◌}
-use Rattle.std.specs.Cmp.{IsTotalOrder}
-use Rattle.std.specs.List.{AllByRecursion}
-use Rattle.std.specs.Ordering.{match_ordering}
-use Rattle.std.proofs.lemmas.Bool.{cases_Bool, not-true, false_from_ne_true}
-use Rattle.std.proofs.lemmas.Cmp.{tied_itself}
-use Rattle.sqlite_value.specs.declared.keys.Order.{Order}
-use Rattle.sqlite_value.proofs.OrderLemmas.{value_cmp_total}
-use Rattle.sqlite.specs.declared.types.Value.{Value}
-use Rattle.sqlite.specs.declared.types.Value.TheVariants.{Null, Int}
-use Rattle.sqlite.specs.Order.{Row}
+use Rattle.std.proofs.Common.{◌≡◌, ◌≢◌, ◌⊎◌, inl, inr, ℕ, ℤ, List, [], ◌∷◌, Bool, true, false, not, cond, filter, Option, None, Ok, Err, Result, Ordering, Less}
+use Rattle.std.proofs.Common.{Equal, Greater, is_eq, refl, sym, ap, subst, ◌∙◌}
+use Rattle.farm_store.proofs.Names.{all_from, all_has, AllByRecursion, AreConflicts, cases_Bool, cast, cast_row, Clears, Column, conflicts, Differ}
+use Rattle.farm_store.proofs.Names.{false_from_ne_true, farm_schema, Given, Has, has_filtered, has_mapped, has_rowid, HasInt, ids_of, Int, int_is, is_int}
+use Rattle.farm_store.proofs.Names.{IsAscending, IsTable, IsTotalOrder, IsWide, Keys, left_or_taken, ListsRows, mapped_has, match_ordering, not-true, Null}
+use Rattle.farm_store.proofs.Names.{one_step, Order, put, put_all_adds, put_all_has, put_all_keeps, put_row, Puts, Replace, Row, row_at_is, rowid, strict_table}
+use Rattle.farm_store.proofs.Names.{Task, tied_itself, Trees, Value, value_cmp_total, without_all_has, without_rowid, works, Written}
 use Rattle.sqlite_value.specs.Order.{value_cmp}
-use Rattle.sqlite.specs.Tree.{Trees}
-use Rattle.sqlite_trees.specs.Tree.{rowid, has_rowid, without_rowid, IsTable, IsAscending, put_row}
-use Rattle.sqlite_trees.specs.View.{is_int}
 use Rattle.sqlite_trees.proofs.TreeLemmas.{IsTable-put_row, all-put_row}
 use Rattle.sqlite.specs.Ops.{unary}
 use Rattle.sqlite.specs.Table.{Table}
-use Rattle.sqlite_schema.specs.declared.schema.Column.{Column}
-use Rattle.sqlite_schema.specs.declared.schema.Keys.{Keys}
 use Rattle.sqlite.specs.Kind.TheVariants.{Integer}
-use Rattle.sqlite_schema.specs.declared.command.Conflict.TheVariants.{Replace}
-use Rattle.sqlite_rules.specs.Lists.{Has}
-use Rattle.sqlite_rules.specs.Keys.{conflicts, AreConflicts}
-use Rattle.sqlite.specs.Cast.{cast, cast_row}
-use Rattle.sqlite_rules.specs.Calls.{ids_of}
-use Rattle.sqlite_rules.specs.Action.{works}
-use Rattle.sqlite.specs.Rowids.TheVariants.{Given}
 use Rattle.sqlite.specs.Edit.{edit_of, are_fresh, without_all, put_all, row_at, id_in, taken_by}
 use Rattle.sqlite.specs.declared.run.Mode.{Mode}
-use Rattle.sqlite.specs.Rows.{Task, Written, Puts, Clears}
-use Rattle.sqlite.proofs.Callers.{one_step}
-use Rattle.sqlite_rules.proofs.ListLemmas.{all_has, all_from, has_filtered}
-use Rattle.sqlite_rules.proofs.ProbeLemmas.{has_mapped, mapped_has}
-use Rattle.sqlite_rules.proofs.TableLemmas.{int_is, put_all_has, put_all_keeps, put_all_adds, without_all_has}
-use Rattle.sqlite_rules.proofs.PlaceLemmas.{left_or_taken, row_at_is}
-use Rattle.farm_types.specs.Table.{put}
-use Rattle.farm_store.specs.Schema.{farm_schema, strict_table}
-use Rattle.farm_store.specs.Stored.{HasInt, Differ, IsWide, ListsRows}
 use Rattle.farm_store.proofs.Sorted.{all_put, put_strict, put_adds, put_keeps, put_has}
 
 either : (b : Bool) (x : Value) → cond b x x ≡ x

@@ -1,51 +1,28 @@
 -- The statement that puts a row into each table, and what it makes of the tables.
-use Rattle.std.proofs.Common.{refl, true, ◌≡◌, ◌∙◌, ◌+◌, ◌-◌, ℕ, ℤ, zero, suc, pos, List, [], ◌∷◌, ◌++◌, ◌/◌, drop, length, codes, None, Some, Ok, slice_get, ap, ap₂, is_eq}
-use Rattle.std.specs.List.{AllByRecursion}
-use Rattle.sqlite.specs.declared.types.Value.TheVariants.{Null, Int}
-use Rattle.sqlite.specs.Order.{Row}
+use Rattle.std.proofs.Common.{refl, true, ◌≡◌, ◌∙◌, ◌+◌, ◌-◌, ℕ, ℤ, zero, suc, pos, List, [], ◌∷◌, ◌++◌, ◌/◌, drop, length, codes, None, Some, Ok, slice_get}
+use Rattle.std.proofs.Common.{ap, ap₂, is_eq}
+use Rattle.farm_store.proofs.Names.{Abort, AllByRecursion, board_columns, BoardRow, boards_table, cast_row, Chosen, col, Column, command_of, conflicts}
+use Rattle.farm_store.proofs.Names.{farm_schema, Has, HasInt, InsertOr, Int, IsInside, IsPlain, IsTable, IsWide, job_columns, JobRow, jobs_table, kept_columns}
+use Rattle.farm_store.proofs.Names.{kept_table, KeptRow, Keys, lit, mended, meta_row, meta_table, next_rowid, Null, of_meta, put_at, Replace, res_columns}
+use Rattle.farm_store.proofs.Names.{reservations_table, ResRow, Row, strict_table, TableRows, TableSlot, Term, type_columns, TypeRow, types_table, Upsert}
+use Rattle.farm_store.proofs.Names.{value_rows, with_rowid, works}
 use Rattle.sqlite.specs.Table.{Table}
-use Rattle.sqlite.specs.Term.{Term, lit, col}
 use Rattle.sqlite.specs.Source.TheVariants.{Values}
-use Rattle.sqlite.specs.Command.TheVariants.{InsertOr}
 use Rattle.sqlite.specs.Listing.{understood}
-use Rattle.sqlite.specs.Cast.{cast_row}
-use Rattle.sqlite.specs.Edit.{with_rowid}
-use Rattle.sqlite.specs.Effect.{value_rows}
-use Rattle.sqlite.specs.Rows.{mended}
-use Rattle.sqlite.specs.Rowids.TheVariants.{Chosen}
 use Rattle.sqlite.specs.State.{State, mode_of, ExecutesInside}
-use Rattle.sqlite.proofs.Callers.{IsPlain, command_of}
 use Rattle.sqlite_tied.specs.Compute.{everything}
-use Rattle.sqlite_trees.specs.Tree.{IsTable}
-use Rattle.sqlite_schema.specs.declared.schema.Column.{Column}
-use Rattle.sqlite_schema.specs.declared.schema.Keys.{Keys}
-use Rattle.sqlite_schema.specs.declared.command.Conflict.TheVariants.{Abort, Replace}
-use Rattle.sqlite_schema.specs.declared.command.Upsert.{Upsert}
-use Rattle.sqlite_rules.specs.Action.{works}
-use Rattle.sqlite_rules.specs.Edit.{next_rowid}
-use Rattle.sqlite_rules.specs.Keys.{conflicts}
-use Rattle.sqlite_rules.specs.Lists.{Has}
-use Rattle.farm_types.specs.declared.rows.TypeRow.{TypeRow}
-use Rattle.farm_types.specs.declared.rows.BoardRow.{BoardRow}
-use Rattle.farm_types.specs.declared.rows.JobRow.{JobRow}
-use Rattle.farm_types.specs.declared.rows.ResRow.{ResRow}
-use Rattle.farm_types.specs.declared.rows.KeptRow.{KeptRow}
 use Rattle.farm_store.specs.declared.types.TheConstants.{PUT as PUT_TYPES}
 use Rattle.farm_store.specs.declared.boards.TheConstants.{PUT as PUT_BOARDS}
 use Rattle.farm_store.specs.declared.jobs.TheConstants.{PUT as PUT_JOBS}
 use Rattle.farm_store.specs.declared.reservations.TheConstants.{PUT as PUT_RESERVATIONS}
 use Rattle.farm_store.specs.declared.kept.TheConstants.{PUT as PUT_KEPT}
 use Rattle.farm_store.specs.declared.meta.TheConstants.{PUT as PUT_META}
-use Rattle.farm_store.specs.Schema.{farm_schema, strict_table, types_table, boards_table, jobs_table, reservations_table, kept_table, meta_table}
-use Rattle.farm_store.specs.Columns.{TableRows, type_columns, board_columns, job_columns, res_columns, kept_columns, meta_row}
-use Rattle.farm_store.specs.Holds.{IsInside}
-use Rattle.farm_store.specs.Places.{TableSlot, put_at, of_types, of_boards, of_jobs, of_reservations, of_kept, of_meta}
-use Rattle.farm_store.specs.Stored.{HasInt, IsWide}
 use Rattle.farm_store.proofs.Replace.{cast_int, cast_null, clears}
 use Rattle.farm_store.proofs.Stays.{all_fit, all_stay}
 use Rattle.farm_store.proofs.Keys.{by_next, by_next_two, by_rowid}
 use Rattle.farm_store.proofs.Insert.{inserts, judge, the_clause}
-use Rattle.farm_store.proofs.PutAt.{IsKnown, types_known, boards_known, jobs_known, reservations_known, kept_known, meta_known}
+use Rattle.farm_store.proofs.PutAt.{IsKnown, types_known, boards_known, jobs_known, reservations_known, kept_known, meta_known, of_types, of_boards, of_jobs}
+use Rattle.farm_store.proofs.PutAt.{of_reservations, of_kept}
 
 -- the text puts such a row at the place
 abbrev pub Puts : TableSlot → List ℕ → Row → Type 1

@@ -1,45 +1,27 @@
 -- The query of each table, and what it answers.
 use Rattle.std.proofs.Common.{refl, ◌≡◌, ◌-◌, ℕ, zero, suc, pos, negsuc, List, [], ◌∷◌, map, flat_map, false, None, ap, ap₂, sym, subst, ◌∙◌, IsTrue}
-use Rattle.std.specs.Ordering.{ordering_then}
-use Rattle.sqlite.specs.declared.types.Value.{Value}
-use Rattle.sqlite.specs.declared.types.Value.TheVariants.{Int}
-use Rattle.sqlite.specs.Effect.{Database}
-use Rattle.sqlite.specs.Order.{Row}
+use Rattle.farm_store.proofs.Names.{ascending, AsksFor, Binary, boards_table, by_first, by_two, Column, Database, Edition, end, HoldsAt, HoldsWith, inner, Int}
+use Rattle.farm_store.proofs.Names.{is_version_row, IsOfSchema, IsTotalOrder, IsWide, jobs_table, kept_table, list_any, meta_table, of_boards_with}
+use Rattle.farm_store.proofs.Names.{of_jobs_with, of_kept_with, of_meta, of_reservations_with, of_types_with, OnlyReads, ordering_then, Output, output}
+use Rattle.farm_store.proofs.Names.{output_cmp, overlay, Query, reservations_table, ReturnsRows, Row, row_less_rowid, schema_with, ShowsTablesWith}
+use Rattle.farm_store.proofs.Names.{table_columns_in, TableColumns, TableRows, TableSlot, then-Equal, Trees, types_table, Value, with_number}
 use Rattle.sqlite.specs.Table.{Table}
-use Rattle.sqlite.specs.Program.{overlay}
-use Rattle.sqlite.specs.Tree.{Trees}
 use Rattle.sqlite.specs.Term.{Term, lit, col, eval_all}
-use Rattle.sqlite.specs.Query.{Query, inner, end, Output, output}
 use Rattle.sqlite.specs.Listing.{understood, listing_schema}
 use Rattle.sqlite_tied.specs.Compute.{everything}
-use Rattle.sqlite_sql.specs.Query.{output_cmp}
-use Rattle.sqlite_value.specs.Keys.{ascending}
 use Rattle.sqlite_value.specs.Order.{column, value_cmp}
-use Rattle.sqlite_value.specs.declared.keys.Collation.TheVariants.{Binary}
 use Rattle.sqlite_value.specs.declared.keys.Key.{Key}
-use Rattle.sqlite_value.proofs.OrderLemmas.{then-Equal}
-use Rattle.sqlite_schema.specs.declared.schema.Column.{Column}
 use Rattle.farm_store.specs.declared.types.TheConstants.{READ as READ_TYPES}
 use Rattle.farm_store.specs.declared.boards.TheConstants.{READ as READ_BOARDS}
 use Rattle.farm_store.specs.declared.jobs.TheConstants.{READ as READ_JOBS}
 use Rattle.farm_store.specs.declared.reservations.TheConstants.{READ as READ_RESERVATIONS}
 use Rattle.farm_store.specs.declared.kept.TheConstants.{READ as READ_KEPT}
 use Rattle.farm_store.specs.declared.meta.TheConstants.{READ as READ_META}
-use Rattle.farm_store.specs.Editions.{table_columns_in}
-use Rattle.farm_store.specs.Schema.{TableColumns, schema_with, types_table, boards_table, jobs_table, reservations_table, kept_table, meta_table}
-use Rattle.farm_store.specs.Columns.{TableRows, by_first, by_two, IsOfSchema, is_version_row}
-use Rattle.farm_store.specs.Holds.{HoldsWith, ShowsTablesWith}
-use Rattle.farm_store.specs.Places.{HoldsAt, TableSlot, of_types, of_boards, of_jobs, of_reservations, of_kept, of_meta}
-use Rattle.farm_store.specs.Places.{of_types_with, of_boards_with, of_jobs_with, of_reservations_with, of_kept_with}
-use Rattle.farm_store.specs.Queries.{AsksFor, OnlyReads, ReturnsRows}
-use Rattle.farm_store.specs.Stored.{IsWide, row_less_rowid, with_number}
+use Rattle.farm_store.proofs.PutAt.{of_types, of_boards, of_jobs, of_reservations, of_kept}
 use Rattle.farm_store.proofs.OnlyReads.{only_reads}
 use Rattle.farm_store.proofs.ColumnsFrom.{columns_from, whole, of_unnumbered, of_numbered}
 use Rattle.farm_store.proofs.Keys.{first_total, two_total}
 use Rattle.farm_store.proofs.Selects.{IsQuery, answer_of, goes_on, rows_are}
-use Rattle.std.specs.List.{list_any}
-use Rattle.std.specs.Cmp.{IsTotalOrder}
-use Rattle.farm_store.specs.declared.edition.Edition.{Edition}
 use Rattle.farm_store.specs.Versions.{MayHaveVersion, HasVersion}
 
 -- the columns of the raw row from one place on

@@ -1,28 +1,14 @@
 -- What a query of a table answers: the rows of the table, in their order.
 use Rattle.std.proofs.Common.{refl, ◌≡◌, ◌≢◌, inl, inr, ℕ, List, [], ◌∷◌, map, sym, ap, subst, ◌∙◌, ◌≤◌, Ordering, Less, Equal, ◌++◌, flat_map, Ok}
-use Rattle.std.specs.List.{AllByRecursion}
-use Rattle.std.specs.List.Sorted.{IsPermutation, IsSorted}
-use Rattle.std.specs.Cmp.{IsTotalOrder}
-use Rattle.std.proofs.lemmas.List.Sorted.{sum_by-IsPermutation, IsPermutation-sym}
-use Rattle.sqlite.specs.Order.{Row}
-use Rattle.sqlite_trees.specs.Tree.{IsAscending}
-use Rattle.sqlite_rules.specs.Lists.{Has}
-use Rattle.sqlite_rules.proofs.ListLemmas.{all_has}
-use Rattle.sqlite_rules.proofs.ProbeLemmas.{has_mapped, mapped_has}
-use Rattle.farm_store.specs.Stored.{IsStrict, Differ, ListsRows, IsWide}
+use Rattle.farm_store.proofs.Names.{all_has, AllByRecursion, command_of, Database, Differ, Has, has_mapped, IsAnswer, IsAscending, IsPermutation}
+use Rattle.farm_store.proofs.Names.{IsPermutation-sym, IsSorted, IsStrict, IsTotalOrder, IsWide, ListsRows, mapped_has, Output, output, output_cmp, overlay}
+use Rattle.farm_store.proofs.Names.{page, Query, Reads, ReadsFirst, ReturnsFirstRows, ReturnsRows, Row, Select, sum_by-IsPermutation}
 use Rattle.farm_store.proofs.Sorted.{tie_same}
 use Rattle.farm_store.proofs.Order.{permuted, tied, at_most_one, strictly, same_rows}
-use Rattle.sqlite.specs.Effect.{Database, Reads, ReadsFirst}
-use Rattle.sqlite.specs.Query.{Query, IsAnswer, Output, output, page}
-use Rattle.sqlite.specs.Program.{overlay}
-use Rattle.sqlite.specs.Command.TheVariants.{Select}
 use Rattle.sqlite.specs.Listing.{understood}
-use Rattle.sqlite.proofs.Callers.{command_of}
 use Rattle.sqlite_resolve.specs.declared.compiled.Compiled.{Compiled}
-use Rattle.sqlite_sql.specs.Query.{output_cmp}
 use Rattle.sqlite_sql.proofs.QueryLemmas.{output_cmp_total}
 use Rattle.sqlite.specs.Schema.{Schema}
-use Rattle.farm_store.specs.Queries.{ReturnsRows, ReturnsFirstRows}
 
 module _ {O : Type 0} {cmp : Row → Row → Ordering} (total : IsTotalOrder cmp) {c : O → O → Ordering} (totally : IsTotalOrder c) (show : Row → Row) (width : ℕ) (P Q : Row → O)
     (shows : (raw : Row) → P raw ≡ Q (show raw)) (keeps : (a b : Row) → c (Q a) (Q b) ≡ cmp a b) where

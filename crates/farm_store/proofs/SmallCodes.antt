@@ -1,17 +1,14 @@
 -- Codes and priorities are small numbers.
 use Rattle.std.proofs.Common.{ℕ, ◌≤◌, ◌≢◌, IsTrue, arith, refl}
-use Rattle.std.proofs.lemmas.Bool.Decides.{nat_tests}
-use Rattle.farm_types.specs.Codes.{health_code, state_code, job_state_code, outcome_code, res_state_code}
+use Rattle.farm_store.proofs.Names.{first_state_code, health_code, holder_of, IsSmall, job_state_code, JobState, nat_tests, outcome_code, res_state_code}
+use Rattle.farm_store.proofs.Names.{state_code, unit_code}
 use Rattle.farm_types.specs.Limits.{is_priority}
-use Rattle.farm_types.specs.Small.{IsSmall}
 use Rattle.farm_types.specs.declared.rows.Check.{Check}
 use Rattle.farm_types.specs.declared.rows.Health.{Health}
 use Rattle.farm_types.specs.declared.rows.Holder.{Holder}
-use Rattle.farm_types.specs.declared.rows.JobState.{JobState}
 use Rattle.farm_types.specs.declared.rows.Outcome.{Outcome}
 use Rattle.farm_types.specs.declared.rows.ResState.{ResState}
 use Rattle.farm_types.specs.declared.rows.State.{State}
-use Rattle.farm_store.specs.Columns.{first_state_code, unit_code, holder_of}
 
 pub unit_is_small : (c : Check) → IsSmall (unit_code c)
 unit_is_small Check.Never = omega arith

@@ -1,13 +1,6 @@
 -- Rows in the strict order of their keys.
 use Rattle.std.proofs.Common.{refl, ◌≡◌, ◌≢◌, ◌⊎◌, inl, inr, List, [], ◌∷◌, sym, ap, ◌∙◌, Ordering, Less, Equal, Greater}
-use Rattle.std.specs.List.{AllByRecursion}
-use Rattle.std.specs.Ordering.{match_ordering, ordering_reverse}
-use Rattle.std.specs.Cmp.{IsTotalOrder}
-use Rattle.std.proofs.lemmas.Cmp.{tied_back}
-use Rattle.sqlite_rules.specs.Lists.{Has}
-use Rattle.sqlite_rules.proofs.ListLemmas.{all_has}
-use Rattle.farm_types.specs.Table.{put}
-use Rattle.farm_store.specs.Stored.{IsStrict}
+use Rattle.farm_store.proofs.Names.{all_has, AllByRecursion, Has, IsStrict, IsTotalOrder, match_ordering, ordering_reverse, put, tied_back}
 
 pub all_put : {X : Type 0} (cmp : X → X → Ordering) (P : X → Type 0) (x : X) (ys : List X) → P x → AllByRecursion P ys → AllByRecursion P (put cmp ys x)
 all_put cmp P x [] p all = (p, tt)

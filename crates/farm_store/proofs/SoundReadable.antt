@@ -1,13 +1,11 @@
 -- The words of a sound farm are words.
 use Rattle.std.proofs.Common.{◌≡◌, inl, inr, ℕ, true, List, [], ◌∷◌, Option, None, Some, IfSome, IsSome, IsTrue, subst}
-use Rattle.std.specs.List.{AllByRecursion, find}
+use Rattle.farm_store.proofs.Names.{AllByRecursion, cases_Bool, Farm, find}
 use Rattle.std.specs.Option.{option_map_or}
 use Rattle.std.specs.Str.{bytes_eq}
-use Rattle.std.proofs.lemmas.Bool.{cases_Bool}
 use Rattle.std.proofs.lemmas.Slice.Eq.{bytes_eq-Decides}
 use Rattle.farm_types.specs.Limits.{longest_name}
 use Rattle.farm_types.specs.Words.{IsName, IsTags, is_word, is_tags}
-use Rattle.farm_types.specs.Farm.{Farm}
 use Rattle.farm_types.specs.Proper.{is_want}
 use Rattle.farm_types.specs.Sound.{IsSound, IsBoardRow, IsBoardOf, IsJobText, texts_of}
 use Rattle.farm_types.specs.declared.rows.Want.{Want}

@@ -1,12 +1,8 @@
 -- Values that a column stores as they are.
 use Rattle.std.proofs.Common.{refl, Bool, true, false, ◌&&◌, ◌≡◌, List, [], ◌∷◌, ap₂}
 use Rattle.std.proofs.lemmas.Bool.{false≢true, and_parts}
-use Rattle.sqlite.specs.declared.types.Value.{Value}
-use Rattle.sqlite.specs.declared.types.Value.TheVariants.{Null, Int}
+use Rattle.farm_store.proofs.Names.{cast, cast_all, Column, Int, Null, Row, Value}
 use Rattle.sqlite.specs.declared.types.Value.TheVariants as value
-use Rattle.sqlite.specs.Order.{Row}
-use Rattle.sqlite.specs.Cast.{cast, cast_all}
-use Rattle.sqlite_schema.specs.declared.schema.Column.{Column}
 use Rattle.sqlite_schema.specs.declared.schema.Kind.{Kind}
 use Rattle.sqlite_schema.specs.declared.schema.Kind.TheVariants.{Integer, Text}
 use Rattle.farm_store.proofs.Replace.{cast_int, cast_null}

@@ -1,18 +1,14 @@
 -- Tags that were read from a text.
 use Rattle.std.proofs.Common.{refl, ◌≡◌, ℕ, ◌&&◌, Bool, true, false, cond, List, length, Result, Ok, Err, IsErrAnd, sym, ap, ◌∙◌, arith}
 use Rattle.std.specs.Prelude.{nat_le, nat_lt}
-use Rattle.std.specs.List.{list_all}
-use Rattle.std.proofs.lemmas.Bool.Decides.{nat_tests}
-use Rattle.sqlite.specs.declared.types.Value.{Value}
+use Rattle.farm_store.proofs.Names.{list_all, nat_tests, ReadsWord, tags_read_back, Value}
 use Rattle.sqlite.specs.declared.types.Value.TheVariants.{Text}
 use Rattle.farm_types.specs.Words.{IsTags, is_tag, is_tags, rise}
 use Rattle.farm_types.specs.Tags.{tag_parts, tags_read, tags_text}
 use Rattle.farm_types.specs.Reads.{FaultOrNoMemory, refused_code}
 use Rattle.farm_types.specs.Refusals.{bad_tag, bad_count}
 use Rattle.farm_types.specs.declared.fault.WordFault.{WordFault}
-use Rattle.farm_types.proofs.SortedTags.{tags_read_back}
 use Rattle.farm_types.proofs.WordLemmas.{and_parts}
-use Rattle.farm_store.specs.Reading.{ReadsWord}
 
 few : (n : ℕ) → nat_lt 16 n ≡ false → nat_le n 16 ≡ true
 few n h = grind (arith, nat_tests)

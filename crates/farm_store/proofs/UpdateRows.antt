@@ -1,51 +1,19 @@
 -- What UPDATE of a table's rows makes of the tables.
-use Rattle.std.proofs.Common.{refl, ◌≡◌, ◌≢◌, inl, inr, ℕ, List, [], ◌∷◌, ◌++◌, map, filter, flat_map, drop, Bool, true, false, cond, slice_get, Option, Some, None, Ok, sym, ap, subst, ◌∙◌, Ordering, Less, Equal}
-use Rattle.std.specs.Cmp.{IsTotalOrder}
-use Rattle.std.specs.List.{AllByRecursion, list_all}
-use Rattle.std.proofs.lemmas.Bool.{cases_Bool}
-use Rattle.std.proofs.lemmas.Cmp.{tied_itself}
-use Rattle.std.proofs.lemmas.List.Sorted.{IsPermutation-sym}
-use Rattle.sqlite.specs.declared.types.Value.TheVariants.{Null}
-use Rattle.sqlite.specs.Order.{Row}
+use Rattle.std.proofs.Common.{refl, ◌≡◌, ◌≢◌, inl, inr, ℕ, List, [], ◌∷◌, ◌++◌, map, filter, flat_map, drop, Bool, true, false, cond, slice_get, Option, Some}
+use Rattle.std.proofs.Common.{None, Ok, sym, ap, subst, ◌∙◌, Ordering, Less, Equal}
+use Rattle.farm_store.proofs.Names.{all_from, all_has, AllByRecursion, AreListed, AtPlace, cases_Bool, cast_row, catalog_tree, Column, command_of, Database}
+use Rattle.farm_store.proofs.Names.{Differ, Does, end, farm_schema, Given, given, Has, has_filtered, has_kept, has_mapped, has_rowid, HasInt, ids_of, is_int}
+use Rattle.farm_store.proofs.Names.{IsAnswer, IsAscending, IsInside, IsPermutation-sym, IsPlain, IsStrict, IsTable, IsTotalOrder, IsWide, Keys, left_or_taken}
+use Rattle.farm_store.proofs.Names.{list_all, ListsRows, mapped_has, matches, Null, one_step, OnRows, Order, Output, output, overlay, put_all_adds, put_all_has}
+use Rattle.farm_store.proofs.Names.{put_all_keeps, put_row, Query, Row, row_at_is, rowid, runs_as, statement_of, strict_table, TableRows, TableSlot, Tally}
+use Rattle.farm_store.proofs.Names.{Term, tied_itself, Trees, Update, value_cmp_total, without_all_has, works, Written}
 use Rattle.sqlite.specs.Table.{Table}
-use Rattle.sqlite.specs.Tree.{Trees}
-use Rattle.sqlite.specs.Term.{Term}
-use Rattle.sqlite.specs.Query.{Query, end, Output, output, IsAnswer}
-use Rattle.sqlite.specs.Program.{overlay}
-use Rattle.sqlite.specs.Cast.{cast_row}
-use Rattle.sqlite.specs.Command.TheVariants.{Update}
-use Rattle.sqlite.specs.Does.{Tally, Does, AtPlace, OnRows}
 use Rattle.sqlite.specs.Edit.{edit_of, are_fresh, put_all, without_all, row_at, id_in, taken_by}
-use Rattle.sqlite.specs.Effect.{Database}
 use Rattle.sqlite.specs.Listing.{understood}
-use Rattle.sqlite.specs.Rowids.TheVariants.{Given}
-use Rattle.sqlite.specs.Rows.{Written}
 use Rattle.sqlite.specs.State.{State, mode_of, ExecutesInside}
-use Rattle.sqlite.proofs.Callers.{IsPlain, command_of, statement_of, runs_as, one_step}
-use Rattle.sqlite_sql.specs.Query.{matches}
 use Rattle.sqlite_sql.specs.Term.{eval_all, holds}
 use Rattle.sqlite_value.specs.Order.{value_cmp}
-use Rattle.sqlite_value.specs.declared.keys.Order.{Order}
-use Rattle.sqlite_value.proofs.OrderLemmas.{value_cmp_total}
-use Rattle.sqlite_schema.specs.declared.schema.Column.{Column}
-use Rattle.sqlite_schema.specs.declared.schema.Keys.{Keys}
-use Rattle.sqlite_trees.specs.Objects.{catalog_tree}
-use Rattle.sqlite_trees.specs.Tree.{rowid, has_rowid, put_row, IsTable, IsAscending}
-use Rattle.sqlite_trees.specs.View.{is_int}
 use Rattle.sqlite_trees.proofs.TreeLemmas.{IsTable-put_row, all-put_row}
-use Rattle.sqlite_catalog.specs.Listing.{AreListed}
-use Rattle.sqlite_rules.specs.Action.{works}
-use Rattle.sqlite_rules.specs.Calls.{ids_of}
-use Rattle.sqlite_rules.specs.Lists.{Has}
-use Rattle.sqlite_rules.proofs.ListLemmas.{all_has, all_from, has_filtered, has_kept}
-use Rattle.sqlite_rules.proofs.PlaceLemmas.{given, left_or_taken, row_at_is}
-use Rattle.sqlite_rules.proofs.ProbeLemmas.{has_mapped, mapped_has}
-use Rattle.sqlite_rules.proofs.TableLemmas.{put_all_has, put_all_keeps, put_all_adds, without_all_has}
-use Rattle.farm_store.specs.Columns.{TableRows}
-use Rattle.farm_store.specs.Holds.{IsInside}
-use Rattle.farm_store.specs.Places.{TableSlot}
-use Rattle.farm_store.specs.Schema.{farm_schema, strict_table}
-use Rattle.farm_store.specs.Stored.{Differ, HasInt, IsStrict, IsWide, ListsRows}
 use Rattle.farm_store.proofs.Clause.{query}
 use Rattle.farm_store.proofs.Order.{permuted}
 use Rattle.farm_store.proofs.PutAt.{IsKnown, stands_rewritten}

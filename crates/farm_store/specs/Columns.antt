@@ -1,6 +1,5 @@
 -- The rows of the six tables, column by column.
-use Rattle.std.specs.Prelude.{ℕ, pos, Bool, false, ◌==◌, ◌&&◌, if◌then◌else◌, List, [], ◌∷◌, ◌++◌}
-use Rattle.std.specs.Prelude.{map, unwrap_or, codes, IsTrue}
+use Rattle.std.specs.Prelude.{ℕ, pos, Bool, false, ◌==◌, ◌&&◌, if◌then◌else◌, List, [], ◌∷◌, ◌++◌, map, unwrap_or, codes, IsTrue}
 use Rattle.std.specs.List.{list_any}
 use Rattle.std.specs.Option.{option_map_or}
 use Rattle.std.specs.Str.{bytes_eq}
@@ -11,11 +10,7 @@ use Rattle.sqlite.specs.Order.{Row, column}
 use Rattle.sqlite_value.specs.Order.{value_cmp}
 use Rattle.std.specs.declared.cmp.Ordering.{Ordering}
 use Rattle.std.specs.Ordering.{ordering_then}
-use Rattle.farm_types.specs.Codes.{health_code, state_code, job_state_code, outcome_code}
-use Rattle.farm_types.specs.Codes.{res_state_code}
-use Rattle.farm_types.specs.Farm.{Farm}
-use Rattle.farm_types.specs.Small.{every_of, held_by}
-use Rattle.farm_types.specs.Tags.{tags_text}
+use Rattle.farm_types.specs.Names.{every_of, Farm, health_code, held_by, job_state_code, outcome_code, res_state_code, state_code, tags_text}
 use Rattle.farm_types.specs.declared.rows.Check.{Check}
 use Rattle.farm_types.specs.declared.rows.Holder.{Holder}
 use Rattle.farm_types.specs.declared.rows.TypeRow.{TypeRow}
@@ -166,15 +161,19 @@ pub record TableRows : Type 0 where
   pub kept : List Row
   pub meta : List Row
 
-unfoldable pub rows_of : Farm → TableRows
-rows_of F = record {
+-- those of a farm, with a code for the states of its jobs, and the rows of its numbers
+abbrev pub rows_by : (JobState → ℕ) → (MetaRow → List Row) → Farm → TableRows
+rows_by code numbers F = record {
   types = map type_columns F.types;
   boards = map board_columns F.boards;
-  jobs = map job_columns F.jobs;
+  jobs = map (row_values (job_fields_by code)) F.jobs;
   reservations = map res_columns F.reservations;
   kept = map kept_columns F.kept;
-  meta = meta_rows (numbers_of F);
+  meta = numbers (numbers_of F);
 }
+
+unfoldable pub rows_of : Farm → TableRows
+rows_of F = rows_by job_state_code meta_rows F
 
 -- ---- the first edition's tables: the states of jobs have codes of their own, and Scheduling has
 -- none that is read; no row has the group that collects
@@ -187,22 +186,12 @@ first_state_code JobState.Canceling = 3
 first_state_code JobState.Finished = 4
 first_state_code JobState.Scheduling = 5
 
-abbrev pub first_job_columns : JobRow → Row
-first_job_columns = row_values (job_fields_by first_state_code)
-
 abbrev pub first_meta_rows : MetaRow → List Row
 first_meta_rows m = meta_row (codes "clock") m.clock ∷ meta_row (codes "count") m.count
     ∷ meta_row (codes "next") m.next ∷ meta_row (codes "schema") first_schema ∷ []
 
 unfoldable pub first_rows_of : Farm → TableRows
-first_rows_of F = record {
-  types = map type_columns F.types;
-  boards = map board_columns F.boards;
-  jobs = map first_job_columns F.jobs;
-  reservations = map res_columns F.reservations;
-  kept = map kept_columns F.kept;
-  meta = first_meta_rows (numbers_of F);
-}
+first_rows_of F = rows_by first_state_code first_meta_rows F
 
 -- ----
 

@@ -1,15 +1,12 @@
 -- What each edition of the tables has of its own, and what it can spell.
 use Rattle.std.specs.Prelude.{◌≡◌, ◌≢◌, ℕ, List, map, ⊤}
 use Rattle.sqlite.specs.Order.{Row}
-use Rattle.farm_types.specs.Codes.{job_state_code}
-use Rattle.farm_types.specs.Farm.{Farm}
+use Rattle.farm_types.specs.Names.{Farm, job_state_code}
 use Rattle.farm_types.specs.declared.rows.JobRow.{JobRow}
 use Rattle.farm_types.specs.declared.rows.JobState.{JobState}
 use Rattle.farm_types.specs.declared.rows.MetaRow.{MetaRow}
-use Rattle.farm_store.specs.Columns.{TableRows, first_meta_rows, first_rows_of, first_schema}
-use Rattle.farm_store.specs.Columns.{board_fields, first_state_code, job_fields_by, kept_fields}
-use Rattle.farm_store.specs.Columns.{meta_rows, res_fields, row_values, rows_of, second_schema}
-use Rattle.farm_store.specs.Columns.{type_fields}
+use Rattle.farm_store.specs.Columns.{TableRows, first_meta_rows, first_rows_of, first_schema, board_fields, first_state_code, job_fields_by, kept_fields}
+use Rattle.farm_store.specs.Columns.{meta_rows, res_fields, row_values, rows_of, second_schema, type_fields}
 use Rattle.farm_store.specs.Readable.{IsReadable, IsReadableFirst, IsReadableJob}
 use Rattle.farm_store.specs.Schema.{TableColumns, columns_of}
 use Rattle.farm_store.specs.declared.edition.Edition.{Edition}

@@ -1,6 +1,6 @@
 -- The numbers of the store's faults, and which of them a word's fault becomes.
 use Rattle.std.specs.Prelude.{ℕ}
-use Rattle.farm_types.specs.Refusals.{bad_store, new_schema, no_memory, old_schema, store_fault}
+use Rattle.farm_types.specs.Names.{bad_store, new_schema, no_memory, old_schema, store_fault}
 use Rattle.farm_types.specs.declared.fault.WordFault.{WordFault}
 use Rattle.farm_store.specs.declared.fault.StoreFault.{StoreFault}
 

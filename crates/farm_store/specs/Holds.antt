@@ -8,9 +8,8 @@ use Rattle.sqlite_trees.specs.Objects.{catalog_tree}
 use Rattle.sqlite_trees.specs.View.{doubt}
 use Rattle.farm_store.specs.Schema.{HasSixTables, TableColumns, farm_columns, schema_with}
 use Rattle.farm_store.specs.Columns.{TableRows, rows_of}
-use Rattle.farm_store.specs.Places.{HoldsAt, of_types_with, of_boards_with, of_jobs_with}
-use Rattle.farm_store.specs.Places.{of_reservations_with, of_kept_with, of_meta}
-use Rattle.farm_types.specs.Farm.{Farm, empty_farm}
+use Rattle.farm_store.specs.Places.{HoldsAt, of_types_with, of_boards_with, of_jobs_with, of_reservations_with, of_kept_with, of_meta}
+use Rattle.farm_types.specs.Names.{empty_farm, Farm}
 
 -- the trees list a farm's six tables with these columns, and they have these rows
 pub record HoldsWith (columns : TableColumns) (db : Trees) (T : TableRows) : Type 0 where

@@ -1,4 +1,3 @@
-pub mod Agreed
 pub mod Columns
 pub mod Editions
 pub mod Edits

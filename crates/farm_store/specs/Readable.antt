@@ -1,10 +1,7 @@
 -- Farms whose words are words: those that tables can spell.
 use Rattle.std.specs.Prelude.{◌≡◌, ◌≢◌, IsTrue, None, IfSome}
 use Rattle.std.specs.List.{AllByRecursion}
-use Rattle.farm_types.specs.Words.{IsName, IsKey, IsTags, IsText}
-use Rattle.farm_types.specs.Limits.{is_priority}
-use Rattle.farm_types.specs.Farm.{Farm}
-use Rattle.farm_types.specs.Sound.{texts_of}
+use Rattle.farm_types.specs.Names.{Farm, is_priority, IsKey, IsName, IsTags, IsText, texts_of}
 use Rattle.farm_types.specs.declared.rows.TypeRow.{TypeRow}
 use Rattle.farm_types.specs.declared.rows.BoardRow.{BoardRow}
 use Rattle.farm_types.specs.declared.rows.JobRow.{JobRow}

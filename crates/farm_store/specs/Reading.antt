@@ -1,25 +1,22 @@
 -- What reading makes of columns and rows.
-use Rattle.std.specs.Prelude.{◌≡◌, ◌≢◌, ◌⊎◌, IsTrue, ℕ, suc, List, [], ◌∷◌, Result, Err}
-use Rattle.std.specs.Prelude.{IfOk, MatchResult, map, ⊤}
+use Rattle.std.specs.Prelude.{◌≡◌, ◌≢◌, ◌⊎◌, IsTrue, ℕ, suc, List, [], ◌∷◌, Result, Err, IfOk, MatchResult, map, ⊤}
 use Rattle.std.specs.List.{AllByRecursion, list_any}
 use Rattle.sqlite.specs.Effect.{Database}
 use Rattle.sqlite.specs.Order.{Row}
 use Rattle.sqlite.specs.State.{State}
 use Rattle.sqlite_value.specs.Order.{column}
-use Rattle.farm_types.specs.Farm.{Farm, farm_of}
+use Rattle.farm_types.specs.Names.{Farm, farm_of}
 use Rattle.farm_types.specs.declared.calls.Rows.{Rows}
 use Rattle.farm_types.specs.declared.fault.WordFault.{WordFault}
 use Rattle.farm_types.specs.declared.fault.WordFault.TheVariants.{NoMemory}
 use Rattle.farm_types.specs.declared.refusal.Refusal.{Refusal}
 use Rattle.farm_store.specs.Columns.{IsOfSchema, TableRows, is_version_row}
-use Rattle.farm_store.specs.Editions.{IsReadableIn, other_edition}
-use Rattle.farm_store.specs.Editions.{rows_in, schema_of, table_columns_in, version_fault}
+use Rattle.farm_store.specs.Editions.{IsReadableIn, other_edition, rows_in, schema_of, table_columns_in, version_fault}
 use Rattle.farm_store.specs.Holds.{ShowsTables, StandsWith}
 use Rattle.farm_store.specs.Versions.{MayHaveVersion, HasVersion}
 use Rattle.farm_store.specs.declared.edition.Edition.{Edition}
 use Rattle.farm_store.specs.declared.fault.StoreFault.{StoreFault}
-use Rattle.farm_store.specs.declared.fault.StoreFault.TheVariants.{BadStore, NewSchema, OldSchema}
-use Rattle.farm_store.specs.declared.fault.StoreFault.TheVariants.{Store}
+use Rattle.farm_store.specs.declared.fault.StoreFault.TheVariants.{BadStore, NewSchema, OldSchema, Store}
 
 -- a fault that says nothing of the version
 abbrev pub IsNoVersionFault : StoreFault → Type 0

@@ -1,7 +1,5 @@
 //! The table of boards: its statements, and what its rows stand for.
-ghost use Rattle.std.specs.Prelude.{◌≡◌, ◌≢◌, ◌↔◌, pos, IsTrue, MatchOption, MatchResult};
-ghost use Rattle.sqlite.specs.declared.types.Value.TheVariants.{Int};
-ghost use Rattle.sqlite_value.specs.Order.{column};
+ghost use Rattle.std.specs.Prelude.{◌≡◌, ◌↔◌, IsTrue, MatchOption};
 ghost use Rattle.sqlite.specs.Values.{bound};
 ghost use Rattle.farm_types.specs.Small.{IsSmallBoard, held_by};
 ghost use Rattle.farm_types.specs.Tags.{tags_text};
@@ -10,11 +8,11 @@ ghost use Rattle.farm_store.specs.Columns.{board_columns, holder_of};
 ghost use Rattle.farm_store.specs.Schema.{boards_table};
 
 use crate::edition::Edition;
-use crate::queries::rows::{BAD, Reader, health_at, number_at, state_at, tags_at, word_at};
+use crate::queries::rows::{BAD, Reader, number_at, tags_at, word_at};
 use crate::stored::Stored;
 use crate::tables::{are_columns, is_keyed};
 use crate::upserts::{number, text, word};
-use farm_types::{BoardRow, Holder, Refusal, WordFault};
+use farm_types::{BoardRow, Health, Holder, State, WordFault};
 use sqlite::types::ValueRef;
 use sqlite::{Alter, Error, Row, Transaction};
 use sqlite_schema::schema::Table;
@@ -68,17 +66,6 @@ fn holder_with(kind: u64, number: u64) -> Option<Holder>
     }
 }
 
-/// The holder whose kind and whose number stand at these places.
-fn holder_at(row: &Row, kind: usize, number: usize) -> Result<Holder, Refusal>
-    ensures { MatchResult result
-        (λ holder. (column row.now kind ≡ Int (pos (holder_of holder)))
-        × (column row.now number ≡ Int (pos (held_by holder))))
-        (λ _. (holder : Holder) → column row.now kind ≡ Int (pos (holder_of holder))
-        → column row.now number ≢ Int (pos (held_by holder))) }
-{
-    holder_with(number_at(row, kind)?, number_at(row, number)?).ok_or(BAD)
-}
-
 /// Its columns; `tags` is the text of the row's tags.
 #[tactic(auto, using(crate::proofs::SmallCodes::health_is_small, crate::proofs::SmallCodes::state_is_small, crate::proofs::SmallCodes::holder_is_small))]
 fn board_columns<'a>(row: &'a BoardRow, tags: &'a str) -> [ValueRef<'a>; 9]
@@ -125,9 +112,9 @@ impl Stored for BoardRow {
 
     fn of(row: &Row, reader: &mut Reader) -> Result<BoardRow, WordFault> {
         Ok(BoardRow {
-            health: health_at(row, 3)?,
-            state: state_at(row, 4)?,
-            holder: holder_at(row, 5, 6)?,
+            health: Health::from_code(number_at(row, 3)?).ok_or(BAD)?,
+            state: State::from_code(number_at(row, 4)?).ok_or(BAD)?,
+            holder: holder_with(number_at(row, 5)?, number_at(row, 6)?).ok_or(BAD)?,
             jobs_since: number_at(row, 7)?,
             last_check: number_at(row, 8)?,
             name: word_at(row, 0)?,

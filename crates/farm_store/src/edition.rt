@@ -14,33 +14,18 @@ pub(crate) enum Edition {
 }
 
 impl Edition {
-    /// The version of its tables.
-    pub(crate) fn schema(self) -> u64
-        ensures { result ≡ schema_of self }
+    /// The version of its tables, that of the other edition's, and how these are refused where its
+    /// own are wanted.
+    pub(crate) fn versions(self) -> (u64, u64, StoreFault)
+        ensures { result ≡ (
+          schema_of self,
+          schema_of (other_edition self),
+          version_fault (other_edition self),
+        ) }
     {
         match self {
-            Edition::First => FIRST_SCHEMA,
-            Edition::Second => SCHEMA,
-        }
-    }
-
-    /// The other edition.
-    pub(crate) fn other(self) -> Edition
-        ensures { result ≡ other_edition self }
-    {
-        match self {
-            Edition::First => Edition::Second,
-            Edition::Second => Edition::First,
-        }
-    }
-
-    /// How its tables are refused where those of the other edition are wanted.
-    pub(crate) fn refusal(self) -> StoreFault
-        ensures { result ≡ version_fault self }
-    {
-        match self {
-            Edition::First => StoreFault::OldSchema,
-            Edition::Second => StoreFault::NewSchema,
+            Edition::First => (FIRST_SCHEMA, SCHEMA, StoreFault::NewSchema),
+            Edition::Second => (SCHEMA, FIRST_SCHEMA, StoreFault::OldSchema),
         }
     }
 }

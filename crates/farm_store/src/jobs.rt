@@ -17,13 +17,13 @@ ghost use Rattle.farm_store.specs.declared.edition.Edition.{Edition};
 
 use crate::edition::Edition;
 use crate::queries::rows::{
-    Reader, body_at, checking_at, job_state_at, number_at, outcome_at, priority_at, tags_at,
-    word_at, word_if_any_at,
+    Reader, body_at, checking_at, job_state_at, number_at, outcome_at, tags_at, word_at,
+    word_if_any_at,
 };
 use crate::stored::Stored;
 use crate::tables::{are_columns, is_numbered};
 use crate::upserts::{number, text, word, word_if_any};
-use farm_types::{JobRow, Want, WordFault};
+use farm_types::{JobRow, Priority, Want, WordFault};
 use sqlite::types::ValueRef;
 use sqlite::{Alter, Error, Row, Transaction};
 use sqlite_schema::schema::Table;
@@ -161,7 +161,7 @@ impl Stored for JobRow {
             number: number_at(row, 0)?,
             group: number_at(row, 1)?,
             checking: checking_at(row, 2)?,
-            priority: priority_at(row, 4)?,
+            priority: Priority::of(number_at(row, 4)?)?,
             state: job_state_at(row, 8, reader.edition)?,
             outcome: outcome_at(row, 9)?,
             owner: word_at(row, 3)?,

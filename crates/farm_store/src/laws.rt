@@ -4,19 +4,21 @@ ghost use Rattle.sqlite.specs.Effect.{Database};
 ghost use Rattle.sqlite.specs.Held.{state};
 ghost use Rattle.sqlite.specs.State.{IsLive, Opens};
 ghost use Rattle.farm_types.specs.Farm.{Farm};
-ghost use Rattle.farm_store.specs.Agreed.{SchemasAgree};
-ghost use Rattle.farm_store.specs.Columns.{IsOfSchema, TableRows, first_rows_of, rows_of};
+ghost use Rattle.farm_store.specs.Columns.{IsOfSchema, TableRows, first_rows_of, first_schema};
+ghost use Rattle.farm_store.specs.Columns.{rows_of, second_schema};
 ghost use Rattle.farm_store.specs.Holds.{Holds, ShowsTablesWith, Stands};
 ghost use Rattle.farm_store.specs.Readable.{IsReadable, IsReadableFirst};
 ghost use Rattle.farm_store.specs.Schema.{HasSixTables, TableColumns, schema_with};
 ghost use Rattle.farm_store.specs.Versions.{MayHaveVersion, HasVersion};
 ghost use Rattle.farm_types.specs.Sound.{IsSound};
 
+use crate::schema::{FIRST_SCHEMA, SCHEMA};
 use sqlite::{Alter, Connection};
 
 /// The versions of the tables that the code writes and tests are those of the definitions.
 pub fn schemas_agree()
-    ensures { SchemasAgree }
+    ensures first { FIRST_SCHEMA ≡ first_schema }
+    ensures second { SCHEMA ≡ second_schema }
 {}
 
 /// Where a farm's six tables stand, whatever their columns, the version in `meta` is the one in its

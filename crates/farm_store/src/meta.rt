@@ -186,11 +186,11 @@ pub(crate) fn look_at_schema(rows: &[Row], edition: Edition) -> Result<(), Store
     ensures { MatchResult result (λ _. IsVersion edition rows.now)
         (λ fault. IsVersionFault edition fault rows.now) }
 {
-    let other = edition.other();
-    if have_version(rows, other.schema()) {
-        return Err(other.refusal());
+    let (own, other, refusal) = edition.versions();
+    if have_version(rows, other) {
+        return Err(refusal);
     }
-    let is_known = have_version(rows, edition.schema());
+    let is_known = have_version(rows, own);
     is_known.then_some(()).ok_or(StoreFault::BadStore)
 }
 

@@ -7,13 +7,11 @@ ghost use Rattle.farm_store.specs.Columns.{res_columns};
 ghost use Rattle.farm_store.specs.Schema.{reservations_table};
 
 use crate::edition::Edition;
-use crate::queries::rows::{
-    Reader, number_at, priority_at, res_state_at, tags_at, word_at, word_if_any_at,
-};
+use crate::queries::rows::{BAD, Reader, number_at, tags_at, word_at, word_if_any_at};
 use crate::stored::Stored;
 use crate::tables::{are_columns, is_numbered};
 use crate::upserts::{number, text, word, word_if_any};
-use farm_types::{ResRow, Want, WordFault};
+use farm_types::{Priority, ResRow, ResState, Want, WordFault};
 use sqlite::types::ValueRef;
 use sqlite::{Alter, Error, Row, Transaction};
 use sqlite_schema::schema::Table;
@@ -85,8 +83,8 @@ impl Stored for ResRow {
     fn of(row: &Row, reader: &mut Reader) -> Result<ResRow, WordFault> {
         Ok(ResRow {
             number: number_at(row, 0)?,
-            priority: priority_at(row, 2)?,
-            state: res_state_at(row, 4)?,
+            priority: Priority::of(number_at(row, 2)?)?,
+            state: ResState::from_code(number_at(row, 4)?).ok_or(BAD)?,
             deadline: number_at(row, 5)?,
             owner: word_at(row, 1)?,
             want: Want {

@@ -7,10 +7,9 @@ ghost use Rattle.sqlite.specs.State.{HasCleanDisk};
 ghost use Rattle.sqlite.specs.declared.types.Value.TheVariants.{Int, Text};
 ghost use Rattle.sqlite_value.specs.Order.{column};
 ghost use Rattle.farm_types.specs.Words.{IsTags, IsText, is_word};
-ghost use Rattle.farm_types.specs.Limits.{is_priority};
 ghost use Rattle.farm_types.specs.Tags.{tags_text};
-ghost use Rattle.farm_types.specs.Codes.{health_code, state_code, outcome_code, res_state_code};
-ghost use Rattle.farm_store.specs.Columns.{TableRows, checking_code, first_state_code};
+ghost use Rattle.farm_types.specs.Codes.{outcome_code};
+ghost use Rattle.farm_store.specs.Columns.{TableRows, checking_code};
 ghost use Rattle.farm_store.specs.Editions.{IsStateIn, state_code_in};
 ghost use Rattle.farm_store.specs.Holds.{ReadsOnly};
 ghost use Rattle.farm_store.specs.Reading.{ReadsAll, ReadsAs, ReadsWord, IsNoVersionFault, StandsIn};
@@ -18,10 +17,7 @@ ghost use Rattle.farm_store.specs.Reading.{ReadsAll, ReadsAs, ReadsWord, IsNoVer
 use crate::edition::Edition;
 use crate::fault::StoreFault;
 use crate::stored::Stored;
-use farm_types::{
-    BAD_STORE, Body, Health, JobState, Outcome, Priority, Refusal, ResState, State, Tags, Word,
-    WordFault,
-};
+use farm_types::{BAD_STORE, Body, JobState, Outcome, Refusal, Tags, Word, WordFault};
 use sqlite::types::ValueRef;
 use sqlite::{Alter, Connection, Row};
 use std::alloc::{AllocError, Global};
@@ -155,56 +151,20 @@ pub(crate) fn body_at(row: &Row, at: usize, reader: &Reader) -> Result<Body, Wor
     }
 }
 
-pub(crate) fn priority_at(row: &Row, at: usize) -> Result<Priority, Refusal>
-    ensures { ReadsAs result (λ p. IsTrue (is_priority p)) (λ p. Int (pos p)) (column row.now at) }
-{
-    Priority::of(number_at(row, at)?)
-}
-
-pub(crate) fn health_at(row: &Row, at: usize) -> Result<Health, Refusal>
-    ensures { ReadsAs result (λ _. ⊤) (λ health. Int (pos (health_code health)))
-        (column row.now at) }
-{
-    Health::from_code(number_at(row, at)?).ok_or(BAD)
-}
-
-pub(crate) fn state_at(row: &Row, at: usize) -> Result<State, Refusal>
-    ensures { ReadsAs result (λ _. ⊤) (λ state. Int (pos (state_code state))) (column row.now at) }
-{
-    State::from_code(number_at(row, at)?).ok_or(BAD)
-}
-
-/// A state of the first edition.
 #[tactic(auto, using(crate::proofs::SmallCodes::first_code_is_low))]
-fn first_job_state_at(row: &Row, at: usize) -> Result<JobState, Refusal>
-    ensures { ReadsAs result (λ state. state ≢ JobState.Scheduling)
-        (λ state. Int (pos (first_state_code state))) (column row.now at) }
-{
-    match number_at(row, at)? {
-        0 => Ok(JobState::Submitted),
-        1 => Ok(JobState::Scheduled),
-        2 => Ok(JobState::Running),
-        3 => Ok(JobState::Canceling),
-        4 => Ok(JobState::Finished),
-        _ => Err(BAD),
-    }
-}
-
 pub(crate) fn job_state_at(row: &Row, at: usize, edition: Edition) -> Result<JobState, Refusal>
     ensures { ReadsAs result (IsStateIn edition) (λ state. Int (pos (state_code_in edition state)))
         (column row.now at) }
 {
-    match edition {
-        Edition::First => first_job_state_at(row, at),
-        Edition::Second => JobState::from_code(number_at(row, at)?).ok_or(BAD),
+    match (edition, number_at(row, at)?) {
+        (Edition::Second, code) => JobState::from_code(code).ok_or(BAD),
+        (Edition::First, 0) => Ok(JobState::Submitted),
+        (Edition::First, 1) => Ok(JobState::Scheduled),
+        (Edition::First, 2) => Ok(JobState::Running),
+        (Edition::First, 3) => Ok(JobState::Canceling),
+        (Edition::First, 4) => Ok(JobState::Finished),
+        (Edition::First, _) => Err(BAD),
     }
-}
-
-pub(crate) fn res_state_at(row: &Row, at: usize) -> Result<ResState, Refusal>
-    ensures { ReadsAs result (λ _. ⊤) (λ state. Int (pos (res_state_code state)))
-        (column row.now at) }
-{
-    ResState::from_code(number_at(row, at)?).ok_or(BAD)
 }
 
 /// No outcome where the number is 0.

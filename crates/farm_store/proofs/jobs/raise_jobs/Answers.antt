@@ -1,15 +1,7 @@
 use Rattle.std.proofs.Common.{◌<◌, length, sym, subst, arith, rules}
-use Rattle.std.proofs.lemmas.Result.{on_ok_weaker}
-use Rattle.sqlite.specs.Held.{state}
-use Rattle.sqlite.specs.State.{HasCleanDisk}
+use Rattle.farm_store.proofs.Names.{Edition, GoesOn, HasCleanDisk, IsInside, IsSmall, IsSmallJob, on_ok_weaker, raised_below, state, TableRows}
+use Rattle.farm_store.proofs.Names.{tables_with_jobs}
 use Rattle.sqlite_trees.proofs.ListLemmas.{all-get_or}
-use Rattle.farm_types.specs.Small.{IsSmall, IsSmallJob}
-use Rattle.farm_store.specs.Columns.{TableRows}
-use Rattle.farm_store.specs.Editions.{tables_with_jobs}
-use Rattle.farm_store.specs.Edits.{GoesOn}
-use Rattle.farm_store.specs.Holds.{IsInside}
-use Rattle.farm_store.specs.Raising.{raised_below}
-use Rattle.farm_store.specs.declared.edition.Edition.{Edition}
 use Rattle.farm_store.proofs.GoingOn.{goes_on_then, was_clean}
 use Rattle.farm_store.proofs.RaisesJobs.{all_raised, none_raised}
 use Rattle.farm_store.proofs.jobs.raise_jobs.Goals as goal

@@ -1,12 +1,4 @@
-use Rattle.sqlite.specs.State.{HasCleanDisk}
-use Rattle.sqlite.specs.Held.{state}
-use Rattle.farm_types.specs.Small.{IsSmall}
-use Rattle.farm_store.specs.Columns.{TableRows}
-use Rattle.farm_store.specs.Editions.{tables_with_jobs}
-use Rattle.farm_store.specs.Edits.{GoesOn}
-use Rattle.farm_store.specs.Holds.{IsInside}
-use Rattle.farm_store.specs.Raising.{raised_below}
-use Rattle.farm_store.specs.declared.edition.Edition.{Edition}
+use Rattle.farm_store.proofs.Names.{Edition, GoesOn, HasCleanDisk, IsInside, IsSmall, raised_below, state, TableRows, tables_with_jobs}
 use Rattle.farm_store.proofs.jobs.raise_jobs.Given as goal
 
 abbrev pub invariant-loop-at : goal.invariant-loop-at

@@ -1,7 +1,5 @@
 use Rattle.std.proofs.Common.{◌≡◌, ◌<◌, codes, length, refl, sym, subst, ◌∙◌, arith, rules}
-use Rattle.farm_store.specs.Places.{of_meta}
-use Rattle.farm_store.specs.Columns.{first_meta_rows, first_schema}
-use Rattle.farm_store.specs.Stored.{IsWide}
+use Rattle.farm_store.proofs.Names.{first_meta_rows, first_schema, IsWide, of_meta}
 use Rattle.farm_store.proofs.NumberRows.{four_rows, refuses_number}
 use Rattle.farm_store.proofs.ReadRows.{all_at}
 use Rattle.farm_store.proofs.meta.first_numbers_of.Goals as goal

@@ -1,7 +1,6 @@
 use Rattle.std.proofs.Common.{[], inl}
 use Rattle.farm_store.specs.declared.meta.TheConstants.{READ}
-use Rattle.farm_store.specs.Places.{of_meta}
-use Rattle.farm_store.specs.Schema.{farm_columns}
+use Rattle.farm_store.proofs.Names.{farm_columns, of_meta}
 use Rattle.farm_store.proofs.LeftAlone.{all_shown, failed_left, reads_only}
 use Rattle.farm_store.proofs.OnlyReads.{never_commits, shown}
 use Rattle.farm_store.proofs.RowSelects.{asks_meta}

@@ -1,8 +1,6 @@
 use Rattle.std.proofs.Common.{◌≡◌, ◌<◌, codes, length, refl, sym, subst, ◌∙◌, arith, rules}
 use Rattle.std.specs.Prelude.{⊤}
-use Rattle.farm_store.specs.Places.{of_meta}
-use Rattle.farm_store.specs.Columns.{meta_rows, second_schema}
-use Rattle.farm_store.specs.Stored.{IsWide}
+use Rattle.farm_store.proofs.Names.{IsWide, meta_rows, of_meta, second_schema}
 use Rattle.farm_store.proofs.NumberRows.{five_rows, refuses_number}
 use Rattle.farm_store.proofs.ReadRows.{all_at}
 use Rattle.farm_store.proofs.meta.second_numbers_of.Goals as goal

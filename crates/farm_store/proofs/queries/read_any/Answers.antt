@@ -1,14 +1,6 @@
 use Rattle.std.proofs.Common.{IsTrue, inl, inr, sym, subst, ◌≢◌, ◌∙◌, List}
-use Rattle.std.specs.List.{AllByRecursion}
-use Rattle.sqlite.specs.Held.{state}
-use Rattle.sqlite.specs.Order.{Row}
-use Rattle.farm_store.specs.Columns.{numbers_of}
-use Rattle.farm_store.specs.Editions.{table_columns_in, version_fault}
-use Rattle.farm_store.specs.Places.{of_meta}
-use Rattle.farm_store.specs.Reading.{IsVersion, IsVersionFault}
-use Rattle.farm_store.specs.Stored.{IsWide}
-use Rattle.farm_store.specs.declared.edition.Edition.{Edition}
-use Rattle.farm_store.specs.declared.fault.StoreFault.{StoreFault}
+use Rattle.farm_store.proofs.Names.{AllByRecursion, Edition, IsVersion, IsVersionFault, IsWide, numbers_of, of_meta, Row, state, StoreFault, table_columns_in}
+use Rattle.farm_store.proofs.Names.{version_fault}
 use Rattle.farm_store.proofs.EditionLemmas.{collector_in, never_handed, never_version_fault, not_bad, not_own, not_store, spelled}
 use Rattle.farm_store.proofs.LeftAlone.{early, only_then}
 use Rattle.farm_store.proofs.ReadFarm.{failed, known, refused, refuses_farm}

@@ -1,8 +1,5 @@
 use Rattle.std.proofs.Common.{◌≡◌, Err, inl, inr, true, false, sym, subst, rules}
-use Rattle.std.proofs.lemmas.Bool.{cases_Bool}
-use Rattle.sqlite.specs.Held.{state}
-use Rattle.farm_store.specs.Reading.{ReadsEdition}
-use Rattle.farm_store.specs.declared.fault.StoreFault.{StoreFault}
+use Rattle.farm_store.proofs.Names.{cases_Bool, ReadsEdition, state, StoreFault}
 use Rattle.farm_store.proofs.ReadFarm.{beside_others}
 use Rattle.farm_store.proofs.queries.read_edition.Goals as goal
 

@@ -1,9 +1,6 @@
 use Rattle.std.proofs.Common.{arith, rules}
-use Rattle.sqlite.specs.Held.{state}
-use Rattle.sqlite.specs.State.{HasCleanDisk}
-use Rattle.farm_types.specs.Farm.{farm_of}
+use Rattle.farm_store.proofs.Names.{farm_of, HasCleanDisk, Stands, state}
 use Rattle.farm_store.specs.Columns.{first_rows_of, rows_of}
-use Rattle.farm_store.specs.Holds.{Stands}
 use Rattle.farm_store.proofs.Commits.{begun, committed}
 use Rattle.farm_store.proofs.raising.raise.Goals as goal
 

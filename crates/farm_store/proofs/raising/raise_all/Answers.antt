@@ -1,11 +1,7 @@
 use Rattle.std.proofs.Common.{sym, subst}
-use Rattle.sqlite.specs.Held.{state}
+use Rattle.farm_store.proofs.Names.{Edition, farm_of, IsInside, state, tables_with_jobs}
 use Rattle.sqlite_rules.proofs.ViewLemmas.{on_ok_both}
-use Rattle.farm_types.specs.Farm.{farm_of}
 use Rattle.farm_store.specs.Columns.{first_rows_of}
-use Rattle.farm_store.specs.Editions.{tables_with_jobs}
-use Rattle.farm_store.specs.Holds.{IsInside}
-use Rattle.farm_store.specs.declared.edition.Edition.{Edition}
 use Rattle.farm_store.proofs.GoingOn.{was_clean}
 use Rattle.farm_store.proofs.Raised.{first_is, raised}
 use Rattle.farm_store.proofs.raising.raise_all.Goals as goal

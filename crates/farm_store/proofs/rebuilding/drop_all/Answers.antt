@@ -1,5 +1,4 @@
-use Rattle.sqlite.specs.Held.{state}
-use Rattle.std.proofs.lemmas.Result.{on_ok_weaker}
+use Rattle.farm_store.proofs.Names.{on_ok_weaker, state}
 use Rattle.farm_store.proofs.Drops.{drops_all}
 use Rattle.farm_store.proofs.GoingOn.{was_clean}
 use Rattle.farm_store.proofs.rebuilding.drop_all.Goals as goal

@@ -1,10 +1,6 @@
 use Rattle.std.proofs.Common.{◌≡◌, ◌⊎◌, true, refl, inl, inr, sym, subst, arith, rules}
-use Rattle.sqlite.specs.Held.{state}
-use Rattle.sqlite.specs.State.{HasCleanDisk}
-use Rattle.sqlite.specs.Tree.{Trees}
-use Rattle.farm_types.specs.Farm.{empty_farm, put_rows}
+use Rattle.farm_store.proofs.Names.{empty_farm, HasCleanDisk, Holds, IsInside, put_rows, SeesSixTables, Stands, state, Trees}
 use Rattle.farm_store.specs.Columns.{rows_of}
-use Rattle.farm_store.specs.Holds.{Holds, IsInside, SeesSixTables, Stands}
 use Rattle.farm_store.proofs.Commits.{committed, left_before}
 use Rattle.farm_store.proofs.rebuilding.rebuild.Goals as goal
 use Rattle.farm_store.proofs.rebuilding.rebuild.Goals.{After-commit}

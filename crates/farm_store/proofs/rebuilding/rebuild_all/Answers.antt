@@ -1,5 +1,4 @@
-use Rattle.std.proofs.lemmas.Result.{on_ok_weaker}
-use Rattle.farm_types.specs.Farm.{empty_farm}
+use Rattle.farm_store.proofs.Names.{empty_farm, on_ok_weaker}
 use Rattle.farm_store.proofs.GoingOn.{was_clean}
 use Rattle.farm_store.proofs.rebuilding.rebuild_all.Goals as goal
 

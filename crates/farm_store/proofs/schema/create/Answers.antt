@@ -1,11 +1,6 @@
 use Rattle.std.proofs.Common.{true, ◌≡◌, ◌⊎◌, refl, inl, inr, sym, subst, arith, rules}
-use Rattle.sqlite.specs.Held.{state}
-use Rattle.sqlite.specs.State.{HasCleanDisk}
-use Rattle.sqlite.specs.Tree.{Trees}
-use Rattle.farm_types.specs.Farm.{empty_farm}
+use Rattle.farm_store.proofs.Names.{empty_farm, HasCleanDisk, Holds, IsInside, IsMadeIn, no_schema, Stands, state, Trees}
 use Rattle.farm_store.specs.Columns.{TableRows, no_rows, rows_of}
-use Rattle.farm_store.specs.Holds.{Holds, IsInside, IsMadeIn, Stands}
-use Rattle.farm_store.specs.Schema.{no_schema}
 use Rattle.farm_store.proofs.Commits.{begun, begun_commit, committed, left_before, rolled_back}
 use Rattle.farm_store.proofs.GoingOn.{was_clean}
 use Rattle.farm_store.proofs.schema.create.Goals as goal

@@ -1,7 +1,5 @@
 use Rattle.std.proofs.Common.{sym, subst}
-use Rattle.std.proofs.lemmas.Result.{on_ok_weaker}
-use Rattle.farm_store.specs.Holds.{ShowsTables}
-use Rattle.sqlite.specs.Held.{state}
+use Rattle.farm_store.proofs.Names.{on_ok_weaker, ShowsTables, state}
 use Rattle.farm_store.proofs.Creates.{makes_all, tables_taken}
 use Rattle.farm_store.proofs.GoingOn.{goes_on_then, was_clean}
 use Rattle.farm_store.proofs.schema.make_all.Goals as goal

@@ -1,7 +1,5 @@
 use Rattle.std.proofs.Common.{subst}
-use Rattle.std.proofs.lemmas.Result.{on_ok_weaker}
-use Rattle.sqlite.specs.Held.{state}
-use Rattle.farm_store.specs.Holds.{IsInside}
+use Rattle.farm_store.proofs.Names.{IsInside, on_ok_weaker, state}
 use Rattle.farm_store.proofs.EmptyRows.{empty_rows}
 use Rattle.farm_store.proofs.GoingOn.{was_clean}
 use Rattle.farm_store.proofs.schema.put_first_numbers.Goals as goal

@@ -1,9 +1,6 @@
 use Rattle.std.proofs.Common.{subst, arith, rules}
-use Rattle.sqlite.specs.Held.{state}
-use Rattle.sqlite.specs.State.{HasCleanDisk}
-use Rattle.farm_types.specs.Farm.{put_rows}
+use Rattle.farm_store.proofs.Names.{HasCleanDisk, IsInside, put_rows, Stands, state}
 use Rattle.farm_store.specs.Columns.{rows_of}
-use Rattle.farm_store.specs.Holds.{IsInside, Stands}
 use Rattle.farm_store.proofs.Commits.{begun, committed}
 use Rattle.farm_store.proofs.upserts.put.Goals as goal
 

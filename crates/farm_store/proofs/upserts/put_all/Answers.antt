@@ -1,9 +1,7 @@
 use Rattle.std.proofs.Common.{sym, subst, ap, ◌∙◌}
-use Rattle.sqlite.specs.Held.{state}
+use Rattle.farm_store.proofs.Names.{IsInside, state, untagged}
 use Rattle.sqlite_rules.proofs.ViewLemmas.{on_ok_both}
 use Rattle.farm_store.specs.Columns.{numbers_of, rows_of}
-use Rattle.farm_store.specs.Holds.{IsInside}
-use Rattle.farm_store.specs.Texts.{untagged}
 use Rattle.farm_store.proofs.Commute.{commutes, numbers_there}
 use Rattle.farm_store.proofs.GoingOn.{was_clean}
 use Rattle.farm_store.proofs.upserts.put_all.Goals as goal

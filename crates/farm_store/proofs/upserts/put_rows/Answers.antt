@@ -1,11 +1,6 @@
 use Rattle.std.proofs.Common.{◌<◌, ◌≡◌, ℕ, List, [], ◌∷◌, take, get_or, length, map, sym, ap, subst, ◌∙◌, arith, rules}
-use Rattle.std.proofs.lemmas.List.{get_or-map, length-map, take_all}
-use Rattle.sqlite.specs.Held.{state}
+use Rattle.farm_store.proofs.Names.{Edition, get_or-map, IsInside, length-map, put_at, state, take_all, untagged}
 use Rattle.sqlite_trees.proofs.ListLemmas.{all-get_or}
-use Rattle.farm_store.specs.Places.{put_at}
-use Rattle.farm_store.specs.Holds.{IsInside}
-use Rattle.farm_store.specs.Texts.{untagged}
-use Rattle.farm_store.specs.declared.edition.Edition.{Edition}
 use Rattle.farm_store.specs.declared.stored.Stored.{Ghosts}
 use Rattle.farm_store.specs.declared.stored.Tagged.{Tagged}
 use Rattle.farm_store.proofs.GoingOn.{goes_on_then, was_clean}

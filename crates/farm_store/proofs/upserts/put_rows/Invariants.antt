@@ -1,12 +1,5 @@
 use Rattle.std.proofs.Common.{take, map}
-use Rattle.sqlite.specs.State.{HasCleanDisk}
-use Rattle.sqlite.specs.Held.{state}
-use Rattle.farm_store.specs.Columns.{TableRows}
-use Rattle.farm_store.specs.Places.{put_at}
-use Rattle.farm_store.specs.Edits.{GoesOn}
-use Rattle.farm_store.specs.Holds.{IsInside}
-use Rattle.farm_store.specs.Texts.{untagged}
-use Rattle.farm_store.specs.declared.edition.Edition.{Edition}
+use Rattle.farm_store.proofs.Names.{Edition, GoesOn, HasCleanDisk, IsInside, put_at, state, TableRows, untagged}
 use Rattle.farm_store.proofs.upserts.put_rows.Given as goal
 
 abbrev pub invariant-loop-tagged : goal.invariant-loop-tagged

@@ -1,9 +1,6 @@
 use Rattle.std.proofs.Common.{inl, refl, ◌≡◌, ◌++◌, [], ◌∷◌, sym, subst, ◌∙◌, rules, arith}
-use Rattle.sqlite.specs.Held.{state}
+use Rattle.farm_store.proofs.Names.{given_begin, state, table_columns_in, unchanged_then}
 use Rattle.sqlite.specs.State.{CommitsShowing, HasCleanDisk}
-use Rattle.sqlite.proofs.Callers.{given_begin, unchanged_then}
-use Rattle.farm_store.specs.Editions.{table_columns_in}
-use Rattle.farm_store.specs.Holds.{ReadsOnly}
 use Rattle.farm_store.proofs.LeftAlone.{all_shown, failed_left, reads_only, sees, some_shown}
 use Rattle.farm_store.proofs.NextRow.{only_moved}
 use Rattle.farm_store.proofs.OnlyReads.{begun, never_commits}

@@ -1,11 +1,6 @@
 use Rattle.std.proofs.Common.{◌≡◌, [], List, ℕ}
 use Rattle.sqlite.specs.Given.{HasGiven}
-use Rattle.sqlite.specs.Held.{state}
-use Rattle.sqlite.specs.Order.{Row}
-use Rattle.sqlite.specs.State.{HasCleanDisk, IsUnchanged}
-use Rattle.farm_store.specs.Editions.{table_columns_in}
-use Rattle.farm_store.specs.Holds.{ReadsOnly}
-use Rattle.farm_store.specs.Queries.{AsksFor}
+use Rattle.farm_store.proofs.Names.{AsksFor, HasCleanDisk, IsUnchanged, ReadsOnly, Row, state, table_columns_in}
 use Rattle.farm_store.proofs.ReadRows.{SoFar}
 use Rattle.farm_store.proofs.queries.rows.read.Given as goal
 

@@ -1,7 +1,6 @@
 use Rattle.std.proofs.Common.{sym, ap, ◌∙◌}
 use Rattle.sqlite.specs.declared.types.Value.TheVariants.{Text}
-use Rattle.sqlite_value.specs.Order.{column}
-use Rattle.farm_types.proofs.SortedTags.{tags_read_only}
+use Rattle.farm_store.proofs.Names.{column, tags_read_only}
 use Rattle.farm_store.proofs.TagsRead.{read_good, refuses_tags}
 use Rattle.farm_store.proofs.queries.rows.tags_at.Goals as goal
 
