@@ -1,5 +1,5 @@
 -- Kept replies never leave the farm, and are given again.
-use Rattle.std.proofs.Common.{◌≡◌, ℕ, ◌==◌, ◌&&◌, Bool, true, false, cond, List, [], ◌∷◌, ◌++◌, Option, Some, None, refl, sym, ap, ◌∙◌, subst, Ordering, Less, Equal, Greater}
+use Rattle.std.proofs.Common.{◌≡◌, ℕ, ◌==◌, ◌&&◌, Bool, true, false, cond, List, [], ◌∷◌, ◌++◌, Option, Some, None, refl, sym, ap, ◌∙◌, subst, Equal}
 use Rattle.std.specs.Prelude.{if◌then◌else◌, not, is_some}
 use Rattle.std.specs.Bool.{then_some}
 use Rattle.std.specs.List.{find}
@@ -10,25 +10,22 @@ use Rattle.std.proofs.lemmas.Bool.{and_parts}
 use Rattle.std.proofs.lemmas.Cmp.{tied_itself}
 use Rattle.std.proofs.lemmas.List.Sums.{fold-append}
 use Rattle.std.proofs.lemmas.Slice.Eq.{bytes_eq-Decides}
-use Rattle.farm_types.specs.Refusals.{bad_moment, forbidden, key_reused}
-use Rattle.farm_types.specs.Words.{text_cmp}
-use Rattle.farm_types.specs.Table.{kept_cmp}
-use Rattle.farm_types.specs.Farm.{Farm, board_of, job_of, kept_of, put_board, put_kept}
-use Rattle.farm_types.specs.Pass.{with_board, giving_back, expire}
-use Rattle.farm_types.specs.Refuse.{kind_of, is_late, kept_for, is_full, may_give, first_code, refusal, early_refusal, own_refusal}
-use Rattle.farm_types.specs.Change.{Done, done_with, act, change, farm_at_call}
-use Rattle.farm_types.specs.Refusals.{bad_moment, key_reused}
-use Rattle.farm_types.specs.Machine.{Answered, Changed, Repeated, Denied, answer, answer_by, repeated_reply, step, step_by, run}
+use Rattle.sqlite_value.proofs.KeyLemmas.{then_tied}
+use Rattle.farm_types.specs.Names.{act, answer, answer_by, Answered, bad_moment, board_of, change, Changed, Denied, Done, done_with, early_refusal, expire}
+use Rattle.farm_types.specs.Names.{Farm, farm_at_call, first_code, forbidden, giving_back, is_full, is_late, job_of, kept_cmp, kept_for, kept_of, key_reused}
+use Rattle.farm_types.specs.Names.{kind_of, may_give, own_refusal, put_board, put_kept, refusal, Repeated, repeated_reply, run, step, step_by, text_cmp}
+use Rattle.farm_types.specs.Names.{with_board}
 use Rattle.farm_types.specs.declared.rows.BoardRow.{BoardRow}
+use Rattle.farm_types.specs.declared.calls.Call.{Call}
+use Rattle.farm_types.specs.declared.calls.Cmd.{Cmd}
 use Rattle.farm_types.specs.declared.rows.KeptRow.{KeptRow}
 use Rattle.farm_types.specs.declared.rows.Reply.{Reply}
-use Rattle.farm_types.specs.declared.calls.Cmd.{Cmd}
-use Rattle.farm_types.specs.declared.calls.Call.{Call}
 use Rattle.farm_types.proofs.Put.{find_put_is}
 use Rattle.farm_sound.proofs.Grow.{same_texts}
 use Rattle.farm_sound.proofs.Numbers.{kept_total}
 use Rattle.farm_sound.proofs.Replies.{pass_kept}
 use Rattle.farm_keep.specs.Restarts.{answer_again}
+use Rattle.farm_keep.proofs.RestartLemmas.{again_no_change}
 
 -- ---- no command changes the kept replies
 
@@ -64,20 +61,9 @@ act_kept F caller Cmd.Pass = pass_kept (expire (giving_back F) F.clock) F.collec
 abbrev is_for : List ℕ → List ℕ → KeptRow → Bool
 is_for caller key r = bytes_eq r.caller caller && bytes_eq r.key key
 
-then_equal : (x y : Ordering) → ordering_then x y ≡ Equal → (x ≡ Equal) × (y ≡ Equal)
-then_equal Less y e = absurd (let no : Less ≡ Equal = e in cc)
-then_equal Equal y e = (refl, e)
-then_equal Greater y e = absurd (let no : Greater ≡ Equal = e in cc)
-
-names_equal : (a b : List ℕ) → bytes_eq a b ≡ true → a ≡ b
-names_equal a b h = (bytes_eq-Decides a b).0 h
-
-own_name : (a : List ℕ) → bytes_eq a a ≡ true
-own_name a = (bytes_eq-Decides a a).1 refl
-
 tied_alike : (caller key : List ℕ) (row r : KeptRow) → kept_cmp row r ≡ Equal → is_for caller key row ≡ is_for caller key r
 tied_alike caller key row r tie =
-    let parts = then_equal (text_cmp row.caller r.caller) (text_cmp row.key r.key) tie in
+    let parts = then_tied (text_cmp row.caller r.caller) (text_cmp row.key r.key) tie in
     let callers = same_texts row.caller r.caller parts.0 in
     let keys = same_texts row.key r.key parts.1 in
     rw (callers, keys) refl
@@ -86,8 +72,8 @@ alike_tied : (caller key : List ℕ) (row r : KeptRow) → is_for caller key row
 alike_tied caller key row r p q =
     let ps = and_parts (bytes_eq row.caller caller) (bytes_eq row.key key) p in
     let qs = and_parts (bytes_eq r.caller caller) (bytes_eq r.key key) q in
-    let callers : row.caller ≡ r.caller = names_equal row.caller caller ps.0 ∙ sym (names_equal r.caller caller qs.0) in
-    let keys : row.key ≡ r.key = names_equal row.key key ps.1 ∙ sym (names_equal r.key key qs.1) in
+    let callers : row.caller ≡ r.caller = (bytes_eq-Decides row.caller caller).0 ps.0 ∙ sym ((bytes_eq-Decides r.caller caller).0 qs.0) in
+    let keys : row.key ≡ r.key = (bytes_eq-Decides row.key key).0 ps.1 ∙ sym ((bytes_eq-Decides r.key key).0 qs.1) in
     subst (λ c. ordering_then (text_cmp row.caller c) (text_cmp row.key r.key) ≡ Equal) callers
     (subst (λ k. ordering_then (text_cmp row.caller row.caller) (text_cmp row.key k) ≡ Equal) keys (tied_itself kept_total row))
 
@@ -119,14 +105,6 @@ answers_kept F call row is =
     by false true = refl
     by false false = refl
 
-says_no_change : (row : KeptRow) (call : Call) (r : Reply) → says row call ≡ Changed r → ⊥
-says_no_change row call r = by (is_late call) (row.kind == kind_of call.cmd)
-  where
-    by : (late same : Bool) → cond late (Denied bad_moment) (cond same (Repeated row.reply) (Denied key_reused)) ≡ Changed r → ⊥
-    by true same e = cc
-    by false true e = cc
-    by false false e = cc
-
 -- ---- what is kept after one call
 
 abbrev kept_row : Call → List ℕ → Reply → KeptRow
@@ -143,17 +121,9 @@ kept_changed F d caller key = by d.key
     by (Some k) = kept_put (act (farm_at_call F d) d.caller d.cmd).farm (kept_row d k (act (farm_at_call F d) d.caller d.cmd).reply) caller key
         ∙ ap (λ rows. cond (is_for caller key (kept_row d k (act (farm_at_call F d) d.caller d.cmd).reply)) (Some (kept_row d k (act (farm_at_call F d) d.caller d.cmd).reply)) (find (is_for caller key) rows)) (act_kept (farm_at_call F d) d.caller d.cmd)
 
-step_changed : (F : Farm) (d : Call) (r : Reply) → answer F d ≡ Changed r → step F d ≡ (change F d).farm
+step_is : (F : Farm) (d : Call) (a : Answered) → answer F d ≡ a → step F d ≡ step_by a F (change F d).farm
 unfolding step
-step_changed F d r e = ap (λ a. step_by a F (change F d).farm) e
-
-step_repeated : (F : Farm) (d : Call) (r : Reply) → answer F d ≡ Repeated r → step F d ≡ F
-unfolding step
-step_repeated F d r e = ap (λ a. step_by a F (change F d).farm) e
-
-step_denied : (F : Farm) (d : Call) (code : ℕ) → answer F d ≡ Denied code → step F d ≡ F
-unfolding step
-step_denied F d code e = ap (λ a. step_by a F (change F d).farm) e
+step_is F d a e = ap (λ b. step_by b F (change F d).farm) e
 
 changed_reply : (F : Farm) (d : Call) (r : Reply) → answer F d ≡ Changed r → (change F d).reply ≡ r
 unfolding answer
@@ -170,10 +140,10 @@ kept_stays_changed F d r caller key row changed is = kept_changed F d caller key
     other : (k : List ℕ) → d.key ≡ Some k → (b : Bool) → is_for caller key (kept_row d k (change F d).reply) ≡ b → cond b (Some (kept_row d k (change F d).reply)) (kept_of F caller key) ≡ Some row
     other k keyed true mine =
         let parts = and_parts (bytes_eq d.caller caller) (bytes_eq k key) mine in
-        let callers = names_equal d.caller caller parts.0 in
-        let keys = names_equal k key parts.1 in
+        let callers = (bytes_eq-Decides d.caller caller).0 parts.0 in
+        let keys = (bytes_eq-Decides k key).0 parts.1 in
         let kept : kept_of F d.caller k ≡ Some row = subst (λ c. kept_of F c k ≡ Some row) (sym callers) (subst (λ x. kept_of F caller x ≡ Some row) (sym keys) is) in
-        absurd (says_no_change row d r (sym (answers_kept F d row (kept_is F d k row keyed kept)) ∙ changed))
+        absurd (again_no_change (is_late d) (row.kind == kind_of d.cmd) row.reply r (sym (answers_kept F d row (kept_is F d k row keyed kept)) ∙ changed))
     other k keyed false mine = is
 
     by : (o : Option (List ℕ)) → d.key ≡ o → option_map_or (λ k. cond (is_for caller key (kept_row d k (change F d).reply)) (Some (kept_row d k (change F d).reply)) (kept_of F caller key)) o (kept_of F caller key) ≡ Some row
@@ -184,14 +154,14 @@ kept_stays : (F : Farm) (d : Call) (caller key : List ℕ) (row : KeptRow) → k
 kept_stays F d caller key row is = by (answer F d) refl
   where
     by : (a : Answered) → answer F d ≡ a → kept_of (step F d) caller key ≡ Some row
-    by (Changed r) e = subst (λ G. kept_of G caller key ≡ Some row) (sym (step_changed F d r e)) (kept_stays_changed F d r caller key row e is)
-    by (Repeated r) e = subst (λ G. kept_of G caller key ≡ Some row) (sym (step_repeated F d r e)) is
-    by (Denied code) e = subst (λ G. kept_of G caller key ≡ Some row) (sym (step_denied F d code e)) is
+    by (Changed r) e = subst (λ G. kept_of G caller key ≡ Some row) (sym (step_is F d (Changed r) e)) (kept_stays_changed F d r caller key row e is)
+    by (Repeated r) e = subst (λ G. kept_of G caller key ≡ Some row) (sym (step_is F d (Repeated r) e)) is
+    by (Denied code) e = subst (λ G. kept_of G caller key ≡ Some row) (sym (step_is F d (Denied code) e)) is
 
 kept_after : (F : Farm) (d : Call) (key : List ℕ) (r : Reply) → d.key ≡ Some key → answer F d ≡ Changed r → kept_of (step F d) d.caller key ≡ Some (kept_row d key r)
 kept_after F d key r keyed changed =
-    let mine : is_for d.caller key (kept_row d key (change F d).reply) ≡ true = rw (own_name d.caller, own_name key) refl in
-    ap (λ G. kept_of G d.caller key) (step_changed F d r changed)
+    let mine : is_for d.caller key (kept_row d key (change F d).reply) ≡ true = rw ((bytes_eq-Decides d.caller d.caller).1 refl, (bytes_eq-Decides key key).1 refl) refl in
+    ap (λ G. kept_of G d.caller key) (step_is F d (Changed r) changed)
     ∙ kept_changed F d d.caller key
     ∙ ap (λ o. option_map_or (λ k. cond (is_for d.caller key (kept_row d k (change F d).reply)) (Some (kept_row d k (change F d).reply)) (kept_of F d.caller key)) o (kept_of F d.caller key)) keyed
     ∙ ap (λ b. cond b (Some (kept_row d key (change F d).reply)) (kept_of F d.caller key)) mine

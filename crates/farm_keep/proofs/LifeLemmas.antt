@@ -8,32 +8,29 @@ use Rattle.sqlite.specs.Held.{Held, state}
 use Rattle.sqlite.specs.State.{State, HasCleanDisk, IsLive, Opens}
 use Rattle.sqlite.specs.Tree.{Trees}
 use Rattle.sqlite_trees.specs.declared.store.Store.{Ghosts}
-use Rattle.farm_types.specs.Farm.{Farm}
-use Rattle.farm_types.specs.Machine.{step, run}
-use Rattle.farm_types.specs.Sound.{IsSound}
+use Rattle.farm_types.specs.Names.{Farm, IsSound, run, step}
 use Rattle.farm_types.specs.declared.calls.Call.{Call}
 use Rattle.farm_sound.proofs.Step.{IsSound-run}
 use Rattle.farm_core.specs.Shown.{Shown}
 use Rattle.farm_store.specs.Columns.{IsOfSchema, TableRows, first_schema, rows_of}
 use Rattle.farm_store.specs.Holds.{Holds, Stands}
 use Rattle.farm_keep.specs.Faults.{IsFindFault}
+use Rattle.farm_keep.specs.Found.{Finds}
 use Rattle.farm_keep.specs.Headline.{GivesNoKeeper, LeavesRun}
 use Rattle.farm_keep.specs.KeeperState.{KeeperState, KeepsOwnFarm}
-use Rattle.farm_keep.specs.Lives.{AreLived, GivesFarm, IsLived, IsRestart, IsStoppedEarly, IsStoppedLate, LeavesDone, Life, OpensOn}
+use Rattle.farm_keep.specs.Lives.{AreLived, GivesFarm, IsLived, IsRestart, LeavesDone, Life, OpensOn}
 use Rattle.farm_keep.specs.Restarts.{Restart, calls_of_restarts, done_calls}
 use Rattle.farm_keep.specs.declared.keeper.run.RunEnd.{RunEnd}
 use Rattle.farm_keep.specs.declared.fault.KeepFault.{KeepFault}
 
 -- why a store gave no farm
-pub denies : (s : State) (fault : KeepFault) (result : Result Shown KeepFault) → result ≡ Err fault
-    → (result ≡ Err KeepFault.BadStore → (F : Farm) → IsSound F → ¬ Stands s (rows_of F))
-    → (result ≡ Err KeepFault.OldSchema → (T : TableRows) → Stands s T → IsOfSchema first_schema T) → GivesNoKeeper s fault
-denies s KeepFault.NoMemory result is bad ours = tt
-denies s KeepFault.Store result is bad ours = tt
-denies s KeepFault.BadStore result is bad ours = bad is
-denies s KeepFault.OldSchema result is bad ours = ours is
-denies s KeepFault.NewSchema result is bad ours = tt
-denies s KeepFault.Closed result is bad ours = tt
+pub denies : (s : State) (fault : KeepFault) (result : Result Shown KeepFault) → result ≡ Err fault → Finds result s → GivesNoKeeper s fault
+denies s KeepFault.NoMemory result is finds = tt
+denies s KeepFault.Store result is finds = tt
+denies s KeepFault.BadStore result is finds = finds.bad is
+denies s KeepFault.OldSchema result is finds = finds.old is
+denies s KeepFault.NewSchema result is finds = tt
+denies s KeepFault.Closed result is finds = tt
 
 -- the tables of a farm are of the second edition
 pub not_first : (F : Farm) → IsOfSchema first_schema (rows_of F) → ⊥
@@ -74,24 +71,6 @@ at_opening : {S : Type 0} (g : Ghosts S) → StandsOpened g → (opened : Held S
 at_opening g stands opened first F holds opens =
     stands opened opens.opens opens.live (rows_of F) (subst (λ (t : Trees). Holds t (rows_of F)) (sym opens.on) holds)
 
--- a life that only read leaves the farm that it was opened on
-early_life : {S : Type 0} (g : Ghosts S) → StandsOpened g → (opened conn : Held S) (first last : Trees) (F : Farm)
-    → Holds first (rows_of F) → IsStoppedEarly g opened conn first last → Holds last (rows_of F)
-early_life g stands opened conn first last F holds it =
-    (at_opening g stands opened first F holds it.opens).left last (it.reads.left it.clean last it.left)
-
-late_life : {S : Type 0} (g : Ghosts S) → StandsOpened g → (opened : Held S) (keeper : KeeperState S) (end : RunEnd) (calls : List Call) (first last : Trees) (F : Farm)
-    → IsSound F → Holds first (rows_of F) → IsStoppedLate g opened keeper end calls first last → LeftRun last F end calls
-late_life g stands opened keeper end calls first last F sound holds it =
-    let at = at_opening g stands opened first F holds it.opens in
-    let k = it.resumes.adopted in
-    let made = it.resumes.adopts in
-    let early : HasCleanDisk (state g k.conn) = omega (arith, it.resumes.runs.clean, it.clean) in
-    let is = made.exact early F sound at in
-    let keeps : KeepsOwnFarm g k = λ clean. subst (Stands (state g k.conn)) (sym (made.rows clean (rows_of F) at)) (made.stands clean (rows_of F) at) in
-    let leaves : LeavesRun g keeper end F calls = subst (λ G. LeavesRun g keeper end G calls) is (it.resumes.runs.left keeps) in
-    left_run g keeper end F calls last leaves it.clean it.left
-
 pub record LeftLife {S : Type 0} (db : Trees) (F : Farm) (life : Life S) : Type 0 where
   pub restart : Restart
   pub each : IsRestart life restart
@@ -102,10 +81,16 @@ one_life : {S : Type 0} (g : Ghosts S) → StandsOpened g → (life : Life S) (f
 one_life g stands (Life.Looked opened conn) first last F sound holds it = record {
   restart = record { calls = []; done = 0 };
   each = (refl, refl);
-  holds = early_life g stands opened conn first last F holds it;
+  holds = (at_opening g stands opened first F holds it.opens).left last (it.reads.left it.clean last it.left);
 }
 one_life g stands (Life.Ran opened keeper end calls) first last F sound holds it =
-    let one = late_life g stands opened keeper end calls first last F sound holds it in
+    let at = at_opening g stands opened first F holds it.opens in
+    let k = it.resumes.adopted in
+    let made = it.resumes.adopts in
+    let early : HasCleanDisk (state g k.conn) = omega (arith, it.resumes.runs.clean, it.clean) in
+    let keeps : KeepsOwnFarm g k = λ clean. subst (Stands (state g k.conn)) (sym (made.rows clean (rows_of F) at)) (made.stands clean (rows_of F) at) in
+    let leaves : LeavesRun g keeper end F calls = subst (λ G. LeavesRun g keeper end G calls) (made.exact early F sound at) (it.resumes.runs.left keeps) in
+    let one = left_run g keeper end F calls last leaves it.clean it.left in
     record { restart = record { calls = calls; done = one.done }; each = (refl, one.counts); holds = one.holds }
 
 pub record LeftLives {S : Type 0} (db : Trees) (F : Farm) (lives : List (Life S)) : Type 0 where

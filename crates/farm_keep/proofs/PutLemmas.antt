@@ -1,9 +1,6 @@
 -- The rows of a sound farm: their numbers are small, and put into the empty farm they are it.
 use Rattle.std.proofs.Common.{◌≡◌, refl, arith}
-use Rattle.farm_types.specs.Farm.{empty_farm, farm_of, put_rows}
-use Rattle.farm_types.specs.Small.{AreSmall}
-use Rattle.farm_types.specs.Sound.{IsSound}
-use Rattle.farm_types.specs.Table.{board_cmp, job_cmp, kept_cmp, res_cmp, type_cmp}
+use Rattle.farm_types.specs.Names.{AreSmall, board_cmp, empty_farm, farm_of, IsSound, job_cmp, kept_cmp, put_rows, res_cmp, type_cmp}
 use Rattle.farm_types.specs.declared.calls.Rows.{Rows}
 use Rattle.farm_types.proofs.Put.{AllByRecursion-weaker}
 use Rattle.farm_sound.proofs.Add.{job_total, res_total}

@@ -1,12 +1,10 @@
 -- Runs and restarts one after another.
 use Rattle.std.proofs.Common.{◌≡◌, Bool, true, false, cond, List, [], ◌∷◌, ◌++◌, refl, sym, ap, ◌∙◌}
 use Rattle.std.proofs.lemmas.List.Sums.{fold-append}
-use Rattle.farm_types.specs.Farm.{Farm}
-use Rattle.farm_types.specs.Refusals.{bad_moment, key_reused}
-use Rattle.farm_types.specs.Machine.{Changed, Repeated, Denied, answer, step, run}
-use Rattle.farm_types.specs.declared.rows.Reply.{Reply}
+use Rattle.farm_types.specs.Names.{answer, bad_moment, Changed, Denied, Farm, key_reused, Repeated, run, step}
 use Rattle.farm_types.specs.declared.calls.Call.{Call}
-use Rattle.farm_keep.specs.Runs.{answers_of}
+use Rattle.farm_types.specs.declared.rows.Reply.{Reply}
+use Rattle.farm_keep.specs.Headline.{answers_of}
 use Rattle.farm_keep.specs.Restarts.{Restart, done_calls, run_all, calls_of_restarts}
 
 pub answers_of-append : (F : Farm) (first second : List Call) → answers_of F (first ++ second) ≡ answers_of F first ++ answers_of (run F first) second

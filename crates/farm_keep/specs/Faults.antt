@@ -1,8 +1,7 @@
 -- The numbers of a keeper's faults, its words for the store's and for those of rows, and which of
 -- them may come.
 use Rattle.std.specs.Prelude.{ℕ, ⊤}
-use Rattle.farm_types.specs.Refusals.{bad_store, closed, new_schema, no_memory, old_schema}
-use Rattle.farm_types.specs.Refusals.{store_fault}
+use Rattle.farm_types.specs.Names.{bad_store, closed, new_schema, no_memory, old_schema, store_fault}
 use Rattle.farm_core.specs.declared.farm.BadRows.{BadRows}
 use Rattle.farm_store.specs.declared.fault.StoreFault.{StoreFault}
 use Rattle.farm_keep.specs.declared.fault.KeepFault.{KeepFault}
@@ -37,23 +36,17 @@ IsOwnFault fault = ⊥
 
 -- of a command
 abbrev pub IsActFault : KeepFault → Type 0
-IsActFault KeepFault.NoMemory = ⊤
-IsActFault KeepFault.Store = ⊤
 IsActFault KeepFault.Closed = ⊤
-IsActFault fault = ⊥
+IsActFault fault = IsOwnFault fault
 
 -- where a farm is looked for
 abbrev pub IsFindFault : KeepFault → Type 0
-IsFindFault KeepFault.NoMemory = ⊤
-IsFindFault KeepFault.Store = ⊤
 IsFindFault KeepFault.BadStore = ⊤
 IsFindFault KeepFault.OldSchema = ⊤
-IsFindFault fault = ⊥
+IsFindFault fault = IsOwnFault fault
 
 -- of a migration
 abbrev pub IsMigrateFault : KeepFault → Type 0
-IsMigrateFault KeepFault.NoMemory = ⊤
-IsMigrateFault KeepFault.Store = ⊤
 IsMigrateFault KeepFault.BadStore = ⊤
 IsMigrateFault KeepFault.NewSchema = ⊤
-IsMigrateFault fault = ⊥
+IsMigrateFault fault = IsOwnFault fault

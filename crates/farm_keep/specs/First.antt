@@ -3,14 +3,12 @@ use Rattle.std.specs.Prelude.{◌≡◌, ◌≢◌, ◌⊎◌, false, Result, Er
 use Rattle.std.specs.Result.{result_err}
 use Rattle.sqlite.specs.State.{State, HasCleanDisk}
 use Rattle.sqlite.specs.Tree.{Trees}
-use Rattle.farm_types.specs.Farm.{Farm}
-use Rattle.farm_types.specs.Sound.{IsSound}
-use Rattle.farm_store.specs.Columns.{IsOfSchema, TableRows, first_rows_of, first_schema, rows_of}
-use Rattle.farm_store.specs.Columns.{second_schema}
+use Rattle.farm_types.specs.Names.{Farm, IsSound}
+use Rattle.farm_store.specs.Columns.{IsOfSchema, TableRows, first_rows_of, first_schema, rows_of, second_schema}
 use Rattle.farm_store.specs.Holds.{Holds, KeepsDoubt, LeavesEither, Stands}
 use Rattle.farm_store.specs.Schema.{farm_schema}
 use Rattle.farm_keep.specs.Faults.{IsMigrateFault}
-use Rattle.farm_keep.specs.Versions.{LooksForFirst}
+use Rattle.farm_keep.specs.Found.{LooksForFirst}
 use Rattle.farm_keep.specs.declared.fault.KeepFault.{KeepFault}
 
 -- a sound farm that the first edition knew: no group collects in it, so no job is Scheduling

@@ -1,25 +1,32 @@
--- What a run leaves, and what is found again.
-use Rattle.std.specs.Prelude.{◌≡◌, ◌≤◌, ◌<◌, ◌⊎◌, ◌+◌, ℕ, true, false, List, [], take, map, length}
-use Rattle.std.specs.Prelude.{Option, Some, None, IfSome, IfNone, ⊤}
+-- What a run answers and leaves, and what is found again.
+use Rattle.std.specs.Prelude.{◌≡◌, ◌≤◌, ◌<◌, ◌⊎◌, ◌+◌, ℕ, true, false, List, [], ◌∷◌, ◌++◌, take, map, length, Option, Some, None, IfSome, IfNone, ⊤}
 use Rattle.sqlite.specs.State.{State, HasCleanDisk}
 use Rattle.sqlite.specs.Held.{Held, state}
 use Rattle.sqlite.specs.Tree.{Trees}
 use Rattle.sqlite_trees.specs.declared.store.Store.{Ghosts}
 use Rattle.sqlite_trees.specs.View.{doubt}
-use Rattle.farm_types.specs.Farm.{Farm}
-use Rattle.farm_types.specs.Machine.{run}
-use Rattle.farm_types.specs.Sound.{IsSound}
+use Rattle.farm_types.specs.Names.{answer, Answered, Farm, IsSound, run, step}
 use Rattle.farm_types.specs.declared.calls.Call.{Call}
-use Rattle.farm_core.specs.Answers.{answer_of}
+use Rattle.farm_core.specs.Answers.{answer_of, IsChange}
 use Rattle.farm_store.specs.Columns.{IsOfSchema, TableRows, first_schema, rows_of}
 use Rattle.farm_store.specs.Holds.{Holds, Stands, LeavesNoMore}
 use Rattle.farm_store.specs.Schema.{farm_schema}
 use Rattle.farm_keep.specs.Faults.{IsActFault}
 use Rattle.farm_keep.specs.KeeperState.{KeeperState, KeepsOwnFarm, KeepsFarm, KeepsEither}
-use Rattle.farm_keep.specs.Runs.{answers_of, IsNextChange}
 use Rattle.farm_keep.specs.declared.keeper.run.RunEnd.{RunEnd}
 use Rattle.farm_keep.specs.declared.fault.KeepFault.{KeepFault}
 use Rattle.farm_keep.specs.declared.fault.KeepFault.TheVariants as fault
+
+-- the machine's answers to one call after another
+abbrev pub answers_of : Farm → List Call → List Answered
+answers_of F [] = []
+answers_of F (call ∷ calls) = answer F call ∷ answers_of (step F call) calls
+
+-- after so many of the calls, the next one's answer is a change's
+pub record IsNextChange (F : Farm) (calls : List Call) (done : ℕ) : Type 0 where
+  pub answered : Answered
+  pub next : answers_of F (take (done + 1) calls) ≡ answers_of F (take done calls) ++ answered ∷ []
+  pub change : IsChange answered
 
 -- a stop now leaves the rows of the run over the calls that were answered or, after a fault of the
 -- store, perhaps over one call more

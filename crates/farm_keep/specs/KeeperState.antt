@@ -1,4 +1,5 @@
--- What callers see of a keeper, and what an open one keeps true.
+-- What callers see of a keeper and of a connection that a call didn't take, and what an open keeper
+-- keeps true.
 use Rattle.std.specs.Prelude.{◌≡◌, ⊤, Bool, true, false, refl}
 use Rattle.std.specs.Coded.{Coded, code_by, coded×, coded_bool}
 use Rattle.sqlite_trees.specs.declared.store.Store.{Ghosts}
@@ -6,11 +7,12 @@ use Rattle.sqlite.specs.Held.{Held, held_code, state}
 use Rattle.farm_core.specs.Shown.{Shown}
 use Rattle.farm_core.specs.contracts.farm.Farm as farm
 use Rattle.sqlite.specs.State.{HasCleanDisk}
-use Rattle.farm_types.specs.Farm.{Farm}
-use Rattle.farm_types.specs.Sound.{IsSound}
+use Rattle.farm_types.specs.Names.{Farm, IsSound}
 use Rattle.farm_types.specs.declared.calls.Answer.{Answer}
 use Rattle.farm_store.specs.Columns.{rows_of}
 use Rattle.farm_store.specs.Holds.{StandsFor, LeavesEither}
+use Rattle.farm_keep.specs.declared.fault.KeepFault.{KeepFault}
+use Rattle.farm_keep.specs.contracts.fault.KeepFault as fault
 
 pub record KeeperState (S : Type 0) : Type 0 where
   pub conn : Held S
@@ -23,6 +25,16 @@ keeper_code {S} store =
     (coded× (held_code store) (coded× farm.the_row.coded coded_bool))
     (λ k. (k.conn, (k.farm, k.is_open))) (λ p. record { conn = p.0; farm = p.1.0; is_open = p.1.1 })
     (λ _. refl)
+
+-- a connection that wasn't taken, and why
+pub record UnkeptState (S : Type 0) : Type 0 where
+  pub conn : Held S
+  pub fault : KeepFault
+
+abbrev pub unkept_code : {S : Type 0} → Coded S → Coded (UnkeptState S)
+unkept_code {S} store =
+    code_by (Held S × KeepFault) (coded× (held_code store) fault.the_row.coded)
+    (λ u. (u.conn, u.fault)) (λ p. record { conn = p.0; fault = p.1 }) (λ _. refl)
 
 -- no transaction is begun, and an open keeper's farm works and is sound
 pub record KeeperInvariant {S : Type 0} (conn : Held S) (farm : Shown) (is_open : Bool) : Type 0 where

@@ -3,8 +3,5 @@ pub mod First
 pub mod Found
 pub mod Headline
 pub mod KeeperState
-pub mod UnkeptState
 pub mod Lives
 pub mod Restarts
-pub mod Runs
-pub mod Versions

@@ -7,8 +7,7 @@ use Rattle.sqlite.specs.State.{State, HasCleanDisk, IsLive, Opens}
 use Rattle.sqlite.specs.Tree.{Trees}
 use Rattle.sqlite_trees.specs.declared.store.Store.{Ghosts}
 use Rattle.farm_core.specs.Shown.{Shown}
-use Rattle.farm_types.specs.Farm.{Farm}
-use Rattle.farm_types.specs.Machine.{run}
+use Rattle.farm_types.specs.Names.{Farm, run}
 use Rattle.farm_types.specs.declared.calls.Call.{Call}
 use Rattle.farm_store.specs.Holds.{ReadsOnly}
 use Rattle.farm_keep.specs.Faults.{IsOwnFault}

@@ -1,13 +1,9 @@
 -- Lists of calls, each done as far as it came before the desk stopped, one after another.
-use Rattle.std.specs.Prelude.{◌≡◌, ◌==◌, ℕ, List, ◌∷◌, ◌++◌, Some, take}
-use Rattle.std.specs.Prelude.{if◌then◌else◌}
+use Rattle.std.specs.Prelude.{◌≡◌, ◌==◌, ℕ, List, ◌∷◌, ◌++◌, Some, take, if◌then◌else◌}
 use Rattle.std.specs.List.{fold, flat_map}
-use Rattle.farm_types.specs.Farm.{Farm}
-use Rattle.farm_types.specs.Refuse.{kind_of, is_late}
-use Rattle.farm_types.specs.Refusals.{bad_moment, key_reused}
-use Rattle.farm_types.specs.Machine.{Answered, Changed, Repeated, Denied, answer, run}
-use Rattle.farm_types.specs.declared.rows.Reply.{Reply}
+use Rattle.farm_types.specs.Names.{answer, Answered, bad_moment, Changed, Denied, Farm, is_late, key_reused, kind_of, Repeated, run}
 use Rattle.farm_types.specs.declared.calls.Call.{Call}
+use Rattle.farm_types.specs.declared.rows.Reply.{Reply}
 
 -- a list of calls, and how many of them were done when the desk stopped
 pub record Restart : Type 0 where

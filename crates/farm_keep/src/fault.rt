@@ -2,11 +2,9 @@
 ghost use Rattle.std.specs.Prelude.{◌≡◌};
 ghost use Rattle.farm_keep.specs.Faults.{keep_fault_code};
 
-use crate::keeper::Unkept;
 use farm_core::BadRows;
 use farm_store::StoreFault;
 use farm_types::{BAD_STORE, CLOSED, NEW_SCHEMA, NO_MEMORY, OLD_SCHEMA, Refusal, STORE};
-use sqlite::Alter;
 use thiserror::Error;
 
 /// Why a keeper gave no answer. The texts are those of the table of refusals.
@@ -76,15 +74,5 @@ impl From<StoreFault> for KeepFault {
             StoreFault::OldSchema => KeepFault::OldSchema,
             StoreFault::NewSchema => KeepFault::NewSchema,
         }
-    }
-}
-
-impl<S: Alter + Drop> From<Unkept<S>> for KeepFault {
-    ghost use Rattle.std.specs.Prelude.{◌≡◌};
-
-    ghost from_gives = { λ unkept fault. fault ≡ unkept.fault };
-
-    fn from(unkept: Unkept<S>) -> KeepFault {
-        unkept.fault()
     }
 }

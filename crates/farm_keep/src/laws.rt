@@ -10,7 +10,7 @@ ghost use Rattle.farm_types.specs.Farm.{Farm as Plain, empty_farm, farm_of, put_
 ghost use Rattle.farm_types.specs.Small.{AreSmall};
 ghost use Rattle.farm_types.specs.Sound.{IsSound};
 ghost use Rattle.farm_keep.specs.First.{HoldsEitherEdition, IsSoundFirst, Migrates};
-ghost use Rattle.farm_keep.specs.Headline.{IsAlwaysClean, Runs};
+ghost use Rattle.farm_keep.specs.Headline.{IsAlwaysClean, Runs, answers_of};
 ghost use Rattle.farm_keep.specs.KeeperState.{KeeperState, KeepsOwnFarm};
 ghost use Rattle.farm_keep.specs.Lives.{Life, AreLived, GivesFarm, GivesRestarts, GivesRun};
 ghost use Rattle.farm_keep.specs.Lives.{OpensOn};
@@ -18,7 +18,6 @@ ghost use Rattle.farm_keep.specs.declared.keeper.run.RunEnd.{RunEnd as End};
 ghost use Rattle.farm_types.specs.Machine.{run};
 ghost use Rattle.farm_types.specs.declared.calls.Call.{Call};
 ghost use Rattle.farm_types.specs.declared.calls.Rows.{Rows};
-ghost use Rattle.farm_keep.specs.Runs.{answers_of};
 ghost use Rattle.farm_keep.specs.Restarts.{Restart, run_all, calls_of_restarts, AnswersAgain, ActsOnce};
 
 use crate::fault::KeepFault;

@@ -4,8 +4,8 @@
 //! has committed what it changed, so a keeper that is made again from the store finds every command
 //! that was answered.
 //!
-//! Read `specs/` in the order KeeperState, UnkeptState, Runs, Headline, Restarts, Lives; Found has
-//! what a look for a farm reports, First the farms of the first edition, Faults the faults' numbers.
+//! Read `specs/` in the order KeeperState, Headline, Restarts, Lives; Found has what a look for a farm
+//! reports, First the farms of the first edition, Faults the faults' numbers.
 #![tactic(auto)]
 
 mod fault;

@@ -17,7 +17,7 @@ ghost use Rattle.farm_keep.specs.Faults.{IsFindFault};
 ghost use Rattle.farm_keep.specs.First.{Migrates};
 ghost use Rattle.farm_keep.specs.Headline.{Adopts, GivesNoKeeper};
 ghost use Rattle.farm_keep.specs.KeeperState.{KeepsOwnFarm};
-ghost use Rattle.farm_keep.specs.Versions.{LooksForFarm};
+ghost use Rattle.farm_keep.specs.Found.{LooksForFarm};
 
 use crate::fault::KeepFault;
 use crate::keeper::Keeper;
@@ -37,7 +37,7 @@ pub struct Unkept<S: Alter> {
 }
 
 impl<S: Alter> Model for Unkept<S> {
-    ghost use Rattle.farm_keep.specs.UnkeptState.{UnkeptState, unkept_code};
+    ghost use Rattle.farm_keep.specs.KeeperState.{UnkeptState, unkept_code};
 
     ghost Value = { UnkeptState S };
 

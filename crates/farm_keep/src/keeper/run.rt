@@ -8,7 +8,7 @@ ghost use Rattle.farm_types.specs.Sound.{IsSound};
 ghost use Rattle.farm_keep.specs.Faults.{IsFindFault};
 ghost use Rattle.farm_store.specs.Holds.{ReadsOnly};
 ghost use Rattle.farm_keep.specs.Headline.{GivesNoKeeper, Resumes, Runs};
-ghost use Rattle.farm_keep.specs.Versions.{LooksForFarm};
+ghost use Rattle.farm_keep.specs.Found.{LooksForFarm};
 
 use crate::fault::KeepFault;
 use crate::keeper::{Keeper, Unkept};
@@ -52,9 +52,7 @@ impl<S: Alter> Keeper<S> {
         let end = keeper.run(calls);
         Ok((keeper, end))
     }
-}
 
-impl<S: Alter> Keeper<S> {
     /// One call after another, up to the first fault. Room for all answers is made first: where
     /// there is no memory for it, nothing is done and the keeper is closed. Any other fault of an
     /// open keeper comes at a call whose answer is a change's, and closes it; a closed keeper does

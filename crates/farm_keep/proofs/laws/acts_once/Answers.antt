@@ -1,5 +1,5 @@
 use Rattle.std.proofs.Common.{◌==◌, ◌∙◌, sym}
-use Rattle.farm_types.specs.Refuse.{kind_of, is_late}
+use Rattle.farm_types.specs.Names.{is_late, kind_of}
 use Rattle.farm_keep.proofs.KeptLemmas.{again_kept}
 use Rattle.farm_keep.proofs.RestartLemmas.{again_no_change}
 use Rattle.farm_keep.proofs.laws.acts_once.Goals as goal

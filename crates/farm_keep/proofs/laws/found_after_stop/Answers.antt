@@ -3,7 +3,7 @@ use Rattle.sqlite.specs.Held.{state}
 use Rattle.sqlite.specs.Tree.{Trees}
 use Rattle.farm_store.specs.Columns.{rows_of}
 use Rattle.farm_store.specs.Holds.{Holds}
-use Rattle.farm_types.specs.Machine.{run}
+use Rattle.farm_types.specs.Names.{run}
 use Rattle.farm_keep.proofs.LifeLemmas.{gives_farm, left_run}
 use Rattle.farm_keep.proofs.laws.found_after_stop.Goals as goal
 

@@ -4,7 +4,7 @@ use Rattle.sqlite.specs.Tree.{Trees}
 use Rattle.farm_store.specs.Columns.{rows_of}
 use Rattle.farm_store.specs.Holds.{Holds}
 use Rattle.farm_store.proofs.Listed.{opened_stands}
-use Rattle.farm_types.specs.Machine.{run}
+use Rattle.farm_types.specs.Names.{run}
 use Rattle.farm_keep.specs.Restarts.{calls_of_restarts}
 use Rattle.farm_keep.proofs.LifeLemmas.{StandsOpened, all_lives, gives_farm}
 use Rattle.farm_keep.proofs.laws.restarts_find_a_prefix.Goals as goal

@@ -1,5 +1,5 @@
 use Rattle.std.proofs.lemmas.List.Sums.{fold-append}
-use Rattle.farm_types.specs.Machine.{step}
+use Rattle.farm_types.specs.Names.{step}
 use Rattle.farm_keep.proofs.RestartLemmas.{answers_of-append}
 use Rattle.farm_keep.proofs.laws.runs_join.Goals as goal
 

@@ -1,7 +1,7 @@
 use Rattle.std.proofs.Common.{refl, subst}
 use Rattle.std.specs.Result.{result_err}
 use Rattle.sqlite.specs.Held.{state}
-use Rattle.farm_keep.specs.Versions.{LooksForFarm}
+use Rattle.farm_keep.specs.Found.{LooksForFarm}
 use Rattle.farm_keep.proofs.LifeLemmas.{denies}
 use Rattle.farm_keep.proofs.keeper.Keeper.adopt.Goals as goal
 
@@ -19,7 +19,7 @@ returns-in-Ok-clause-adopted g c = record {
 
 pub returns-in-Err-clause-denied : goal.returns-in-Err-clause-denied
 returns-in-Err-clause-denied g c = λ clean.
-    denies (state g.S.Store c.args.conn) c.in-Err.fault c.found.result c.in-Err.is (c.found.ensures.finds clean).bad (c.found.ensures.finds clean).old
+    denies (state g.S.Store c.args.conn) c.in-Err.fault c.found.result c.in-Err.is (c.found.ensures.finds clean)
 
 pub returns-in-Ok-clause-version : goal.returns-in-Ok-clause-version
 returns-in-Ok-clause-version g c = λ clean.

@@ -1,15 +1,15 @@
-use Rattle.std.proofs.Common.{refl, vec_len, Some, Err, inl, inr, rules, arith, false, ◌+◌, ◌≡◌, ◌<◌, ◌++◌, ◌∷◌, [], map, take, length, get_or, sym, ap, ◌∙◌, subst}
+use Rattle.std.proofs.Common.{refl, vec_len, Some, Err, inl, inr, rules, arith, false, ◌+◌, ◌≡◌, ◌<◌, ◌++◌, ◌∷◌, [], map, take, length, get_or, sym, ap, ◌∙◌}
+use Rattle.std.proofs.Common.{subst}
 use Rattle.std.proofs.lemmas.List.{map-append, nil_from_length, take_all}
 use Rattle.sqlite.specs.Held.{state}
 use Rattle.farm_sound.proofs.Step.{IsSound-run}
-use Rattle.farm_types.specs.Machine.{answer, step, run}
+use Rattle.farm_types.specs.Names.{answer, run, step}
 use Rattle.farm_core.specs.Answers.{answer_of, IsChange}
 use Rattle.farm_store.specs.Holds.{StandsFor}
 use Rattle.farm_keep.specs.declared.fault.KeepFault.{KeepFault}
 use Rattle.std.specs.Result.{result_err}
-use Rattle.farm_keep.specs.Headline.{EndsClosed, Runs}
+use Rattle.farm_keep.specs.Headline.{EndsClosed, Runs, IsNextChange}
 use Rattle.farm_keep.specs.KeeperState.{KeeperState, KeepsOwnFarm, KeepsFarm, KeepsEither}
-use Rattle.farm_keep.specs.Runs.{IsNextChange}
 use Rattle.farm_keep.proofs.RunLemmas.{err_is, run_more, answers_more, next_change, step_more}
 use Rattle.farm_keep.proofs.keeper.Keeper.run_into.Goals as goal
 
