@@ -3,7 +3,7 @@ use Rattle.std.proofs.Common.{◌≡◌, ℕ, ◌+◌, ◌<◌, ◌≤◌, List,
 use Rattle.std.proofs.lemmas.List.{take-append-le, get_or-take}
 use Rattle.std.proofs.Math.Seq.{get_or-append_seam, take-append_seam}
 use Rattle.httparse.specs.Grammar.{RequestHead, ReadsRequest, print_request}
-use Rattle.farm_types.specs.Limits.{longest_head, most_fields}
+use Rattle.farm_types.specs.Names.{longest_head, most_fields}
 use Rattle.farm_http.specs.Heads.{IsOpenBelow, HasNoHead}
 use Rattle.farm_http.proofs.HeadLemmas.{head_ends_line}
 

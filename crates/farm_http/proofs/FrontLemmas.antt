@@ -2,8 +2,7 @@
 use Rattle.std.proofs.Common.{◌≡◌, ℕ, ◌+◌, ◌-◌, ◌<◌, ◌≤◌, List, ◌++◌, length, take, drop, refl, sym, ap, subst, ◌∙◌, append_assoc, arith, inl, inr}
 use Rattle.std.proofs.lemmas.List.{length-take-le, get_or-take, take-append-drop}
 use Rattle.std.proofs.Math.Seq.{take-take}
-use Rattle.farm_types.specs.Limits.{longest_head}
-use Rattle.farm_types.specs.Refusals.{too_large}
+use Rattle.farm_types.specs.Names.{longest_head, too_large}
 use Rattle.farm_http.specs.Heads.{IsHead, IsOpen, IsOpenBelow}
 use Rattle.farm_http.specs.Fronts.{BeginsRequest, AreRefused}
 

@@ -1,13 +1,14 @@
 -- Heads end in a line feed, so the first prefix that is one ends with its last line.
-use Rattle.std.proofs.Common.{◌≡◌, ℕ, Bool, true, false, ltb, ltb-true, ltb-false, ◌+◌, ◌-◌, ◌<◌, ◌≤◌, min, List, [], ◌∷◌, ◌++◌, length, get_or, take, drop, refl, sym, ap, subst, ◌∙◌, append_assoc, append-nil, arith, suc, length-append, below_more, inl}
+use Rattle.std.proofs.Common.{◌≡◌, ℕ, Bool, true, false, ltb, ltb-true, ltb-false, ◌+◌, ◌-◌, ◌<◌, ◌≤◌, min, List, [], ◌∷◌, ◌++◌, length, get_or, take, drop}
+use Rattle.std.proofs.Common.{refl, sym, ap, subst, ◌∙◌, append_assoc, append-nil, arith, suc, length-append, below_more, inl}
 use Rattle.std.proofs.lemmas.List.{take-append-le, take_more, length-take, length-map, get_or-take}
 use Rattle.std.proofs.Math.ListN.{get_or-append}
-use Rattle.std.proofs.Math.Seq.{get_or-append_seam, get_or-append_right, take-append_seam}
+use Rattle.std.proofs.Math.Seq.{get_or-append_seam, get_or-append_right, take-append_seam, take-length}
 use Rattle.httparse.specs.Grammar.{RequestHead, ReadsRequest, LineEnd, crlf, lf, print_end, print_request}
 use Rattle.httparse.specs.Spans.{IsRequestOf, header_bytes, name_and_value}
 use Rattle.httparse.specs.declared.spans.HeaderSpan.{HeaderSpan}
 use Rattle.httparse.specs.declared.spans.RequestSpans.{RequestSpans}
-use Rattle.farm_types.specs.Limits.{longest_head, most_fields}
+use Rattle.farm_types.specs.Names.{longest_head, most_fields}
 use Rattle.farm_http.specs.Heads.{IsHead, IsOpen, IsOpenBelow}
 use Rattle.farm_http.specs.Faults.{BodyFails, HeadFails}
 use Rattle.farm_http.specs.declared.fault.WireFault.{WireFault}
@@ -16,7 +17,6 @@ use Rattle.std.specs.Prelude.{Option}
 use Rattle.std.specs.Io.{StopsAt}
 use Rattle.std.specs.Io.KnownBytes.{Consumes}
 use Rattle.std.proofs.KnownBytes.{Consumes-trans}
-use Rattle.std.proofs.Math.Seq.{take-length}
 
 -- the bytes end in a line feed
 abbrev pub EndsLine : List ℕ → Type 0

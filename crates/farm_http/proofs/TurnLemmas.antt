@@ -1,7 +1,7 @@
 -- Turns that are taken one after another.
 use Rattle.std.proofs.Common.{◌≡◌, ℕ, ◌+◌, ◌-◌, ◌<◌, refl, sym, subst, arith, suc, zero, inl, inr}
 use Rattle.std.specs.Prelude.{Option}
-use Rattle.farm_http.specs.Turns.{Turns, TakesTurn, FailsAtTurn, TakesTurns, FailsWithin, IsSpent, IsSpentBy, LeavesTurns, TakesAtMost}
+use Rattle.farm_http.specs.Turns.{Turns, TakesTurn, FailsAtTurn, TakesTurns, IsSpent, IsSpentBy, LeavesTurns, TakesAtMost}
 use Rattle.farm_http.specs.declared.fault.WireFault.{WireFault}
 use Rattle.farm_http.specs.declared.fault.WireFault.TheVariants.{NoMemory, Read, Write, Refused}
 
@@ -41,12 +41,6 @@ leaves_next had left a b c some these next = (these.0 + 1, omega (arith, some, t
 pub fails_next : (had left : ℕ) (a b c : Option Turns) → 0 < left → LeavesTurns had left a b → FailsAtTurn b c → IsSpent had a c
 fails_next had left a b c some these fails = inl (these.0, omega (arith, some, these.1), (b, these.2, fails))
 
--- none is left
-pub leaves_none : (had left : ℕ) (a b : Option Turns) → left ≡ 0 → LeavesTurns had left a b → IsSpent had a b
-leaves_none had left a b none these =
-    let all : these.0 ≡ had = omega (arith, none, these.1) in
-    inr (subst (λ k. TakesTurns k a b) all these.2)
-
 -- of those that are left some are taken
 pub leaves_both : (had mid left : ℕ) (a b c : Option Turns) → LeavesTurns had mid a b → LeavesTurns mid left b c → LeavesTurns had left a c
 leaves_both had mid left a b c first more =
@@ -71,6 +65,3 @@ spends_behind had mid left a b c (Refused refusal) first more = leaves_both had 
 
 pub takes_at_most_next : (most more : ℕ) (a b c : Option Turns) → most < more → TakesAtMost most a b → TakesTurn b c → TakesAtMost more a c
 takes_at_most_next most more a b c less these next = (these.0 + 1, omega (arith, less, these.1), takes_next these.0 a b c these.2 next)
-
-pub fails_within : (most more : ℕ) (a b c : Option Turns) → most < more → TakesAtMost most a b → FailsAtTurn b c → FailsWithin more a c
-fails_within most more a b c less these fails = (these.0, omega (arith, less, these.1), (b, these.2, fails))

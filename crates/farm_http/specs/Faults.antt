@@ -1,7 +1,7 @@
 -- What a fault says of the bytes that were taken.
 use Rattle.std.specs.Prelude.{◌≡◌, ℕ, ◌<◌, Option, Some, List, [], length, take, Result, Ok, Err, ⊤}
 use Rattle.std.specs.Io.KnownBytes.{Appends, Consumes, IsAtEnd}
-use Rattle.farm_types.specs.Refusals.{bad_request}
+use Rattle.farm_types.specs.Names.{bad_request}
 use Rattle.farm_http.specs.declared.fault.WireFault.{WireFault}
 use Rattle.farm_http.specs.declared.fault.WireFault.TheVariants.{NoMemory, Read, Write, Refused}
 use Rattle.farm_http.specs.declared.taken.Taken.{Taken}
@@ -10,10 +10,9 @@ use Rattle.farm_http.specs.Requests.{IsRefused, IsRequest}
 
 -- reading a head fails after these bytes
 abbrev pub HeadFails : List ℕ → Type 0 → WireFault → Type 0
-HeadFails used AtEnd NoMemory = ⊥
 HeadFails used AtEnd Read = ⊤
-HeadFails used AtEnd Write = ⊥
 HeadFails used AtEnd (Refused refusal) = HasNoHead used AtEnd refusal.code
+HeadFails used AtEnd fault = ⊥
 
 -- the input ends before n bytes
 pub record IsCut (n : ℕ) (used : List ℕ) (AtEnd : Type 0) (code : ℕ) : Type 0 where
@@ -23,10 +22,9 @@ pub record IsCut (n : ℕ) (used : List ℕ) (AtEnd : Type 0) (code : ℕ) : Typ
 
 -- reading a body of n bytes fails after these bytes
 abbrev pub BodyFails : ℕ → List ℕ → Type 0 → WireFault → Type 0
-BodyFails n used AtEnd NoMemory = ⊥
 BodyFails n used AtEnd Read = ⊤
-BodyFails n used AtEnd Write = ⊥
 BodyFails n used AtEnd (Refused refusal) = IsCut n used AtEnd refusal.code
+BodyFails n used AtEnd fault = ⊥
 
 -- reading a request fails after these bytes: for want of memory before the first
 abbrev pub Fails : List ℕ → Type 0 → WireFault → Type 0
@@ -58,5 +56,4 @@ abbrev pub IsTaken : List ℕ → ℕ → Result Taken WireFault → Type 0
 IsTaken request head (Ok taken) = (taken.bytes.items ≡ request) × (taken.head ≡ head)
 IsTaken request head (Err NoMemory) = ⊤
 IsTaken request head (Err Read) = ⊤
-IsTaken request head (Err Write) = ⊥
-IsTaken request head (Err (Refused refusal)) = ⊥
+IsTaken request head (Err fault) = ⊥

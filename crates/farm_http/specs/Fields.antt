@@ -1,6 +1,5 @@
 -- The fields of a head: what stands under a name, and how long the body is.
-use Rattle.std.specs.Prelude.{ℕ, List, [], ◌∷◌, map, filter, ◌&&◌, nat_lt, nat_le, length}
-use Rattle.std.specs.Prelude.{if◌then◌else◌, Option, Some, None, Result, Ok, Err, codes}
+use Rattle.std.specs.Prelude.{ℕ, List, [], ◌∷◌, map, filter, ◌&&◌, nat_lt, nat_le, length, if◌then◌else◌, Option, Some, None, Result, Ok, Err, codes}
 use Rattle.std.specs.Borrow.{Bor}
 use Rattle.std.specs.List.{list_all}
 use Rattle.std.specs.Char.{is_ascii_digit}
@@ -8,9 +7,7 @@ use Rattle.std.specs.Str.{str_eq_ignore_ascii_case}
 use Rattle.std.specs.Str.Parse.{digits_value}
 use Rattle.httparse.specs.Grammar.{RequestHead}
 use Rattle.httparse.specs.Spans.{name_and_value}
-use Rattle.farm_types.specs.Limits.{longest_body}
-use Rattle.farm_types.specs.declared.refusal.Refusal.{Refusal}
-use Rattle.farm_types.specs.Refusals.{bad_request, too_large, bad_coding}
+use Rattle.farm_types.specs.Names.{bad_coding, bad_request, longest_body, too_large}
 use Rattle.farm_http.specs.declared.fields.Repeated.{Repeated}
 
 -- each field's name, and its value without the spaces and tabs at both ends
@@ -59,8 +56,7 @@ content_length several = Err bad_request
 -- a request with `transfer-encoding` is refused, whatever its value
 abbrev pub unless_coded : Lookup → Result ℕ ℕ → Result ℕ ℕ
 unless_coded absent found = found
-unless_coded (one value) found = Err bad_coding
-unless_coded several found = Err bad_coding
+unless_coded coded found = Err bad_coding
 
 -- how long the body is by these fields, or the number of the refusal
 abbrev pub length_among : List (List ℕ × List ℕ) → Result ℕ ℕ
@@ -71,8 +67,3 @@ length_among fields =
 -- how long the body is that follows a head
 abbrev pub body_length : RequestHead → Result ℕ ℕ
 body_length h = length_among (fields_of h)
-
--- a result with its refusal by number
-abbrev pub refusal_by_number : {A : Type 0} → Result A Refusal → Result A ℕ
-refusal_by_number (Ok a) = Ok a
-refusal_by_number (Err refusal) = Err refusal.code

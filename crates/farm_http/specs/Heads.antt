@@ -1,13 +1,11 @@
 -- The head of a request: the first prefix that is one, or why there is none.
-use Rattle.std.specs.Prelude.{◌≡◌, ℕ, ◌+◌, ◌-◌, ◌<◌, ◌≤◌, ◌⊎◌, Bool, true, false, List, [], ◌∷◌}
-use Rattle.std.specs.Prelude.{◌++◌, length, take, slice_index}
+use Rattle.std.specs.Prelude.{◌≡◌, ℕ, ◌+◌, ◌-◌, ◌<◌, ◌≤◌, ◌⊎◌, Bool, true, false, List, [], ◌∷◌, ◌++◌, length, take, slice_index}
 use Rattle.httparse.specs.Ascii.{line_feed}
 use Rattle.httparse.specs.Grammar.{RequestHead, ReadsRequest, HasNoRequest, MayBecomeRequest}
 use Rattle.httparse.specs.Spans.{IsRequestAt, IsRequestWithin, RequestOverflows}
 use Rattle.httparse.specs.declared.spans.HeaderSpan.{HeaderSpan}
 use Rattle.httparse.specs.declared.spans.RequestSpans.{RequestSpans}
-use Rattle.farm_types.specs.Limits.{longest_head, most_fields}
-use Rattle.farm_types.specs.Refusals.{bad_request, too_large}
+use Rattle.farm_types.specs.Names.{bad_request, longest_head, most_fields, too_large}
 
 -- the bytes are a head with no more fields and bytes than a head may have
 pub record IsHead (bytes : List ℕ) (h : RequestHead) : Type 0 where

@@ -1,7 +1,7 @@
 -- What is taken of an input: a request, or bytes with the first refusal.
 use Rattle.std.specs.Prelude.{◌≡◌, ℕ, ◌<◌, ◌⊎◌, List, ◌++◌, length, drop, Ok, Err}
 use Rattle.httparse.specs.Grammar.{RequestHead, print_request}
-use Rattle.farm_types.specs.Refusals.{bad_request}
+use Rattle.farm_types.specs.Names.{bad_request}
 use Rattle.farm_http.specs.Fields.{body_length}
 use Rattle.farm_http.specs.Heads.{IsHead, HasNoHead}
 use Rattle.farm_http.specs.Request.{Request, request_of}

@@ -3,8 +3,8 @@ ghost use Rattle.std.specs.Prelude.{◌≡◌, ◌≤◌, length, map, All, IfOk
 ghost use Rattle.std.specs.Str.{str_eq_ignore_ascii_case};
 ghost use Rattle.httparse.specs.Spans.{IsHeaderWithin, header_bytes};
 ghost use Rattle.farm_types.specs.Limits.{longest_body};
+ghost use Rattle.farm_types.specs.Reads.{by_code};
 ghost use Rattle.farm_http.specs.Fields.{called_lookup, field_of, declared_length, length_among};
-ghost use Rattle.farm_http.specs.Fields.{refusal_by_number};
 
 use crate::digits::{is_digits, number_within};
 use farm_types::{BAD_CODING, BAD_REQUEST, LONGEST_BODY, Refusal, TOO_LARGE};
@@ -48,22 +48,20 @@ fn is_named(buf: &[u8], header: &HeaderSpan, name: &[u8]) -> bool
 /// any transfer coding, and a `content-length` that stands twice, is no number or is above that.
 pub(crate) fn declared_among(head: &[u8], headers: &[HeaderSpan]) -> Result<usize, Refusal>
     requires { All (IsHeaderWithin (length head.now)) headers.now }
-    ensures length { refusal_by_number result ≡ length_among (map (header_bytes head.now) headers.now) }
+    ensures length { by_code result ≡ length_among (map (header_bytes head.now) headers.now) }
     ensures small { IfOk result (λ n. n ≤ longest_body) }
 {
     let Ok(None) = find(head, headers, b"transfer-encoding") else {
         return Err(Refusal { code: BAD_CODING });
     };
-    match find(head, headers, b"content-length") {
-        Ok(None) => Ok(0),
-        Ok(Some(value)) => declared(value),
-        Err(Repeated) => Err(Refusal { code: BAD_REQUEST }),
-    }
+    let length = find(head, headers, b"content-length");
+    let value = length.map_err(|_| Refusal { code: BAD_REQUEST })?;
+    value.map_or(Ok(0), declared)
 }
 
 /// The number that a `content-length` declares: decimal digits alone, leading zeros too.
 fn declared(value: &[u8]) -> Result<usize, Refusal>
-    ensures number { refusal_by_number result ≡ declared_length value.now }
+    ensures number { by_code result ≡ declared_length value.now }
     ensures small { IfOk result (λ n. n ≤ longest_body) }
 {
     if value.is_empty() || !is_digits(value) {

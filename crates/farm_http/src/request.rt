@@ -6,7 +6,8 @@ ghost use Rattle.std.specs.Io.KnownBytes.{Consumes, IsAtEnd, Keeps};
 ghost use Rattle.httparse.specs.Ascii.{line_feed};
 ghost use Rattle.httparse.specs.Grammar.{RequestHead};
 ghost use Rattle.farm_types.specs.Limits.{longest_body, longest_head, most_fields, most_reads};
-ghost use Rattle.farm_http.specs.Fields.{body_length, refusal_by_number};
+ghost use Rattle.farm_types.specs.Reads.{by_code};
+ghost use Rattle.farm_http.specs.Fields.{body_length};
 ghost use Rattle.farm_http.specs.Faults.{HeadFails, BodyFails, FailsAfter, TakesFrom};
 ghost use Rattle.farm_http.specs.Heads.{IsHead, IsHopeless, IsOpenBelow, FindsHead, AreSpansOf};
 ghost use Rattle.farm_http.specs.Requests.{IsRequest};
@@ -169,8 +170,7 @@ fn spans_of(bytes: &[u8], headers: &mut [HeaderSpan]) -> Result<Option<RequestSp
     ensures spans { IfOk result (λ found. IfSome found (AreSpansOf bytes.now headers.new)) }
     ensures refused { IfErr result (λ refusal. IsHopeless bytes.now refusal.code) }
 {
-    let last = bytes[bytes.len() - 1];
-    if last != b'\n' {
+    if bytes[bytes.len() - 1] != b'\n' {
         return Ok(None);
     }
     match parse_request(bytes, headers) {
@@ -187,7 +187,7 @@ pub(crate) fn length_after(
     spans: RequestSpans,
 ) -> Result<usize, Refusal>
     requires { AreSpansOf head.now headers.now spans }
-    ensures length { (h : RequestHead) → IsHead head.now h → refusal_by_number result ≡ body_length h }
+    ensures length { (h : RequestHead) → IsHead head.now h → by_code result ≡ body_length h }
     ensures small { IfOk result (λ n. n ≤ longest_body) }
 {
     declared_among(head, &headers[..spans.headers])

@@ -4,9 +4,9 @@ use Rattle.std.specs.Prelude.{Result, Option, Some, None, codes, IfOk}
 use Rattle.std.specs.List.{All, AllByRecursion}
 use Rattle.std.proofs.lemmas.List.Elements.{All-cons}
 use Rattle.toml.specs.Data.{Data, Members, no_members, member, get, as_table}
+use Rattle.farm_types.specs.Names.{OrNoMemory, ◌>>=◌}
 use Rattle.farm_types.specs.declared.calls.Call.{Call}
 use Rattle.farm_types.specs.declared.calls.Cmd.{Cmd}
-use Rattle.farm_types.specs.Reads.{◌>>=◌, OrNoMemory}
 use Rattle.farm_jobfile.specs.Reading.{Fault, text_fault, kind_or}
 use Rattle.farm_jobfile.specs.Fields.{name_or, name_in, tags_in}
 use Rattle.farm_jobfile.specs.Lab.{LabCall, entry_of, given_entry, check_in, own_tags, type_in, board_in, entries_of, section, calls_in, IsAddition}
@@ -55,13 +55,19 @@ board_adds now name d e h =
 all_as : (r : Read (List LabCall)) (es fs : List LabCall) → r ≡ Ok es → r ≡ Ok fs → AllAdd es → AllAdd fs
 all_as r es fs h k a = subst AllAdd (value_of r es fs h k) a
 
+both_add : (es fs : List LabCall) → AllAdd es → AllAdd fs → AllAdd (es ++ fs)
+both_add [] fs h k = k
+both_add (e ∷ es) fs h k = (h.0, both_add es fs h.1 k)
+
 each_adds : (read : List ℕ → Data → Read LabCall) → ((name : List ℕ) (d : Data) (e : LabCall) → read name d ≡ Ok e → Adds e)
     → (ms : Members) (es : List LabCall) → entries_of read ms ≡ Ok es → AllAdd es
 each_adds read one no_members es h = all_as (Ok []) [] es refl h tt
 each_adds read one (member name d rest) es h =
-    let (e, here, h1) = first_ok (read name d) _ es h in
-    let (more, there, h2) = first_ok (entries_of read rest) _ es h1 in
-    all_as (Ok (e ∷ more)) (e ∷ more) es refl h2 (one name d e here, each_adds read one rest more there)
+    let (here, first, h1) = first_ok (read name d >>= λ e. Ok (e ∷ [])) _ es h in
+    let (e, is, h2) = first_ok (read name d) _ here first in
+    let (more, there, h3) = first_ok (entries_of read rest) _ es h1 in
+    all_as (Ok (here ++ more)) (here ++ more) es refl h3
+    (both_add here more (all_as (Ok (e ∷ [])) (e ∷ []) here refl h2 (one name d e is, tt)) (each_adds read one rest more there))
 
 section_adds : (read : List ℕ → Data → Read LabCall) → ((name : List ℕ) (d : Data) (e : LabCall) → read name d ≡ Ok e → Adds e)
     → (field : Option Data) (es : List LabCall) → section read field ≡ Ok es → AllAdd es
@@ -69,10 +75,6 @@ section_adds read one None es h = all_as (Ok []) [] es refl h tt
 section_adds read one (Some d) es h =
     let (ms, _, h1) = first_ok (kind_or LabFile (as_table d)) _ es h in
     each_adds read one ms es h1
-
-both_add : (es fs : List LabCall) → AllAdd es → AllAdd fs → AllAdd (es ++ fs)
-both_add [] fs h k = k
-both_add (e ∷ es) fs h k = (h.0, both_add es fs h.1 k)
 
 entries_add : (now : ℕ) (d : Data) (es : List LabCall) → calls_in now d ≡ Ok es → AllAdd es
 unfolding calls_in

@@ -1,4 +1,4 @@
 pub mod DocumentLemmas
 pub mod CallLemmas
 pub mod LabLemmas
-pub mod RoleLemmas
+pub mod TurnLemmas

@@ -1,12 +1,8 @@
 -- The words of a file: each value has its kind, and then its word.
-use Rattle.std.specs.Prelude.{ℕ, ℤ, pos, negsuc, List, [], ◌∷◌, Option, Some, None, Result, Ok}
-use Rattle.std.specs.Prelude.{codes}
-use Rattle.toml.specs.Data.{Data, Items, no_items, item, get, as_str, as_array, as_integer}
-use Rattle.farm_types.specs.Limits.{longest_name}
-use Rattle.farm_types.specs.Words.{is_word, word_or}
-use Rattle.farm_types.specs.Tags.{tags_among}
-use Rattle.farm_types.specs.Refusals.{bad_name}
-use Rattle.farm_types.specs.Reads.{◌>>=◌}
+use Rattle.std.specs.Prelude.{ℕ, ℤ, pos, negsuc, List, [], ◌∷◌, ◌++◌, Option, Some, None, Result, Ok, codes}
+use Rattle.std.specs.Option.{option_map_or}
+use Rattle.toml.specs.Data.{Data, Items, no_items, item, Members, no_members, member, get, as_str, as_array, as_integer}
+use Rattle.farm_types.specs.Names.{bad_name, is_word, longest_name, tags_among, word_or, ◌>>=◌}
 use Rattle.farm_jobfile.specs.Reading.{Fault, or_word, there_or, kind_or}
 use Rattle.farm_jobfile.specs.declared.fault.FileKind.{FileKind}
 
@@ -44,6 +40,11 @@ texts_in file no_items = Ok []
 texts_in file (item d rest) = kind_or file (as_str d) >>= λ text. texts_in file rest >>= λ texts.
     Ok (text ∷ texts)
 
+-- what the members of a table spell, joined in the order of the tree, which is the byte order of their names
+abbrev pub all_in : {A : Type 0} → (List ℕ → Data → Result (List A) Fault) → Members → Result (List A) Fault
+all_in read no_members = Ok []
+all_in read (member name d rest) = read name d >>= λ here. all_in read rest >>= λ more. Ok (here ++ more)
+
 -- the tags that a value spells: its kinds are looked at first, then the count, then each tag
 unfoldable pub tags_from : FileKind → Data → Result (List (List ℕ)) Fault
 tags_from file d = do
@@ -51,11 +52,6 @@ tags_from file d = do
   texts ← texts_in file items
   or_word (tags_among texts)
 
--- absent tags are none
-abbrev pub tags_or_none : FileKind → Option Data → Result (List (List ℕ)) Fault
-tags_or_none file None = Ok []
-tags_or_none file (Some d) = tags_from file d
-
--- the tags under the key `tags`
+-- the tags under the key `tags`; absent means none
 unfoldable pub tags_in : FileKind → Data → Result (List (List ℕ)) Fault
-tags_in file d = tags_or_none file (get (codes "tags") d)
+tags_in file d = option_map_or (tags_from file) (get (codes "tags") d) (Ok [])

@@ -1,20 +1,15 @@
 -- The command that a job file spells.
-use Rattle.std.specs.Prelude.{ℕ, ℤ, List, [], ◌∷◌, ◌++◌, ◌&&◌, Bool, true, map, replicate, nat_le}
-use Rattle.std.specs.Prelude.{Option, Some, None, is_some, Result, Ok, Err, codes, if◌then◌else◌}
-use Rattle.toml.specs.Data.{Data, Members, no_members, member, get, as_str, as_integer, as_float}
-use Rattle.toml.specs.Data.{as_table}
+use Rattle.std.specs.Prelude.{ℕ, ℤ, List, [], ◌∷◌, ◌&&◌, Bool, true, map, replicate, nat_le, Option, Some, None, is_some, ok_or, Result, Ok, Err, codes}
+use Rattle.std.specs.Prelude.{if◌then◌else◌}
+use Rattle.toml.specs.Data.{Data, get, as_str, as_integer, as_float, as_table}
 use Rattle.std.specs.Option.{option_map_or}
-use Rattle.farm_types.specs.Words.{is_word}
-use Rattle.farm_types.specs.Limits.{are_few_wants, is_priority, longest_job_file, longest_name, most_wants}
-use Rattle.farm_types.specs.Called.{medium_priority, priority_called}
-use Rattle.farm_types.specs.Proper.{is_want}
-use Rattle.farm_types.specs.declared.rows.Want.{Want}
+use Rattle.farm_types.specs.Names.{are_few_wants, bad_count, bad_priority, is_priority, is_want, is_word, longest_job_file, longest_name, medium_priority}
+use Rattle.farm_types.specs.Names.{most_wants, priority_called, ◌>>=◌}
 use Rattle.farm_types.specs.declared.calls.Cmd.{Cmd}
-use Rattle.farm_types.specs.Refusals.{bad_count, bad_priority}
-use Rattle.farm_types.specs.Reads.{◌>>=◌}
+use Rattle.farm_types.specs.declared.rows.Want.{Want}
 use Rattle.farm_jobfile.specs.Reading.{Fault, bad, word, there_or, kind_or}
 use Rattle.farm_jobfile.specs.Document.{text_in, tree_in}
-use Rattle.farm_jobfile.specs.Fields.{natural_of, natural_in, name_or, name_from, name_in, tags_in}
+use Rattle.farm_jobfile.specs.Fields.{natural_of, natural_in, name_or, name_from, name_in, all_in, tags_in}
 use Rattle.farm_jobfile.specs.declared.fault.FileKind.TheVariants.{JobFile}
 use Rattle.farm_jobfile.specs.declared.fault.Reason.{Reason}
 use Rattle.farm_jobfile.specs.declared.group.Member.{Member}
@@ -35,34 +30,20 @@ title_in d = do
 
 -- ---- the priority
 
--- a whole number that is a priority
-abbrev pub priority_or : Option ℕ → Result ℕ Fault
-priority_or None = Err (word bad_priority)
-priority_or (Some n) = if is_priority n then Ok n else Err (word bad_priority)
-
--- what a word names
-abbrev pub named_or : Option ℕ → Result ℕ Fault
-named_or None = Err (word bad_priority)
-named_or (Some n) = Ok n
-
--- a text, a whole number, another number, or another kind
+-- what a text names, or a whole number that is a priority; another number is none, and another kind is no priority at all
 abbrev pub priority_by : Option (List ℕ) → Option ℤ → Bool → Result ℕ Fault
-priority_by (Some text) number is_float = named_or (priority_called text)
-priority_by None (Some number) is_float = priority_or (natural_of number)
+priority_by (Some text) number is_float = ok_or (priority_called text) (word bad_priority)
+priority_by None (Some number) is_float =
+    ok_or (natural_of number) (word bad_priority) >>= λ n. if is_priority n then Ok n else Err (word bad_priority)
 priority_by None None is_float = if is_float then Err (word bad_priority)
     else Err (bad JobFile Reason.WrongKind)
 
 unfoldable pub priority_from : Data → Result ℕ Fault
 priority_from d = priority_by (as_str d) (as_integer d) (is_some (as_float d))
 
--- absent means medium
-abbrev pub priority_at : Option Data → Result ℕ Fault
-priority_at None = Ok medium_priority
-priority_at (Some d) = priority_from d
-
--- the priority under the key `priority`
+-- the priority under the key `priority`; absent means medium
 unfoldable pub priority_in : Data → Result ℕ Fault
-priority_in d = priority_at (get (codes "priority") d)
+priority_in d = option_map_or priority_from (get (codes "priority") d) (Ok medium_priority)
 
 -- ---- one board
 
@@ -75,14 +56,12 @@ single_in kind d = do
 
 -- ---- roles
 
--- as many as a submission may have
-abbrev pub count_or : Option ℕ → Result ℕ Fault
-count_or None = Err (word bad_count)
-count_or (Some n) = if nat_le 1 n && nat_le n most_wants then Ok n else Err (word bad_count)
-
--- the whole number under the key `count`
+-- the whole number under the key `count`, as many as a submission may have
 unfoldable pub count_in : Data → Result ℕ Fault
-count_in d = natural_in JobFile (codes "count") d >>= count_or
+count_in d = do
+  count ← natural_in JobFile (codes "count") d
+  n ← ok_or count (word bad_count)
+  if nat_le 1 n && nat_le n most_wants then Ok n else Err (word bad_count)
 
 -- so many members with that role
 unfoldable pub playing_in : Option (List ℕ) → Data → Result (List Member) Fault
@@ -99,24 +78,13 @@ role_in name d = do
   table ← kind_or JobFile (as_table d)
   playing_in (Some role) d
 
--- the members of all roles, in the order of the tree, which is the byte order of the roles' names
-abbrev pub roles_in : Members → Result (List Member) Fault
-roles_in no_members = Ok []
-roles_in (member name d rest) = role_in name d >>= λ here. roles_in rest >>= λ more.
-    Ok (here ++ more)
-
-unfoldable pub roles_from : Data → Result (List Member) Fault
-roles_from d = do
-  roles ← kind_or JobFile (as_table d)
-  roles_in roles
-
 -- ---- the job
 
 -- exactly one of `device_type` and `roles`; tags stand in each role, and not beside them
 abbrev pub members_by : Data → Option Data → Option Data → Option Data → Result (List Member) Fault
 members_by d (Some kind) (Some roles) tags = Err (bad JobFile Reason.Both)
 members_by d None (Some roles) (Some tags) = Err (bad JobFile Reason.Both)
-members_by d None (Some roles) None = roles_from roles
+members_by d None (Some roles) None = kind_or JobFile (as_table roles) >>= all_in role_in
 members_by d (Some kind) None tags = single_in kind d
 members_by d None None tags = Err (bad JobFile Reason.Missing)
 

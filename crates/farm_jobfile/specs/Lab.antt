@@ -1,19 +1,15 @@
 -- The calls that a lab file spells.
-use Rattle.std.specs.Prelude.{ℕ, List, [], ◌∷◌, ◌++◌, Option, Some, None, option_and_then, Result}
-use Rattle.std.specs.Prelude.{Ok, Err, codes, if◌then◌else◌}
-use Rattle.toml.specs.Data.{Data, Members, no_members, member, get, as_str, as_table}
-use Rattle.farm_types.specs.Proper.{has_no_name_tag}
-use Rattle.farm_types.specs.Limits.{is_every, longest_lab_file}
-use Rattle.farm_types.specs.Called.{unit_called, check_by}
+use Rattle.std.specs.Prelude.{ℕ, List, [], ◌∷◌, ◌++◌, Option, Some, None, option_and_then, Result, Ok, Err, codes, if◌then◌else◌}
+use Rattle.std.specs.Option.{option_map_or}
+use Rattle.toml.specs.Data.{Data, Members, get, as_str, as_table}
+use Rattle.farm_types.specs.Names.{bad_tag, check_by, has_no_name_tag, is_every, longest_lab_file, unit_called, ◌>>=◌}
 use Rattle.farm_types.specs.declared.called.CheckUnit.{CheckUnit}
-use Rattle.farm_types.specs.declared.rows.Check.{Check}
-use Rattle.farm_types.specs.declared.calls.Cmd.{Cmd}
 use Rattle.farm_types.specs.declared.calls.Call.{Call}
-use Rattle.farm_types.specs.Refusals.{bad_tag}
-use Rattle.farm_types.specs.Reads.{◌>>=◌}
+use Rattle.farm_types.specs.declared.calls.Cmd.{Cmd}
+use Rattle.farm_types.specs.declared.rows.Check.{Check}
 use Rattle.farm_jobfile.specs.Reading.{Fault, bad, word, kind_or}
 use Rattle.farm_jobfile.specs.Document.{text_in, tree_in}
-use Rattle.farm_jobfile.specs.Fields.{natural_in, name_or, name_in, tags_in}
+use Rattle.farm_jobfile.specs.Fields.{natural_in, name_or, name_in, all_in, tags_in}
 use Rattle.farm_jobfile.specs.declared.fault.FileKind.TheVariants.{LabFile}
 use Rattle.farm_jobfile.specs.declared.fault.Reason.{Reason}
 use Rattle.farm_jobfile.specs.declared.lab.Section.{Section}
@@ -40,23 +36,17 @@ given_entry prefix name now cmd = record {
 
 -- ---- types
 
--- a unit's word; absent means none
-abbrev pub unit_at : Option Data → Result CheckUnit Fault
-unit_at None = Ok CheckUnit.None
-unit_at (Some d) = kind_or LabFile (option_and_then unit_called (as_str d))
-
--- the unit under the key `check`
+-- the unit under the key `check`; absent means none
 unfoldable pub unit_in : Data → Result CheckUnit Fault
-unit_in d = unit_at (get (codes "check") d)
+unit_in d =
+    option_map_or (λ field. kind_or LabFile (option_and_then unit_called (as_str field))) (get (codes "check") d) (Ok CheckUnit.None)
 
--- 1 to 10,000
-abbrev pub every_or : Option ℕ → Result ℕ Fault
-every_or None = Err (bad LabFile Reason.WrongKind)
-every_or (Some n) = if is_every n then Ok n else Err (bad LabFile Reason.WrongKind)
-
--- the frequency under the key `every`
+-- the frequency under the key `every`, 1 to 10,000
 unfoldable pub every_in : Data → Result ℕ Fault
-every_in d = natural_in LabFile (codes "every") d >>= every_or
+every_in d = do
+  every ← natural_in LabFile (codes "every") d
+  n ← kind_or LabFile every
+  if is_every n then Ok n else Err (bad LabFile Reason.WrongKind)
 
 -- the check that the two keys spell
 unfoldable pub check_in : Data → Result Check Fault
@@ -93,17 +83,13 @@ abbrev pub entry_in : Section → ℕ → List ℕ → Data → Result LabCall F
 entry_in Section.Types = type_in
 entry_in Section.Boards = board_in
 
--- what each member of a table spells, in the order of the tree, which is the byte order of the
--- names
+-- what each member of a table spells
 abbrev pub entries_of : (List ℕ → Data → Result LabCall Fault) → Members → Result (List LabCall) Fault
-entries_of read no_members = Ok []
-entries_of read (member name d rest) = read name d >>= λ entry. entries_of read rest >>= λ entries.
-    Ok (entry ∷ entries)
+entries_of read = all_in (λ name d. read name d >>= λ entry. Ok (entry ∷ []))
 
 -- an absent table has no members
 abbrev pub section : (List ℕ → Data → Result LabCall Fault) → Option Data → Result (List LabCall) Fault
-section read None = Ok []
-section read (Some d) = kind_or LabFile (as_table d) >>= entries_of read
+section read field = option_map_or (λ d. kind_or LabFile (as_table d) >>= entries_of read) field (Ok [])
 
 -- the calls that a tree spells at a moment: each type is added, then each board
 unfoldable pub calls_in : ℕ → Data → Result (List LabCall) Fault

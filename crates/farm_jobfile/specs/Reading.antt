@@ -1,7 +1,7 @@
 -- What reading a file gives: a value, or the first fault.
-use Rattle.std.specs.Prelude.{ℕ, Option, Some, None, Result, Ok, Err}
+use Rattle.std.specs.Prelude.{ℕ, Option, Some, None, ok_or, Result, Ok, Err}
+use Rattle.farm_types.specs.Names.{bad_job_file, bad_lab_file, no_memory}
 use Rattle.farm_types.specs.declared.fault.WordFault.{WordFault}
-use Rattle.farm_types.specs.Refusals.{bad_job_file, bad_lab_file, no_memory}
 use Rattle.farm_jobfile.specs.declared.fault.FileKind.{FileKind}
 use Rattle.farm_jobfile.specs.declared.fault.Reason.{Reason}
 pub use Rattle.farm_jobfile.specs.declared.fault.Fault.{Fault}
@@ -46,13 +46,11 @@ or_word (Err code) = Err (word code)
 
 -- what must be there
 abbrev pub there_or : {A : Type 0} → FileKind → Option A → Result A Fault
-there_or file None = Err (bad file Reason.Missing)
-there_or file (Some x) = Ok x
+there_or file o = ok_or o (bad file Reason.Missing)
 
 -- what must be of its kind
 abbrev pub kind_or : {A : Type 0} → FileKind → Option A → Result A Fault
-kind_or file None = Err (bad file Reason.WrongKind)
-kind_or file (Some x) = Ok x
+kind_or file o = ok_or o (bad file Reason.WrongKind)
 
 -- a file's fault is one of the text, unless memory ran out
 abbrev pub text_fault : FileFault → Option Fault

@@ -3,8 +3,9 @@ ghost use Rattle.std.specs.Prelude.{◌≡◌, replicate, IfOk, IsTrue};
 ghost use Rattle.toml.specs.View.{view, table_view};
 ghost use Rattle.farm_types.specs.Reads.{OrNoMemory, viewed};
 ghost use Rattle.farm_types.specs.Proper.{is_proper_cmd};
-ghost use Rattle.farm_jobfile.specs.Job.{priority_from, priority_in, count_in, role_in, roles_in};
-ghost use Rattle.farm_jobfile.specs.Job.{playing_in, roles_from, title_in, single_in, members_in, job};
+ghost use Rattle.farm_jobfile.specs.Job.{priority_from, priority_in, count_in, role_in};
+ghost use Rattle.farm_jobfile.specs.Job.{playing_in, title_in, single_in, members_in, job};
+ghost use Rattle.farm_jobfile.specs.Fields.{all_in};
 ghost use Rattle.farm_jobfile.specs.Reading.{text_fault};
 
 use crate::fault::{Fault, FileFault, FileKind, FileResult, Reason};
@@ -92,7 +93,7 @@ fn role_of(alloc: Global, name: &str, value: &Value) -> FileResult<Vec<Member>>
 /// The members of all roles, which a table has in the byte order of their names.
 fn roles_of(alloc: Global, table: &Table) -> FileResult<Vec<Member>>
     ensures { OrNoMemory text_fault (λ members. members.items) result
-        (roles_in (table_view table.now)) }
+        (all_in role_in (table_view table.now)) }
 {
     let mut members = Vec::new(alloc);
     for (name, value) in table.iter() {
@@ -128,7 +129,7 @@ fn single_of(alloc: Global, kind: &Value, value: &Value) -> FileResult<Vec<Membe
 }
 
 /// The members of the job: exactly one of `device_type` and `roles` is there.
-#[tactic(auto, unfolding(crate::specs::Job::members_in, crate::specs::Job::roles_from))]
+#[tactic(auto, unfolding(crate::specs::Job::members_in))]
 fn members_of(alloc: Global, value: &Value) -> FileResult<Vec<Member>>
     ensures { OrNoMemory text_fault (λ members. members.items) result
         (members_in (view value.now)) }

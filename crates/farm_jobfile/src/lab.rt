@@ -1,18 +1,16 @@
 //! The calls that a lab file asks for.
-ghost use Rattle.std.specs.Prelude.{◌≡◌, ◌≤◌, length, true, IsTrue, IfOk, map, All, option_and_then};
+ghost use Rattle.std.specs.Prelude.{◌≡◌, ◌≤◌, length, true, IsTrue, IfOk, map, All};
 ghost use Rattle.std.specs.List.{list_all};
 ghost use Rattle.toml.specs.View.{view, table_view};
-ghost use Rattle.toml.specs.Data.{get, as_str};
+ghost use Rattle.toml.specs.Data.{get};
 ghost use Rattle.farm_types.specs.Limits.{longest_name, is_every};
 ghost use Rattle.farm_types.specs.Words.{is_word, is_name_byte};
 ghost use Rattle.farm_types.specs.Proper.{is_proper_cmd, is_frequency, has_no_name_tag};
-ghost use Rattle.farm_types.specs.Called.{unit_called};
 ghost use Rattle.farm_types.specs.Reads.{OrNoMemory};
 ghost use Rattle.farm_jobfile.specs.Lab.{given_entry, entry_of, unit_in, every_in, check_in};
 ghost use Rattle.farm_jobfile.specs.Lab.{type_in, own_tags, board_in, entry_in, entries_of};
 ghost use Rattle.farm_jobfile.specs.Lab.{section, calls_in, lab, IsAddition};
-ghost use Rattle.farm_jobfile.specs.Reading.{text_fault, kind_or};
-ghost use Rattle.farm_jobfile.specs.declared.fault.FileKind.TheVariants.{LabFile};
+ghost use Rattle.farm_jobfile.specs.Reading.{text_fault};
 
 use crate::fault::{Fault, FileFault, FileKind, FileResult, Reason};
 use crate::fields::{name_at, name_of, natural_at, table_of, tags_at, text_of, tree_of};
@@ -38,19 +36,15 @@ fn call_of(alloc: Global, prefix: &str, name: &str, now: u64, cmd: Cmd) -> Resul
 /// The fault of a value that is no check.
 const NO_CHECK: Fault = Fault::Bad(FileKind::LabFile, Reason::WrongKind);
 
-/// The unit that a value spells, a text.
-fn unit_from(field: &Value) -> Result<CheckUnit, Fault>
-    ensures { result ≡ kind_or LabFile (option_and_then unit_called (as_str (view field.now))) }
-{
-    field.as_str().and_then(CheckUnit::called).ok_or(NO_CHECK)
-}
-
 /// The unit under the key `check`; absent means none.
 #[tactic(auto, unfolding(crate::specs::Lab::unit_in))]
 fn unit_of(value: &Value) -> Result<CheckUnit, Fault>
     ensures { result ≡ unit_in (view value.now) }
 {
-    value.get("check").map_or(Ok(CheckUnit::None), unit_from)
+    let Some(field) = value.get("check") else {
+        return Ok(CheckUnit::None);
+    };
+    field.as_str().and_then(CheckUnit::called).ok_or(NO_CHECK)
 }
 
 /// The frequency under the key `every`.

@@ -4,8 +4,7 @@ use Rattle.std.specs.Prelude.{nat_le, IsTrue}
 use Rattle.std.specs.List.{list_all}
 use Rattle.std.proofs.lemmas.Bool.{and_parts}
 use Rattle.std.proofs.lemmas.Bool.Decides.{nat_tests}
-use Rattle.farm_types.specs.Words.{IsName, IsTag, is_name_byte}
-use Rattle.farm_types.specs.Limits.{longest_name}
+use Rattle.farm_types.specs.Names.{is_name_byte, IsName, IsTag, longest_name}
 use Rattle.farm_types.proofs.WordLemmas.{name_bytes}
 use Rattle.farm_types.proofs.TagLemmas.{tag_bytes}
 use Rattle.farm_wire.specs.Plain.{is_plain}

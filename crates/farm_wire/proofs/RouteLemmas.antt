@@ -1,13 +1,15 @@
 -- How a router's rows find a path with a parameter, last or in the middle.
-use Rattle.std.proofs.Common.{◌≡◌, ℕ, ◌-◌, List, [], ◌∷◌, ◌++◌, length, drop, Bool, true, false, cond, refl, sym, ap, ◌∙◌, arith, suc, zero, nat_eq, nat_lt, ◌&&◌}
+use Rattle.std.proofs.Common.{◌≡◌, ℕ, ◌-◌, List, [], ◌∷◌, ◌++◌, length, drop, Bool, true, false, cond, refl, sym, ap, ◌∙◌, arith, suc, zero, nat_eq, nat_lt}
+use Rattle.std.proofs.Common.{◌&&◌}
 use Rattle.std.specs.Prelude.{Some, None}
-use Rattle.std.specs.Cmp.Lexicographic.{bytes_decides}
+use Rattle.std.specs.Cmp.Lexicographic.{bytes_decides, pointwise}
 use Rattle.matchit.specs.Rows.{RowsOf}
 use Rattle.std.specs.List.{ends_with}
-use Rattle.std.specs.Cmp.Lexicographic.{pointwise}
 use Rattle.matchit.specs.Seek.{seek, step, own, or_else, param_step, segment, has_slash, cuts, longest_suffix, with_suffix}
 use Rattle.std.proofs.Math.Seq.{drop-append_seam}
+use Rattle.std.proofs.lemmas.Bool.{and_parts}
 use Rattle.std.proofs.lemmas.Bool.Decides.{nat_tests}
+use mathlib.Core.Bool.{true≢false}
 
 -- the rows that go on after a word
 abbrev pub steps : {K : Type 0} → List ℕ → RowsOf K → RowsOf K
@@ -45,19 +47,12 @@ slash_behind (suc k) (b ∷ p) e = cond_true (nat_eq b 47) (slash_behind k p e)
     cond_true true h = refl
     cond_true false h = h
 
-second : (a b : Bool) → (a && b) ≡ true → b ≡ true
-second true b e = e
-second false b e = cc
-
-true_false : true ≡ false → ⊥
-true_false e = cc
-
 pub no_cut : (p : List ℕ) → has_slash p ≡ false → cuts p (47 ∷ []) ≡ false
 no_cut p none = by (cuts p (47 ∷ [])) refl
   where
     by : (t : Bool) → cuts p (47 ∷ []) ≡ t → t ≡ false
     by false e = refl
-    by true e = absurd (true_false (sym (slash_behind (length p - 1) p (sym ((bytes_decides (47 ∷ []) (drop (length p - 1) p)).0 (second (nat_lt 1 (length p)) _ e)))) ∙ none))
+    by true e = absurd (true≢false (sym (slash_behind (length p - 1) p (sym ((bytes_decides (47 ∷ []) (drop (length p - 1) p)).0 (and_parts (nat_lt 1 (length p)) _ e).1))) ∙ none))
 
 less_one : (n : ℕ) → suc n - 1 ≡ n
 less_one n = omega arith

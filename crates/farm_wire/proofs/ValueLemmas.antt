@@ -5,9 +5,8 @@ use Rattle.serde_json.specs.Data.{Data, Items, no_items, item, Members, put}
 use Rattle.serde_json.specs.Read.{of_json, of_items, of_members}
 use Rattle.serde_json.specs.View.{view, items_view}
 use Rattle.serde_json.specs.declared.value.Value.{Value}
-use Rattle.farm_types.specs.Refusals.{bad_request}
+use Rattle.farm_types.specs.Names.{bad_request, FaultOrNoMemory, refused_code}
 use Rattle.farm_types.specs.declared.fault.WordFault.{WordFault}
-use Rattle.farm_types.specs.Reads.{FaultOrNoMemory, refused_code}
 use Rattle.farm_wire.specs.Fields.{there_or}
 
 -- what is there is what it was read as

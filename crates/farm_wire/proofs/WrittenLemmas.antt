@@ -1,11 +1,12 @@
 -- Texts between quotes, and members behind one another.
-use Rattle.std.proofs.Common.{◌≡◌, ℕ, ◌+◌, ◌<◌, Bool, true, false, List, [], ◌∷◌, ◌++◌, length, get_or, take, refl, sym, ap, drop, map, append_assoc, ◌∙◌, ◌&&◌, ◌==◌, nat_le, not}
+use Rattle.std.proofs.Common.{◌≡◌, ℕ, ◌+◌, ◌<◌, Bool, true, false, List, [], ◌∷◌, ◌++◌, length, get_or, take, refl, sym, ap, drop, map, append_assoc, ◌∙◌, ◌&&◌}
+use Rattle.std.proofs.Common.{◌==◌, nat_le, not}
 use Rattle.std.proofs.lemmas.List.{flat_map_more, take_more, drop_more}
 use Rattle.std.proofs.lemmas.Bool.{and_parts, eqb-false, not-true, leb-true}
 use Rattle.std.specs.List.{list_all}
 use Rattle.std.specs.Prelude.{IsTrue}
-use Rattle.std.proofs.lemmas.List.Folds.{list_all_at}
-use mathlib.Core.Bool.{true≢false}
+use Rattle.std.proofs.lemmas.List.Elements.{All-get_or}
+use Rattle.std.proofs.lemmas.List.Sums.{AllPass-from_list_all}
 use Rattle.json.specs.Print.{escape_byte, escape, quoted}
 use Rattle.json.proofs.Printed.Strings.{escape_byte_plain}
 use Rattle.farm_wire.specs.Plain.{is_plain}
@@ -37,19 +38,15 @@ quoted_both word number = ap (λ l. 34 ∷ l) (sym (append_assoc (escape word) (
 
 -- a comma, a member, and the members that are left
 pub members_next : (later : Bool) (ms : List (Bor (List ℕ) × JsonValue)) (i : ℕ) (m : Bor (List ℕ) × JsonValue) → i < length ms → m ≡ get_or ms i m
-    → comma_if later ++ ((quoted m.0.now ++ 58 ∷ compact_text (part_data m.1)) ++ members_text true (object_members (map member_of (drop (i + 1) ms))))
+    → comma_if later ++ (quoted m.0.now ++ 58 ∷ (compact_text (part_data m.1) ++ members_text true (object_members (map member_of (drop (i + 1) ms)))))
     ≡ members_text later (object_members (map member_of (drop i ms)))
 members_next later ms i m within is =
     let rest = drop (i + 1) ms in
     let next : drop i ms ≡ m ∷ rest = drop_more ms i m within ∙ ap (λ x. x ∷ rest) (sym is) in
-    ap (λ l. comma_if later ++ l) (append_assoc (quoted m.0.now) (58 ∷ compact_text (part_data m.1)) (members_text true (object_members (map member_of rest))))
-    ∙ ap (λ xs. members_text later (object_members (map member_of xs))) (sym next)
+    ap (λ xs. members_text later (object_members (map member_of xs))) (sym next)
 
 -- where all keys show as they are, each does
 pub plain_at : (ms : List (Bor (List ℕ) × JsonValue)) (i : ℕ) (m : Bor (List ℕ) × JsonValue) → i < length ms → m ≡ get_or ms i m → IsTrue (list_all has_plain_key ms)
     → IsTrue (has_plain_key m)
-plain_at ms i m within is all = by (has_plain_key m) refl
-  where
-    by : (b : Bool) → has_plain_key m ≡ b → has_plain_key m ≡ true
-    by true plain = plain
-    by false other = absurd (true≢false (sym all ∙ list_all_at has_plain_key ms i m within (ap has_plain_key (sym is) ∙ other)))
+plain_at ms i m within is all =
+    ap has_plain_key is ∙ All-get_or (λ x. has_plain_key x ≡ true) ms i m within (AllPass-from_list_all has_plain_key ms all)

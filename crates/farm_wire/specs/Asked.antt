@@ -1,14 +1,13 @@
 -- What a request asks: a call of the farm, or a view.
-use Rattle.std.specs.Prelude.{ℕ, List, Option, Some, None, Result, Ok, Err}
+use Rattle.std.specs.Prelude.{ℕ, List, Option, ok_or, Result, Ok}
+use Rattle.farm_types.specs.Names.{◌>>=◌}
 use Rattle.farm_types.specs.declared.calls.Cmd.{Cmd}
 use Rattle.farm_http.specs.Request.{Request}
-use Rattle.farm_types.specs.Reads.{◌>>=◌}
 use Rattle.farm_wire.specs.Reading.{Denial, other_methods, or_refused}
 use Rattle.farm_wire.specs.Routes.{path_in, route_in, allowed_at, endpoint_at}
 use Rattle.farm_wire.specs.Sender.{caller_in, key_in}
 use Rattle.farm_wire.specs.Parameters.{job_in}
 use Rattle.farm_wire.specs.Commands.{command_in}
-use Rattle.farm_wire.specs.declared.answers.Allowed.{Allowed}
 use Rattle.farm_wire.specs.declared.ask.Ask.{Ask}
 use Rattle.farm_wire.specs.declared.ask.View.{View}
 use Rattle.farm_wire.specs.declared.router.CommandKind.{CommandKind}
@@ -48,13 +47,9 @@ unfoldable pub asked_at : Endpoint → List ℕ → Request → ℕ → Result A
 asked_at (Endpoint.View kind) path request now = view_in kind path >>= λ shown. Ok (view shown)
 asked_at (Endpoint.Command kind) path request now = call_in kind path request now
 
-abbrev pub endpoint_or : Allowed → Option Endpoint → Result Endpoint Denial
-endpoint_or allowed None = Err (other_methods allowed)
-endpoint_or allowed (Some endpoint) = Ok endpoint
-
 -- what the method leads to, where the path has it
 unfoldable pub endpoint_in : Route → List ℕ → Result Endpoint Denial
-endpoint_in route method = endpoint_or (allowed_at route) (endpoint_at route method)
+endpoint_in route method = ok_or (endpoint_at route method) (other_methods (allowed_at route))
 
 -- what a request asks at a moment: its path is looked at first, then its method, then the rest
 unfoldable pub ask : Request → ℕ → Result Asked Denial

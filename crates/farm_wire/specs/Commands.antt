@@ -1,42 +1,31 @@
 -- The commands that paths and bodies spell.
-use Rattle.std.specs.Prelude.{ℕ, List, [], Option, Some, None, option_and_then, Result, Ok, Err}
-use Rattle.std.specs.Prelude.{codes, if◌then◌else◌}
+use Rattle.std.specs.Prelude.{ℕ, List, [], Option, Some, None, ok_or, option_and_then, Result, Ok, Err, codes, if◌then◌else◌}
+use Rattle.std.specs.Option.{option_map_or}
 use Rattle.serde_json.specs.Data.{Num, Data}
 use Rattle.serde_json.specs.Find.{get, as_str, as_number, as_u64}
-use Rattle.farm_types.specs.Limits.{is_priority, is_every}
-use Rattle.farm_types.specs.Called.{health_called, outcome_called, medium_priority, priority_called}
-use Rattle.farm_types.specs.Called.{unit_called, check_by}
+use Rattle.farm_types.specs.Names.{bad_priority, bad_request, check_by, health_called, is_every, is_priority, medium_priority, outcome_called, priority_called}
+use Rattle.farm_types.specs.Names.{unit_called, ◌>>=◌}
 use Rattle.farm_types.specs.declared.called.CheckUnit.{CheckUnit}
-use Rattle.farm_types.specs.declared.rows.Check.{Check}
 use Rattle.farm_types.specs.declared.calls.Cmd.{Cmd}
-use Rattle.farm_types.specs.Refusals.{bad_request, bad_priority}
+use Rattle.farm_types.specs.declared.rows.Check.{Check}
 use Rattle.farm_jobfile.specs.Reading.{fault_by_number}
 use Rattle.farm_jobfile.specs.Job.{job}
-use Rattle.farm_types.specs.Reads.{◌>>=◌}
-use Rattle.farm_wire.specs.Fields.{there_or, object_in, text_in, name_in, tags_from, tags_in}
-use Rattle.farm_wire.specs.Fields.{board_tags}
+use Rattle.farm_wire.specs.Fields.{there_or, object_in, text_in, name_in, tags_from, tags_in, board_tags}
 use Rattle.farm_wire.specs.Parameters.{board_in, job_in, reservation_in}
 use Rattle.farm_wire.specs.declared.router.CommandKind.{CommandKind}
 
 -- ---- types
 
--- a unit's word; absent means none
-abbrev pub unit_at : Option Data → Result CheckUnit ℕ
-unit_at None = Ok CheckUnit.None
-unit_at (Some d) = there_or (option_and_then unit_called (as_str d))
-
--- the unit under the key `check`
+-- the unit under the key `check`; absent means none
 unfoldable pub unit_in : Data → Result CheckUnit ℕ
-unit_in d = unit_at (get (codes "check") d)
+unit_in d =
+    option_map_or (λ field. there_or (option_and_then unit_called (as_str field))) (get (codes "check") d) (Ok CheckUnit.None)
 
--- 1 to 10,000
-abbrev pub every_or : Option ℕ → Result ℕ ℕ
-every_or None = Err bad_request
-every_or (Some n) = if is_every n then Ok n else Err bad_request
-
--- the frequency under the key `every`
+-- the frequency under the key `every`, 1 to 10,000
 unfoldable pub every_in : Data → Result ℕ ℕ
-every_in d = every_or (option_and_then as_u64 (option_and_then as_number (get (codes "every") d)))
+every_in d = do
+  n ← there_or (option_and_then as_u64 (option_and_then as_number (get (codes "every") d)))
+  if is_every n then Ok n else Err bad_request
 
 -- the check that the two keys spell
 unfoldable pub check_in : Data → Result Check ℕ
@@ -53,12 +42,8 @@ add_type body = do
 -- ---- boards
 
 -- a new board's tags; absent means none
-abbrev pub tags_or_none : Option Data → Result (List (List ℕ)) ℕ
-tags_or_none None = Ok []
-tags_or_none (Some d) = tags_from d
-
 unfoldable pub new_tags_in : Data → Result (List (List ℕ)) ℕ
-new_tags_in d = tags_or_none (get (codes "tags") d)
+new_tags_in d = option_map_or tags_from (get (codes "tags") d) (Ok [])
 
 -- the board that a body adds
 unfoldable pub add_board : List ℕ → Result Cmd ℕ
@@ -105,33 +90,18 @@ finish path body = do
 
 -- ---- reservations
 
--- a whole number that is a priority; a number that is no whole one is another
-abbrev pub priority_number : Option ℕ → Result ℕ ℕ
-priority_number None = Err bad_priority
-priority_number (Some n) = if is_priority n then Ok n else Err bad_priority
-
--- what a word names
-abbrev pub named_or : Option ℕ → Result ℕ ℕ
-named_or None = Err bad_priority
-named_or (Some n) = Ok n
-
--- a text, a number, or another kind
+-- what a text names, or a whole number that is a priority; another kind is no priority at all
 abbrev pub priority_by : Option (List ℕ) → Option Num → Result ℕ ℕ
-priority_by (Some text) n = named_or (priority_called text)
-priority_by None (Some n) = priority_number (as_u64 n)
+priority_by (Some text) number = ok_or (priority_called text) bad_priority
+priority_by None (Some number) = ok_or (as_u64 number) bad_priority >>= λ n. if is_priority n then Ok n else Err bad_priority
 priority_by None None = Err bad_request
 
 unfoldable pub priority_from : Data → Result ℕ ℕ
 priority_from d = priority_by (as_str d) (as_number d)
 
--- absent means medium
-abbrev pub priority_or : Option Data → Result ℕ ℕ
-priority_or None = Ok medium_priority
-priority_or (Some d) = priority_from d
-
--- the priority under the key `priority`
+-- the priority under the key `priority`; absent means medium
 unfoldable pub priority_in : Data → Result ℕ ℕ
-priority_in d = priority_or (get (codes "priority") d)
+priority_in d = option_map_or priority_from (get (codes "priority") d) (Ok medium_priority)
 
 -- the reservation that a body asks for
 unfoldable pub reserve : List ℕ → Result Cmd ℕ
@@ -157,6 +127,5 @@ command_in CommandKind.Reserve path body = reserve body
 command_in CommandKind.Acquire path body = reservation_in path >>= λ n. Ok (Cmd.Acquire n)
 command_in CommandKind.Release path body = reservation_in path >>= λ n. Ok (Cmd.Release n)
 command_in CommandKind.Refresh path body = reservation_in path >>= λ n. Ok (Cmd.Refresh n)
-command_in CommandKind.CancelReservation path body = reservation_in path >>= λ n.
-    Ok (Cmd.CancelRes n)
+command_in CommandKind.CancelReservation path body = reservation_in path >>= λ n. Ok (Cmd.CancelRes n)
 command_in CommandKind.Pass path body = Ok Cmd.Pass

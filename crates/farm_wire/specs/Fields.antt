@@ -1,31 +1,20 @@
 -- The members of a JSON body (RFC 8259): each has its kind, and then its word.
-use Rattle.std.specs.Prelude.{ℕ, List, [], ◌∷◌, Option, Some, None, is_some}
-use Rattle.std.specs.Prelude.{option_and_then, Result, Ok, Err, codes, if◌then◌else◌}
+use Rattle.std.specs.Prelude.{ℕ, List, [], ◌∷◌, Option, None, is_some, ok_or, option_and_then, Result, Ok, Err, codes, if◌then◌else◌}
 use Rattle.std.specs.Str.{is_utf8}
 use Rattle.serde_json.specs.Data.{Data, Items, no_items, item}
 use Rattle.serde_json.specs.Read.{read}
 use Rattle.serde_json.specs.Find.{get, as_str, as_array, as_object}
-use Rattle.farm_types.specs.Limits.{longest_name}
-use Rattle.farm_types.specs.Words.{is_word, word_or}
-use Rattle.farm_types.specs.Tags.{tags_among}
-use Rattle.farm_types.specs.Proper.{has_no_name_tag}
-use Rattle.farm_types.specs.Refusals.{bad_request, bad_name}
-use Rattle.farm_types.specs.Refusals.{bad_tag}
-use Rattle.farm_types.specs.Reads.{◌>>=◌}
-
--- an object, or nothing that can be read
-abbrev pub object_or : Option Data → Result Data ℕ
-object_or None = Err bad_request
-object_or (Some d) = if is_some (as_object d) then Ok d else Err bad_request
-
--- the object that a body spells
-unfoldable pub object_in : List ℕ → Result Data ℕ
-object_in body = object_or (if is_utf8 body then read body else None)
+use Rattle.farm_types.specs.Names.{bad_name, bad_request, bad_tag, has_no_name_tag, is_word, longest_name, tags_among, word_or, ◌>>=◌}
 
 -- what must be there and of its kind
 abbrev pub there_or : {A : Type 0} → Option A → Result A ℕ
-there_or None = Err bad_request
-there_or (Some x) = Ok x
+there_or o = ok_or o bad_request
+
+-- the object that a body spells
+unfoldable pub object_in : List ℕ → Result Data ℕ
+object_in body = do
+  d ← there_or (if is_utf8 body then read body else None)
+  if is_some (as_object d) then Ok d else Err bad_request
 
 -- the text under a key
 unfoldable pub text_in : List ℕ → Data → Result (List ℕ) ℕ

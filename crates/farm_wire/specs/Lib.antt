@@ -11,4 +11,3 @@ pub mod Plain
 pub mod Joins
 pub mod Parts
 pub mod Replies
-pub mod Agreed

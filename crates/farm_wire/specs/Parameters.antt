@@ -1,11 +1,9 @@
 -- The parameter of a path: a board's name, or the number of a job or a reservation.
-use Rattle.std.specs.Prelude.{ℕ, ◌==◌, ◌&&◌, Bool, false, not, nat_lt, List, [], ◌∷◌}
-use Rattle.std.specs.Prelude.{length, drop, Result, Ok, Err, codes, if◌then◌else◌}
+use Rattle.std.specs.Prelude.{ℕ, ◌==◌, ◌&&◌, Bool, false, not, nat_lt, List, [], ◌∷◌, length, drop, Result, Ok, Err, codes, if◌then◌else◌}
 use Rattle.std.specs.Char.{is_ascii_digit}
 use Rattle.std.specs.List.{before_first, list_all}
 use Rattle.std.specs.Str.Parse.{digits_value}
-use Rattle.farm_types.specs.Limits.{numbers_end}
-use Rattle.farm_types.specs.Refusals.{bad_request}
+use Rattle.farm_types.specs.Names.{bad_request, numbers_end}
 use Rattle.farm_wire.specs.Fields.{name_or}
 
 -- the first segment behind the front of a path

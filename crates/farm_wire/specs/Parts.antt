@@ -3,7 +3,7 @@ use Rattle.std.specs.Prelude.{ℕ, List, Bool}
 use Rattle.std.specs.List.{list_all}
 use Rattle.std.specs.Borrow.{Bor}
 use Rattle.serde_json.specs.Data.{Data, string}
-use Rattle.farm_types.specs.Called.{holder_text}
+use Rattle.farm_types.specs.Names.{holder_text}
 use Rattle.farm_wire.specs.Shown.{count, texts, word_or_none}
 use Rattle.farm_wire.specs.Plain.{is_plain}
 use Rattle.farm_wire.specs.declared.shown.JsonValue.{JsonValue}

@@ -2,11 +2,9 @@
 use Rattle.std.specs.Prelude.{ℕ, List, [], ◌++◌, length, map, codes, decimal, unwrap_or}
 use Rattle.serde_json.specs.Data.{Data}
 use Rattle.serde_json.specs.Written.{compact_text}
-use Rattle.farm_types.specs.Refusals.{http_status_of, reason_of}
-use Rattle.farm_types.specs.Refusals.{wrong_method}
+use Rattle.farm_types.specs.Names.{http_status_of, reason_of, wrong_method}
 use Rattle.farm_wire.specs.Routes.{allow_text}
-use Rattle.farm_wire.specs.Shown.{listing, reply_data, refusal_data, type_data, board_data}
-use Rattle.farm_wire.specs.Shown.{claim_data, res_data, job_data, status_data}
+use Rattle.farm_wire.specs.Shown.{listing, reply_data, refusal_data, type_data, board_data, claim_data, res_data, job_data, status_data}
 use Rattle.farm_wire.specs.declared.answers.Allowed.{Allowed}
 use Rattle.farm_wire.specs.declared.answers.Out.{Out}
 

@@ -1,17 +1,15 @@
 -- The paths: where each leads, as `matchit` finds it, and which methods it has.
-use Rattle.std.specs.Prelude.{◌≡◌, ℕ, ◌<◌, Bool, true, false, List, [], ◌∷◌, ◌++◌, Option, Some}
-use Rattle.std.specs.Prelude.{None, Result, Ok, Err, codes, if◌then◌else◌}
+use Rattle.std.specs.Prelude.{◌≡◌, ℕ, ◌<◌, Bool, false, List, [], ◌∷◌, ◌++◌, Option, Some, None, ok_or, Result, Ok, Err, codes, if◌then◌else◌, ◌==◌}
 use Rattle.std.specs.List.{before_first}
 use Rattle.std.specs.Option.{option_map}
 use Rattle.std.specs.Str.{is_utf8, bytes_eq}
-use Rattle.std.specs.Prelude.{◌==◌}
 use Rattle.matchit.specs.Rows.{RowsOf}
 use Rattle.matchit.specs.Route.{Scan, parse_route}
 use Rattle.matchit.specs.Router.{RouteOf, route_from}
 use Rattle.matchit.specs.Order.{placed}
 use Rattle.matchit.specs.Seek.{first, has_slash}
 use Rattle.matchit.specs.declared.error.InsertError.{InsertError}
-use Rattle.farm_types.specs.Refusals.{bad_request, no_route}
+use Rattle.farm_types.specs.Names.{bad_request, no_route}
 use Rattle.farm_wire.specs.declared.router.Route.{Route}
 use Rattle.farm_wire.specs.declared.answers.Allowed.{Allowed}
 use Rattle.farm_wire.specs.declared.router.CommandKind.{CommandKind}
@@ -69,13 +67,9 @@ route_at path = option_map (λ route. route.value) (first rows path)
 unfoldable pub path_in : List ℕ → Result (List ℕ) ℕ
 path_in target = if is_utf8 target then Ok (before_first (λ b. b == 63) target) else Err bad_request
 
-abbrev pub route_or : Option Route → Result Route ℕ
-route_or None = Err no_route
-route_or (Some route) = Ok route
-
 -- where a path leads, or that it leads nowhere
 unfoldable pub route_in : List ℕ → Result Route ℕ
-route_in path = route_or (route_at path)
+route_in path = ok_or (route_at path) no_route
 
 abbrev pub is_get : List ℕ → Bool
 is_get method = bytes_eq method (codes "GET")
@@ -83,18 +77,12 @@ is_get method = bytes_eq method (codes "GET")
 abbrev pub is_post : List ℕ → Bool
 is_post method = bytes_eq method (codes "POST")
 
-abbrev pub endpoint_if : Bool → Endpoint → Option Endpoint → Option Endpoint
-endpoint_if true endpoint other = Some endpoint
-endpoint_if false endpoint other = other
-
 -- what a method leads to, if the path has it
 abbrev pub endpoint_at : Route → List ℕ → Option Endpoint
-endpoint_at (Route.Get view) method = endpoint_if (is_get method) (Endpoint.View view) None
-endpoint_at (Route.Post command) method =
-    endpoint_if (is_post method) (Endpoint.Command command) None
+endpoint_at (Route.Get view) method = if is_get method then Some (Endpoint.View view) else None
+endpoint_at (Route.Post command) method = if is_post method then Some (Endpoint.Command command) else None
 endpoint_at (Route.GetPost view command) method =
-    endpoint_if (is_get method) (Endpoint.View view)
-    (endpoint_if (is_post method) (Endpoint.Command command) None)
+    if is_get method then Some (Endpoint.View view) else (if is_post method then Some (Endpoint.Command command) else None)
 
 -- the value of the field `allow`
 abbrev pub allow_text : Allowed → List ℕ

@@ -1,10 +1,7 @@
 -- Who sends a request, and under which key its reply is kept: two fields of its head.
 use Rattle.std.specs.Prelude.{ℕ, List, Option, Some, None, Result, Ok, Err, codes}
-use Rattle.farm_types.specs.Limits.{longest_key, longest_name}
-use Rattle.farm_types.specs.Words.{is_word, word_or}
-use Rattle.farm_types.specs.Refusals.{bad_request, bad_name, bad_key}
+use Rattle.farm_types.specs.Names.{bad_key, bad_name, bad_request, is_word, longest_key, longest_name, word_or, ◌>>=◌}
 use Rattle.farm_http.specs.Fields.{Lookup, absent, several, one, field_of}
-use Rattle.farm_types.specs.Reads.{◌>>=◌}
 
 -- the caller's name stands once
 abbrev pub caller_or : Lookup → Result (List ℕ) ℕ

@@ -1,22 +1,17 @@
 -- The JSON of answers (RFC 8259). Keys stand in byte order.
-use Rattle.std.specs.Prelude.{ℕ, ◌==◌, Bool, unwrap_or, List, [], ◌∷◌, map, codes, Option}
-use Rattle.std.specs.Prelude.{if◌then◌else◌}
+use Rattle.std.specs.Prelude.{ℕ, ◌==◌, Bool, unwrap_or, List, [], ◌∷◌, map, codes, Option, if◌then◌else◌}
 use Rattle.std.specs.Option.{option_map}
-use Rattle.serde_json.specs.Data.{Data, number, unsigned, string, array, object, Members, member}
-use Rattle.serde_json.specs.Data.{no_members}
+use Rattle.serde_json.specs.Data.{Data, number, unsigned, string, array, object, Members, member, no_members}
 use Rattle.serde_json.specs.View.{items_of}
-use Rattle.farm_types.specs.Called.{unit_of, unit_word, holder_text, claim_word}
-use Rattle.farm_types.specs.Codes.{health_word, state_word, job_state_word, outcome_word}
-use Rattle.farm_types.specs.Codes.{res_state_word}
-use Rattle.farm_types.specs.Small.{every_of}
-use Rattle.farm_types.specs.Refusals.{refusal_text}
-use Rattle.farm_types.specs.declared.rows.TypeRow.{TypeRow}
-use Rattle.farm_types.specs.declared.rows.BoardRow.{BoardRow}
-use Rattle.farm_types.specs.declared.rows.Reply.{Reply}
-use Rattle.farm_types.specs.declared.rows.JobRow.{JobRow}
-use Rattle.farm_types.specs.declared.rows.ResRow.{ResRow}
+use Rattle.farm_types.specs.Names.{claim_word, every_of, health_word, holder_text, job_state_word, outcome_word, refusal_text, res_state_word, state_word}
+use Rattle.farm_types.specs.Names.{unit_of, unit_word}
 use Rattle.farm_types.specs.declared.claims.Claim.{Claim}
 use Rattle.farm_types.specs.declared.claims.Status.{Status}
+use Rattle.farm_types.specs.declared.rows.BoardRow.{BoardRow}
+use Rattle.farm_types.specs.declared.rows.JobRow.{JobRow}
+use Rattle.farm_types.specs.declared.rows.Reply.{Reply}
+use Rattle.farm_types.specs.declared.rows.ResRow.{ResRow}
+use Rattle.farm_types.specs.declared.rows.TypeRow.{TypeRow}
 
 -- an object with these members
 abbrev pub object_members : List (List ℕ × Data) → Members
@@ -48,17 +43,13 @@ abbrev pub refusal_data : ℕ → Data
 refusal_data code = fields ((codes "code", count code) ∷ (codes "text", string (refusal_text code)) ∷ [])
 
 abbrev pub type_data : TypeRow → Data
-type_data row =
-    fields (
+type_data row = fields (
     (codes "check", string (unit_word (unit_of row.check)))
     ∷ (codes "every", count (every_of row.check))
-    ∷ (codes "name", string row.name)
-    ∷ []
-    )
+    ∷ (codes "name", string row.name) ∷ [])
 
 abbrev pub board_data : BoardRow → Data
-board_data row =
-    fields (
+board_data row = fields (
     (codes "health", string (health_word row.health))
     ∷ (codes "holder", string (holder_text row.holder))
     ∷ (codes "jobs_since", count row.jobs_since)
@@ -66,13 +57,10 @@ board_data row =
     ∷ (codes "name", string row.name)
     ∷ (codes "state", string (state_word row.state))
     ∷ (codes "tags", texts row.tags)
-    ∷ (codes "type", string row.kind)
-    ∷ []
-    )
+    ∷ (codes "type", string row.kind) ∷ [])
 
 abbrev pub status_data : Status → Data
-status_data status =
-    fields (
+status_data status = fields (
     (codes "boards", count status.boards)
     ∷ (codes "clock", count status.clock)
     ∷ (codes "collector", count status.collector)
@@ -80,9 +68,7 @@ status_data status =
     ∷ (codes "jobs", count status.jobs)
     ∷ (codes "next", count status.next)
     ∷ (codes "reservations", count status.reservations)
-    ∷ (codes "types", count status.types)
-    ∷ []
-    )
+    ∷ (codes "types", count status.types) ∷ [])
 
 -- a word that isn't there shows as the empty text
 abbrev pub word_or_none : Option (List ℕ) → Data
@@ -90,35 +76,28 @@ word_or_none word = string (unwrap_or word [])
 
 -- a claim, with its number of wants
 abbrev pub claim_data : Claim → Data
-claim_data claim =
-    fields (
+claim_data claim = fields (
     (codes "boards", count claim.boards)
     ∷ (codes "kind", string (claim_word claim.kind))
     ∷ (codes "number", count claim.number)
     ∷ (codes "owner", string claim.owner)
-    ∷ (codes "priority", count claim.priority)
-    ∷ []
-    )
+    ∷ (codes "priority", count claim.priority) ∷ [])
 
 abbrev pub res_data : ResRow → Data
-res_data row =
-    fields (
+res_data row = fields (
     (codes "board", word_or_none row.board)
     ∷ (codes "deadline", count row.deadline)
     ∷ (codes "number", count row.number)
     ∷ (codes "owner", string row.owner)
     ∷ (codes "priority", count row.priority)
     ∷ (codes "state", string (res_state_word row.state))
-    ∷ (codes "tags", texts row.want.tags)
-    ∷ []
-    )
+    ∷ (codes "tags", texts row.want.tags) ∷ [])
 
 abbrev pub job_kind : Bool → List ℕ
 job_kind checking = if checking then codes "check" else codes "ordinary"
 
 abbrev pub job_data : JobRow → Data
-job_data row =
-    fields (
+job_data row = fields (
     (codes "board", word_or_none row.board)
     ∷ (codes "group", count row.group)
     ∷ (codes "kind", string (job_kind row.checking))
@@ -130,6 +109,4 @@ job_data row =
     ∷ (codes "state", string (job_state_word row.state))
     ∷ (codes "tags", texts row.want.tags)
     ∷ (codes "text", string row.body)
-    ∷ (codes "type", word_or_none row.want.kind)
-    ∷ []
-    )
+    ∷ (codes "type", word_or_none row.want.kind) ∷ [])

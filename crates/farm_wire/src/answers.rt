@@ -76,15 +76,6 @@ fn head(alloc: Global, status: u16, more: &str, length: usize) -> Result<String,
     )
 }
 
-/// The head of an answer, in a buffer that has room for the body too.
-fn head_with_room(alloc: Global, status: u16, more: &str, length: usize) -> Bytes
-    ensures { IfOk result (λ b. b.items ≡ head_text status more.now length) }
-{
-    let mut bytes = head(alloc, status, more, length)?.into_bytes();
-    bytes.reserve(length)?;
-    Ok(bytes)
-}
-
 /// A head and the JSON of what is shown behind it: one pass reckons the length, one prints.
 fn answer_of<T: ToJson>(alloc: Global, status: u16, more: &str, shown: &T) -> Bytes
     ensures { IfOk result (λ b. b.items ≡ answer_text status more.now
@@ -92,7 +83,8 @@ fn answer_of<T: ToJson>(alloc: Global, status: u16, more: &str, shown: &T) -> By
 {
     let mut counter = Counter { count: 0 };
     shown.print(&mut counter)?;
-    let mut bytes = head_with_room(alloc, status, more, counter.count)?;
+    let mut bytes = head(alloc, status, more, counter.count)?.into_bytes();
+    bytes.reserve(counter.count)?;
     shown.print(&mut bytes)?;
     Ok(bytes)
 }

@@ -8,19 +8,22 @@ ghost use Rattle.farm_types.specs.declared.rows.JobRow.{JobRow};
 ghost use Rattle.farm_types.specs.declared.rows.Reply.{Reply};
 ghost use Rattle.farm_types.specs.declared.rows.ResRow.{ResRow};
 ghost use Rattle.farm_types.specs.declared.rows.TypeRow.{TypeRow};
-ghost use Rattle.farm_wire.specs.Agreed.{StatusesAgree};
 ghost use Rattle.farm_wire.specs.Keys.{KeysRise};
 ghost use Rattle.farm_wire.specs.Parameters.{parameter};
+ghost use Rattle.farm_wire.specs.Replies.{ok_status, method_status, unavailable_status};
 ghost use Rattle.farm_wire.specs.Routes.{LeadsTo, route_at};
 ghost use Rattle.farm_wire.specs.Shown.{type_data, board_data, claim_data, res_data, job_data};
 ghost use Rattle.farm_wire.specs.Shown.{status_data, refusal_data, reply_data};
+ghost use Rattle.farm_wire.specs.declared.answers.TheConstants.{OK, METHOD_NOT_ALLOWED, UNAVAILABLE};
 ghost use Rattle.farm_wire.specs.declared.router.CommandKind.{CommandKind};
 ghost use Rattle.farm_wire.specs.declared.router.Route.{Route};
 ghost use Rattle.farm_wire.specs.declared.router.ViewKind.{ViewKind};
 
 /// The statuses that the code gives are those of the definitions.
 pub fn statuses_agree()
-    ensures { StatusesAgree }
+    ensures ok { OK ≡ ok_status }
+    ensures method { METHOD_NOT_ALLOWED ≡ method_status }
+    ensures unavailable { UNAVAILABLE ≡ unavailable_status }
 {}
 
 /// Where each path with a parameter leads, whatever the parameter.

@@ -5,7 +5,7 @@
 //! `farm_http`'s; its public names stand here again, so that a server needs this crate alone.
 //!
 //! Read `specs/` in the order Reading, Routes, Sender, Fields, Parameters, Commands, Asked; then
-//! Shown, Keys, Plain, Joins, Parts, Replies, Agreed.
+//! Shown, Keys, Plain, Joins, Parts, Replies.
 #![tactic(auto)]
 
 mod answers;

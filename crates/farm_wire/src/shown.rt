@@ -1,5 +1,5 @@
 //! What answers show as JSON: texts, numbers, rows, and objects by their members.
-ghost use Rattle.std.specs.Prelude.{◌∷◌, OnOk, map, decimal, ◌++◌, IsTrue};
+ghost use Rattle.std.specs.Prelude.{OnOk, map, decimal, ◌++◌, IsTrue};
 ghost use Rattle.std.specs.List.{list_all};
 ghost use Rattle.json.specs.Print.{quoted};
 ghost use Rattle.serde_json.specs.Data.{array};
@@ -8,7 +8,6 @@ ghost use Rattle.serde_json.specs.Written.{compact_text, comma_if};
 ghost use Rattle.farm_types.specs.Called.{holder_text};
 ghost use Rattle.farm_wire.specs.Shown.{listing, fields};
 ghost use Rattle.farm_wire.specs.Parts.{member_of, part_data, has_plain_key};
-ghost use Rattle.farm_wire.specs.Plain.{is_plain};
 
 use crate::text::{Sink, put_escaped, put_text, put_word};
 use farm_types::{Holder, Name, Tag, Tags};
@@ -147,17 +146,6 @@ fn put_part<S: Sink>(sink: &mut S, part: JsonValue<'_>) -> Result<(), AllocError
     }
 }
 
-/// Puts a key, a colon and what stands behind.
-fn put_member<S: Sink>(sink: &mut S, key: &str, part: JsonValue<'_>) -> Result<(), AllocError>
-    requires { IsTrue (list_all is_plain key.now) }
-    ensures { OnOk result (S.Takes sink.old sink.new
-        (quoted key.now ++ 58 ∷ compact_text (part_data part.entry))) }
-{
-    put_word(sink, key)?;
-    sink.put(b":")?;
-    put_part(sink, part)
-}
-
 /// Puts an object with these members, whose keys stand in byte order and show as they are.
 pub(crate) fn put_object<S: Sink>(
     sink: &mut S,
@@ -171,7 +159,9 @@ pub(crate) fn put_object<S: Sink>(
     let mut later = false;
     for member in members {
         put_comma(sink, later)?;
-        put_member(sink, member.0, member.1)?;
+        put_word(sink, member.0)?;
+        sink.put(b":")?;
+        put_part(sink, member.1)?;
         later = true;
     }
     sink.put(b"}")

@@ -2,7 +2,7 @@
 use Rattle.std.proofs.Common.{ℕ, [], length, refl, sym, subst, append-nil, arith, inl, inr}
 use Rattle.std.proofs.Math.Seq.{take-length}
 use Rattle.httparse.specs.Spans.{RequestOverflows}
-use Rattle.farm_types.specs.Refusals.{bad_request}
+use Rattle.farm_types.specs.Names.{bad_request}
 use Rattle.farm_http.specs.Heads.{IsHead}
 use Rattle.farm_http.proofs.HeadLemmas.{head_of, open_more, ends_line}
 use Rattle.farm_http.proofs.front.front_at.Goals as goal

@@ -1,6 +1,6 @@
 -- Where nothing was known by the first bytes, nothing is by those that were looked at.
 use Rattle.std.proofs.Common.{◌-◌, ◌≡◌, length}
-use Rattle.farm_types.specs.Limits.{most_fields}
+use Rattle.farm_types.specs.Names.{most_fields}
 use Rattle.farm_http.specs.Heads.{IsOpenBelow}
 use Rattle.farm_http.proofs.front.front_of.Given as goal
 

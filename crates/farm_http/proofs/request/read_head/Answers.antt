@@ -3,7 +3,7 @@ use Rattle.std.proofs.Common.{length, ◌<◌, arith, subst, ◌∙◌, inl, inr
 use Rattle.std.proofs.KnownBytes.{Consumes-kept}
 use Rattle.std.proofs.lemmas.Result.{err_from_is_err_and}
 use Rattle.std.specs.Io.KnownBytes.{IsAtEnd}
-use Rattle.farm_types.specs.Limits.{longest_head}
+use Rattle.farm_types.specs.Names.{longest_head}
 use Rattle.farm_http.specs.Heads.{IsOpenBelow}
 use Rattle.farm_http.proofs.HeadLemmas.{byte_fails, open_before, read_more}
 use Rattle.farm_http.proofs.TurnLemmas.{leaves_both, spends_behind}

@@ -2,7 +2,7 @@
 use Rattle.std.proofs.Common.{◌+◌, ◌-◌, ◌≤◌, ◌≡◌, length}
 use Rattle.std.specs.Prelude.{vec_capacity}
 use Rattle.std.specs.Io.KnownBytes.{Consumes}
-use Rattle.farm_types.specs.Limits.{longest_head, most_fields}
+use Rattle.farm_types.specs.Names.{longest_head, most_fields}
 use Rattle.farm_http.specs.Heads.{IsOpenBelow}
 use Rattle.farm_http.specs.Turns.{LeavesTurns}
 use Rattle.farm_http.proofs.request.read_head.Given as goal

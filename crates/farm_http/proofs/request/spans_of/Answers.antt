@@ -4,9 +4,9 @@ use Rattle.httparse.specs.Spans.{RequestOverflows}
 use Rattle.farm_http.proofs.HeadLemmas.{head_of, open_more, ends_line}
 use Rattle.farm_http.proofs.request.spans_of.Goals as goal
 
-pub returns-then-last-ne10-clause-found : goal.returns-then-last-ne10-clause-found
-returns-then-last-ne10-clause-found c =
-    open_more c.args.bytes.now c.requires.some c.requires.open_lines (λ line. absurd (c.if-last-ne10.true line))
+pub returns-then-bytes-ne10-clause-found : goal.returns-then-bytes-ne10-clause-found
+returns-then-bytes-ne10-clause-found c =
+    open_more c.args.bytes.now c.requires.some c.requires.open_lines (λ line. absurd (c.if-bytes-ne10.true line))
 
 pub returns-in-Ok-Complete-clause-found : goal.returns-in-Ok-Complete-clause-found
 returns-in-Ok-Complete-clause-found c =
@@ -23,7 +23,7 @@ pub returns-in-Err-clause-refused : goal.returns-in-Err-clause-refused
 returns-in-Err-clause-refused c = record {
   refused = refl;
   short = c.requires.short;
-  line = ends_line c.args.bytes.now c.requires.some c.if-last-ne10.false;
+  line = ends_line c.args.bytes.now c.requires.some c.if-bytes-ne10.false;
   overflows = subst (λ (n : ℕ). RequestOverflows n c.args.bytes.now) c.requires.fields c.in-Err.ensures.no_room;
   open_lines = c.requires.open_lines;
 }

@@ -1,6 +1,6 @@
 use Rattle.std.proofs.Common.{◌≡◌, drop, map, ◌++◌, Ok}
 use Rattle.toml.specs.View.{items_view}
-use Rattle.farm_types.specs.Reads.{◌>>=◌}
+use Rattle.farm_types.specs.Names.{◌>>=◌}
 use Rattle.farm_jobfile.specs.Fields.{texts_in}
 use Rattle.farm_jobfile.proofs.fields.texts_of.Given as goal
 

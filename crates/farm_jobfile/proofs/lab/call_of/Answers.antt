@@ -1,6 +1,5 @@
 use Rattle.std.proofs.Common.{◌≡◌, ◌∙◌, ◌++◌, ap, arith, rules}
-use Rattle.farm_types.specs.Limits.{longest_key}
-use Rattle.farm_types.specs.Words.{is_word}
+use Rattle.farm_types.specs.Names.{is_word, longest_key}
 use Rattle.farm_jobfile.proofs.CallLemmas.{admin_is_word, key_is_word}
 use Rattle.farm_jobfile.proofs.lab.call_of.Goals as goal
 

@@ -1,6 +1,6 @@
 use Rattle.std.proofs.Common.{◌≡◌, ◌++◌, map, Ok}
 use Rattle.toml.specs.View.{members_view}
-use Rattle.farm_types.specs.Reads.{◌>>=◌}
+use Rattle.farm_types.specs.Names.{◌>>=◌}
 use Rattle.farm_jobfile.specs.Lab.{entries_of, entry_of, entry_in}
 use Rattle.farm_jobfile.proofs.lab.members_of.Given as goal
 

@@ -1,6 +1,6 @@
 use Rattle.std.proofs.Common.{◌≡◌, drop, map, ◌++◌, Ok}
 use Rattle.serde_json.specs.View.{items_view}
-use Rattle.farm_types.specs.Reads.{◌>>=◌}
+use Rattle.farm_types.specs.Names.{◌>>=◌}
 use Rattle.farm_wire.specs.Fields.{texts_in}
 use Rattle.farm_wire.proofs.fields.texts_of.Given as goal
 

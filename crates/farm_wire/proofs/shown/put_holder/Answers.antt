@@ -3,7 +3,7 @@ use Rattle.std.proofs.Common.{sym}
 use Rattle.std.proofs.Math.Path.{subst}
 use Rattle.std.proofs.lemmas.Result.{on_ok_weaker}
 use Rattle.json.specs.Print.{quoted}
-use Rattle.farm_types.specs.Called.{holder_text}
+use Rattle.farm_types.specs.Names.{holder_text}
 use Rattle.farm_wire.proofs.shown.put_holder.Goals as goal
 
 pub returns-in-Res : goal.returns-in-Res

@@ -12,8 +12,8 @@ use Rattle.farm_wire.proofs.shown.put_object.Goals as goal
 pub loop-member-init : goal.loop-member-init
 loop-member-init g c = λ end taken. taken
 
-pub put_member-requires : goal.put_member-requires
-put_member-requires g c =
+pub put_word-requires : goal.put_word-requires
+put_word-requires g c =
     let within : c.loop-member.member-index < length c.args.members.now = omega arith in
     plain_at c.args.members.now c.loop-member.member-index c.member-item.result within c.member-item.is c.requires
 
@@ -25,7 +25,8 @@ loop-member-preserved g c =
     let within : i < length all = omega arith in
     λ end taken. c.loop-member.invariant end
     (subst (g.S.Sink.Takes c.loop-member.sink end) (members_next c.loop-member.later all i c.member-item.result within c.member-item.is)
-    (joins _ _ _ _ _ c.in_ok-put_comma.ensures (joins _ _ _ _ _ c.in_ok-put_member.ensures taken)))
+    (joins _ _ _ _ _ c.in_ok-put_comma.ensures (joins _ _ _ _ _ c.in_ok-put_word.ensures
+    (joins _ _ _ _ _ c.in_ok-put-2.ensures (joins _ _ _ _ _ c.in_ok-put_part.ensures taken)))))
 
 pub returns : goal.returns
 returns g c =

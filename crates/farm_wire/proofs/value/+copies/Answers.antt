@@ -9,7 +9,7 @@ use Rattle.serde_json.specs.Data.{no_members, put, object as data_object}
 use Rattle.serde_json.specs.Read.{of_json, of_items, of_members}
 use Rattle.serde_json.specs.View.{view, members_view as map_view}
 use Rattle.serde_json.proofs.Views.{members_view-insert_entry, view-Object as map-Object}
-use Rattle.farm_types.specs.Reads.{OrNoMemory, refused_code}
+use Rattle.farm_types.specs.Names.{OrNoMemory, refused_code}
 use Rattle.farm_wire.specs.Fields.{there_or}
 use Rattle.farm_wire.proofs.ValueLemmas.{there_is, refused_within, items_before, items_before-no_items, item_copied, member_copied}
 use Rattle.farm_wire.proofs.value.+copies.Goals as goal

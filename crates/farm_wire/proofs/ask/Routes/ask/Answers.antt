@@ -1,7 +1,7 @@
 -- The parts are those of the request that the bytes spell.
 use Rattle.std.proofs.Common.{subst}
 use Rattle.farm_wire.specs.Asked.{ask, shown_ask}
-use Rattle.farm_types.specs.Reads.{OrNoMemory}
+use Rattle.farm_types.specs.Names.{OrNoMemory}
 use Rattle.farm_wire.specs.Reading.{denial_of}
 use Rattle.farm_wire.proofs.ask.Routes.ask.Goals as goal
 
