@@ -1,26 +1,14 @@
 -- The answers that are due: to a view, to what is denied, to a call.
 use Rattle.std.proofs.Common.{◌≡◌, ◌↔◌, ℕ, List, Bool, true, false, refl, sym, ap, ◌∙◌, subst, Ok, Err, inl, inr}
 use Rattle.std.specs.Prelude.{Option, Result}
-use Rattle.sqlite_trees.specs.declared.store.Store.{Ghosts}
-use Rattle.farm_types.specs.Machine.{Answered, answer, step}
-use Rattle.farm_types.specs.Refuse.{kind_of}
+use Rattle.farm_serve.proofs.Names.{Ask, AskFault, Call, Denial, DeskFault, Ghosts, IsChange, KeeperState, KeepFault, KeepsEither, KeepsOwnFarm, Out}
+use Rattle.farm_types.specs.Names.{answer, Answered, kind_of, no_memory, step}
 use Rattle.farm_types.specs.declared.calls.Answer.{Answer}
-use Rattle.farm_types.specs.declared.calls.Call.{Call}
-use Rattle.farm_types.specs.Refusals.{no_memory}
-use Rattle.farm_core.specs.Answers.{IsChange}
 use Rattle.farm_keep.specs.Faults.{IsActFault, keep_fault_code}
-use Rattle.farm_keep.specs.KeeperState.{KeeperState, KeepsOwnFarm, KeepsEither}
-use Rattle.farm_keep.specs.declared.fault.KeepFault.{KeepFault}
-use Rattle.farm_wire.specs.Reading.{Denial, refused, other_methods}
+use Rattle.farm_wire.specs.Reading.{refused, other_methods}
 use Rattle.farm_wire.specs.Replies.{reply_bytes}
-use Rattle.farm_wire.specs.declared.ask.Ask.{Ask}
-use Rattle.farm_wire.specs.declared.answers.Out.{Out}
-use Rattle.farm_wire.specs.declared.fault.AskFault.{AskFault}
-use Rattle.farm_serve.specs.Answers.{Encodes, out_of_denial, out_of_refusal, out_of_answer}
-use Rattle.farm_serve.specs.Response.{IsResponse, IsResponseTo, RunsOutOfMemory}
-use Rattle.farm_serve.specs.Received.{ReceivesBadRequest}
-use Rattle.farm_serve.specs.Encoding.{IsEncoded, IsDenialEncoded, IsEncodedOne}
-use Rattle.farm_serve.specs.declared.fault.DeskFault.{DeskFault}
+use Rattle.farm_serve.specs.Names.{Encodes, IsDenialEncoded, IsEncoded, IsEncodedOne, IsResponse, IsResponseTo, out_of_answer, out_of_denial, out_of_refusal}
+use Rattle.farm_serve.specs.Names.{ReceivesBadRequest, RunsOutOfMemory}
 
 response_without_memory : {S : Type 0} (g : Ghosts S) (old new : KeeperState S) (what : Result Ask Denial) (bytes : List ℕ) (end : DeskFault)
     → end ≡ DeskFault.NoMemory → RunsOutOfMemory g old new what bytes → IsResponseTo g old new what bytes (Err end)
@@ -78,7 +66,7 @@ open_unless true h = refl
 open_unless false h = absurd (h refl)
 
 -- what the keeper returned then
-abbrev acted : KeepFault → Result Answer KeepFault
+abbrev pub acted : KeepFault → Result Answer KeepFault
 acted fault = Err fault
 
 -- a call at which the keeper returned a fault

@@ -1,15 +1,11 @@
 -- Conversations with one client after another.
-use Rattle.std.proofs.Common.{◌≡◌, ◌≢◌, ◌≤◌, ◌+◌, ◌⊎◌, ℕ, List, [], ◌∷◌, ◌++◌, Bool, true, false, length, map, refl, sym, ap, subst, ◌∙◌, arith, Some, None, Err, inl, inr}
+use Rattle.std.proofs.Common.{◌≡◌, ◌≢◌, ◌≤◌, ◌+◌, ◌⊎◌, ℕ, List, [], ◌∷◌, ◌++◌, Bool, true, false, length, map, refl, sym, ap, subst, ◌∙◌, arith, Some, None}
+use Rattle.std.proofs.Common.{Err, inl, inr}
 use Rattle.std.specs.Prelude.{Option, Result}
-use Rattle.std.proofs.lemmas.List.{append_assoc, append-nil, length-append, map-append}
-use Rattle.sqlite_trees.specs.declared.store.Store.{Ghosts}
-use Rattle.farm_keep.specs.KeeperState.{KeeperState}
-use Rattle.farm_serve.specs.Clients.{Accepts, Arrival, ClientList, Arrives, Departs, HasRoom, IsOver, Departure}
-use Rattle.farm_serve.specs.Conversations.{ConversesOnce, Desk, IsComplete, desk}
-use Rattle.farm_serve.specs.Response.{IsResponse}
-use Rattle.farm_serve.specs.Ends.{WritesAnswer, IsUnread}
-use Rattle.farm_serve.specs.Connections.{AreOf, ServesInTurn, Connection, AreServedInTurn}
-use Rattle.farm_serve.specs.declared.fault.DeskFault.{DeskFault}
+use Rattle.farm_serve.proofs.Names.{append_assoc, DeskFault, Ghosts, KeeperState, length-append}
+use Rattle.std.proofs.lemmas.List.{append-nil, map-append}
+use Rattle.farm_serve.specs.Names.{Accepts, AreOf, AreServedInTurn, Arrival, Arrives, ClientList, Connection, ConversesOnce, Departs, Departure, Desk, desk}
+use Rattle.farm_serve.specs.Names.{HasRoom, IsComplete, IsOver, IsResponse, IsUnread, ServesInTurn, WritesAnswer}
 use Rattle.farm_serve.proofs.ConverseLemmas.{no_room_within, written_in_part, written_too_long, written_whole}
 
 -- ---- one conversation

@@ -1,35 +1,23 @@
 -- Conversations in a row, one after another.
-use Rattle.std.proofs.Common.{◌≡◌, ◌⊎◌, ℕ, suc, ◌+◌, ◌<◌, true, false, List, [], ◌∷◌, ◌++◌, length, get_or, take, drop, map, refl, sym, ap, ◌∙◌, subst, inl, inr}
+use Rattle.std.proofs.Common.{◌≡◌, ◌⊎◌, ℕ, suc, ◌+◌, ◌<◌, true, false, List, [], ◌∷◌, ◌++◌, length, get_or, take, drop, map, refl, sym, ap, ◌∙◌, subst, inl}
+use Rattle.std.proofs.Common.{inr}
 use Rattle.std.specs.Prelude.{Option, Some, None, Result, Ok, Err, IsOk}
 use Rattle.std.specs.List.{AllByRecursion, flat_map}
 use Rattle.std.specs.Io.KnownBytes.{Appends, Consumes}
 use Rattle.std.proofs.KnownBytes.{Appends-trans}
 use Rattle.std.proofs.Math.Seq.{drop-cons}
-use Rattle.std.proofs.lemmas.List.{append_assoc, append-nil, map-append, take_more, take-append-drop}
+use Rattle.farm_serve.proofs.Names.{append_assoc, Ask, Call, Denial, DeskFault, fold-append, Ghosts, KeeperState, KeepsOwnFarm, Out}
+use Rattle.std.proofs.lemmas.List.{append-nil, map-append, take_more, take-append-drop}
 use Rattle.std.proofs.lemmas.List.Concat.{flat_map-append}
-use Rattle.std.proofs.lemmas.List.Sums.{fold-append}
-use Rattle.sqlite_trees.specs.declared.store.Store.{Ghosts}
-use Rattle.farm_types.specs.Farm.{Farm}
-use Rattle.farm_types.specs.Machine.{answer, step, run}
-use Rattle.farm_types.specs.Refuse.{kind_of}
-use Rattle.farm_types.specs.declared.calls.Call.{Call}
+use Rattle.farm_types.specs.Names.{answer, Farm, kind_of, run, step}
 use Rattle.farm_types.specs.declared.rows.Reply.{Reply}
-use Rattle.farm_keep.specs.KeeperState.{KeeperState, KeepsOwnFarm}
 use Rattle.farm_keep.specs.Restarts.{answer_again}
 use Rattle.farm_keep.proofs.KeptLemmas.{again_kept}
 use Rattle.farm_http.specs.Room.{KeepsRoom, RoomLeft}
 use Rattle.farm_http.proofs.Room.{room_left}
-use Rattle.farm_wire.specs.Reading.{Denial}
-use Rattle.farm_wire.specs.declared.ask.Ask.{Ask}
-use Rattle.farm_wire.specs.declared.ask.View.{View}
-use Rattle.farm_wire.specs.declared.answers.Out.{Out}
-use Rattle.farm_serve.specs.Received.{Asks, Receives}
-use Rattle.farm_serve.specs.Answers.{Answers, Encodes, ShowsView, IsView, out_of_denial, out_of_answer}
-use Rattle.farm_serve.specs.Response.{IsResponse}
-use Rattle.farm_serve.specs.Ends.{IsAnswered}
-use Rattle.farm_serve.specs.Serving.{Reaches}
-use Rattle.farm_serve.specs.Conversations.{Desk, Converses, IsComplete, Conversation, ConverseInTurn, ConverseApart, AnswersAll, StopsAt, Exchange, conversation_of, call_asked, calls_of, IsMachineAnswer, AreAnswered, ActAsRun, AnsweredActAsRun, IsSentAgain}
-use Rattle.farm_serve.specs.declared.fault.DeskFault.{DeskFault}
+use Rattle.farm_serve.specs.Names.{ActAsRun, AnsweredActAsRun, Answers, AnswersAll, AreAnswered, Asks, call_asked, calls_of, Conversation, conversation_of}
+use Rattle.farm_serve.specs.Names.{ConverseApart, ConverseInTurn, Converses, Desk, Encodes, Exchange, IsAnswered, IsComplete, IsMachineAnswer, IsResponse}
+use Rattle.farm_serve.specs.Names.{IsSentAgain, out_of_answer, out_of_denial, Reaches, Receives, StopsAt}
 
 -- ---- two lists
 
@@ -44,9 +32,6 @@ together g [] second old between new a b = subst (λ desk. ConverseInTurn g seco
 together g (conversation ∷ first) second old between new a b = (a.0, a.1, together g first second a.0 between new a.2 b)
 
 -- ---- at moments
-
-pub none_yet : {S : Type 0} (g : Ghosts S) (old : Desk S) → AnswersAll g old old []
-none_yet g old = record { conversations = []; at_moments = refl; answered = tt; in_turn = refl }
 
 all_answered : (conversations : List Conversation) (last : Conversation) → AllByRecursion (λ conversation. IsOk conversation.end) conversations → IsOk last.end → AllByRecursion (λ conversation. IsOk conversation.end) (conversations ++ last ∷ [])
 all_answered [] last all ok = (ok, tt)
@@ -140,10 +125,6 @@ reaches_nothing g old new unchanged =
       farm = ap (λ k. k.farm.farm) unchanged;
       keeps = λ keeps. subst (λ k. KeepsOwnFarm g k) (sym unchanged) keeps;
     }
-
-shown : {S : Type 0} (g : Ghosts S) (old new : KeeperState S) (view : View) (bytes : List ℕ) (status : ℕ)
-    → ShowsView old new view bytes status → (out : Out) × IsView view old.farm.farm out × Encodes out bytes status × Reaches g old new []
-shown g old new view bytes status a = (a.out, a.shows, a.encodes, reaches_nothing g old new a.unchanged)
 
 pub reached : {S : Type 0} (g : Ghosts S) (old new : KeeperState S) (asked : Result Ask Denial) (bytes : List ℕ) (status : ℕ)
     → Answers g old new asked bytes status → IsReached g old new asked bytes status

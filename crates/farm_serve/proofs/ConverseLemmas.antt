@@ -1,8 +1,8 @@
 -- An answer that was written, or lost.
 use Rattle.std.proofs.Common.{◌≡◌, ◌≢◌, ℕ, List, Bool, true, false, length, subst, Err}
 use Rattle.std.specs.Prelude.{Option, Result}
-use Rattle.farm_serve.specs.Ends.{Writes, IsAnswered, WritesAnswer, EndsWritten, HasNoRoom, IsUnwritten}
-use Rattle.farm_serve.specs.declared.fault.DeskFault.{DeskFault}
+use Rattle.farm_serve.specs.Names.{EndsWritten, HasNoRoom, IsAnswered, IsUnwritten, Writes, WritesAnswer}
+use Rattle.farm_serve.proofs.Names.{DeskFault}
 
 not_read : (end : Result ℕ DeskFault) → EndsWritten end → end ≢ Err DeskFault.Read
 not_read (Err DeskFault.Read) written_end e = absurd written_end

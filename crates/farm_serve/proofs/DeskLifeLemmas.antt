@@ -1,24 +1,13 @@
 -- What a stop leaves of each life of a desk is found again by the next.
 use Rattle.std.proofs.Common.{◌≡◌, List, [], ◌∷◌, ◌++◌, refl, sym, ap, ◌∙◌, subst, arith}
-use Rattle.std.proofs.lemmas.List.{append_assoc}
-use Rattle.std.proofs.lemmas.List.Sums.{fold-append}
-use Rattle.sqlite.specs.Held.{Held, state}
+use Rattle.farm_serve.proofs.Names.{append_assoc, Call, fold-append, Ghosts, Holds, IsSound-run, KeeperState, KeepsOwnFarm, rows_of, state, Trees}
+use Rattle.sqlite.specs.Held.{Held}
 use Rattle.sqlite.specs.State.{HasCleanDisk}
-use Rattle.sqlite.specs.Tree.{Trees}
-use Rattle.sqlite_trees.specs.declared.store.Store.{Ghosts}
-use Rattle.farm_types.specs.Farm.{Farm}
-use Rattle.farm_types.specs.Machine.{step, run}
-use Rattle.farm_types.specs.Sound.{IsSound}
-use Rattle.farm_types.specs.declared.calls.Call.{Call}
-use Rattle.farm_sound.proofs.Step.{IsSound-run}
-use Rattle.farm_store.specs.Columns.{rows_of}
-use Rattle.farm_store.specs.Holds.{Holds, Stands}
-use Rattle.farm_keep.specs.KeeperState.{KeeperState, KeepsOwnFarm}
+use Rattle.farm_types.specs.Names.{Farm, IsSound, run, step}
+use Rattle.farm_store.specs.Holds.{Stands}
 use Rattle.farm_keep.specs.Lives.{OpensOn}
 use Rattle.farm_keep.proofs.LifeLemmas.{StandsOpened}
-use Rattle.farm_serve.specs.Connections.{Connection}
-use Rattle.farm_serve.specs.DeskLives.{AreDeskLives, DeskLife, IsDeskLife, IsServedLife, all_connections, connections_of}
-use Rattle.farm_serve.specs.Stops.{Do}
+use Rattle.farm_serve.specs.Names.{all_connections, AreDeskLives, Connection, connections_of, DeskLife, Do, IsDeskLife, IsServedLife}
 use Rattle.farm_serve.proofs.StopLemmas.{LeftServed, served_left}
 
 -- ---- connections of one list and then of another

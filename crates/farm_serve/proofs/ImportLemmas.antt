@@ -1,25 +1,17 @@
 -- One more call of an import, and how an import ends.
 use Rattle.std.proofs.Common.{◌≡◌, ◌≤◌, ◌<◌, ◌↔◌, ◌+◌, ℕ, List, [], ◌∷◌, ◌++◌, Bool, false, cond, take, length, get_or, refl, sym, ap, ◌∙◌, subst, arith, Err}
-use Rattle.std.specs.Prelude.{Option, Some, None, Result}
+use Rattle.std.specs.Prelude.{Some, None}
 use Rattle.std.specs.List.{count_by}
 use Rattle.std.proofs.lemmas.List.{take_all}
 use Rattle.std.proofs.lemmas.List.Sums.{sum_by-append}
-use Rattle.sqlite_trees.specs.declared.store.Store.{Ghosts}
-use Rattle.farm_types.specs.Farm.{Farm}
-use Rattle.farm_types.specs.Machine.{Answered, Changed, Repeated, Denied, answer, step, run}
-use Rattle.farm_types.specs.declared.calls.Answer.{Answer}
-use Rattle.farm_types.specs.declared.calls.Call.{Call}
-use Rattle.farm_types.specs.declared.refusal.Refusal.{Refusal}
-use Rattle.farm_core.specs.Answers.{IsChange, answer_of}
+use Rattle.farm_serve.proofs.Names.{Call, DeskFault, Ghosts, IsChange, KeeperState, KeepFault, KeepsEither, KeepsFarm, KeepsOwnFarm}
+use Rattle.farm_types.specs.Names.{answer, Answered, Changed, Denied, Farm, Repeated, run, step}
+use Rattle.farm_types.specs.declared.rows.Reply.{Reply}
 use Rattle.farm_keep.specs.Faults.{IsActFault}
-use Rattle.farm_keep.specs.KeeperState.{KeeperState, KeepsOwnFarm, KeepsFarm, KeepsEither, IfNoChange}
-use Rattle.farm_keep.specs.Runs.{answers_of}
-use Rattle.farm_keep.specs.declared.fault.KeepFault.{KeepFault}
+use Rattle.farm_keep.specs.Headline.{answers_of}
 use Rattle.farm_keep.proofs.RunLemmas.{answers_more, next_change, run_more}
-use Rattle.farm_serve.specs.declared.fault.DeskFault.{DeskFault}
-use Rattle.farm_serve.specs.declared.lab_import.ImportEnd.{ImportEnd}
-use Rattle.farm_serve.specs.Serving.{Reaches}
-use Rattle.farm_serve.specs.Imports.{Counts, EndsBy, IsCounted, IsStopped, ImportsAll, is_accepted, is_kept}
+use Rattle.farm_serve.specs.Names.{EndsBy, ImportsAll, is_accepted, is_kept, IsCounted, IsStopped, Reaches}
+use Rattle.farm_serve.proofs.AnswerLemmas.{acted}
 
 -- ---- one more call
 
@@ -66,41 +58,17 @@ counted_more F G calls i call answered accepted kept accepted' kept' turn one_ac
       ∙ sym (one_more is_kept F G calls i call answered turn) ∙ ap (so_far is_kept F calls) (sym all);
 }
 
--- the counts after one call more
-pub record GoesOn (F : Farm) (calls : List Call) (i : ℕ) (old new : ImportEnd) : Type 0 where
-  pub done : new.accepted + new.kept ≡ i
-  pub counted : IsCounted F calls new.accepted new.kept
-  pub stopped : new.stopped ≡ old.stopped
-  pub fault : new.fault ≡ old.fault
+-- the next call was accepted
+pub counted_accepted : (F G : Farm) (calls : List Call) (i : ℕ) (call : Call) (reply : Reply) (accepted kept : ℕ) → IsNext F G calls i call (Changed reply)
+    → accepted + kept ≡ i → IsCounted F calls accepted kept → IsCounted F calls (accepted + 1) kept
+counted_accepted F G calls i call reply accepted kept turn done was =
+    counted_more F G calls i call (Changed reply) accepted kept (accepted + 1) kept turn refl (omega arith) (omega (arith, done)) done was
 
--- the next call was counted
-pub counts_on : (F G : Farm) (calls : List Call) (i : ℕ) (call : Call) (answered : Answered) (old new : ImportEnd) (refusal : Option Refusal)
-    → IsNext F G calls i call answered → old.accepted + old.kept ≡ i → IsCounted F calls old.accepted old.kept
-    → refusal ≡ None → Counts answered old new refusal → GoesOn F calls (i + 1) old new
-counts_on F G calls i call (Changed reply) old new refusal turn done was none counts = subst (GoesOn F calls (i + 1) old) (sym counts.0) (record {
-  done = omega (arith, done);
-  counted = counted_more F G calls i call (Changed reply) old.accepted old.kept (old.accepted + 1) old.kept turn refl (omega arith) (omega (arith, done)) done was;
-  stopped = refl;
-  fault = refl;
-})
-counts_on F G calls i call (Repeated reply) old new refusal turn done was none counts = subst (GoesOn F calls (i + 1) old) (sym counts.0) (record {
-  done = omega (arith, done);
-  counted = counted_more F G calls i call (Repeated reply) old.accepted old.kept old.accepted (old.kept + 1) turn (omega arith) refl (omega (arith, done)) done was;
-  stopped = refl;
-  fault = refl;
-})
-counts_on F G calls i call (Denied code) old new refusal turn done was none counts = absurd (let e = sym none ∙ counts.1 in cc)
-
--- the next call was refused
-pub counts_out : (answered : Answered) (old new : ImportEnd) (given : Option Refusal) (refusal : Refusal)
-    → given ≡ Some refusal → Counts answered old new given → (answered ≡ Denied refusal.code) × (new ≡ old)
-counts_out (Changed reply) old new given refusal some counts = absurd (let e = sym some ∙ counts.1 in cc)
-counts_out (Repeated reply) old new given refusal some counts = absurd (let e = sym some ∙ counts.1 in cc)
-counts_out (Denied code) old new given refusal some counts = (ap code_given (sym counts.1 ∙ some), counts.0)
-  where
-    code_given : Option Refusal → Answered
-    code_given None = Denied code
-    code_given (Some r) = Denied r.code
+-- or had been before
+pub counted_kept : (F G : Farm) (calls : List Call) (i : ℕ) (call : Call) (reply : Reply) (accepted kept : ℕ) → IsNext F G calls i call (Repeated reply)
+    → accepted + kept ≡ i → IsCounted F calls accepted kept → IsCounted F calls accepted (kept + 1)
+counted_kept F G calls i call reply accepted kept turn done was =
+    counted_more F G calls i call (Repeated reply) accepted kept accepted (kept + 1) turn (omega arith) refl (omega (arith, done)) done was
 
 -- ---- how it ends
 
@@ -126,16 +94,6 @@ whole_at g old new calls i done far same within opened farm keeps = record {
   reaches = record { opened = opened; farm = farm ∙ ap (run old.farm.farm) (take_all i calls far); keeps = keeps };
 }
 
--- a refusal leaves the keeper
-pub unchanged_when_denied : (a : Answer) (code : ℕ) (P : Type 0) → answer_of a ≡ Denied code → IfNoChange a P → P
-unchanged_when_denied (Answer.Did reply changes) code P denied unchanged = absurd (cc)
-unchanged_when_denied (Answer.Kept reply) code P denied unchanged = unchanged
-unchanged_when_denied (Answer.Refused refusal) code P denied unchanged = unchanged
-
--- what the keeper returned then
-abbrev acted : KeepFault → Result Answer KeepFault
-acted fault = Err fault
-
 -- the keeper returned a fault at a call
 pub faulted_at : {S : Type 0} (g : Ghosts S) (old mid new : KeeperState S) (calls : List Call) (i done : ℕ) (call : Call) (fault : KeepFault)
     → i < length calls → call ≡ get_or calls i call → mid.farm.farm ≡ run old.farm.farm (take i calls) → done ≡ i
@@ -153,7 +111,7 @@ faulted_at g old mid new calls i done call KeepFault.NoMemory low here before sa
       within = low;
       change = next_change old.farm.farm mid.farm.farm calls i call low here before lacks.2;
       is_closed = lacks.0;
-      keeps = λ kept. subst (KeepsFarm g new) before (subst (λ c. KeepsFarm g (record { conn = c; farm = mid.farm; is_open = mid.is_open }) mid.farm.farm) (sym lacks.1) (keeps kept));
+      leaves = λ kept. subst (KeepsFarm g new) before (subst (λ c. KeepsFarm g (record { conn = c; farm = mid.farm; is_open = mid.is_open }) mid.farm.farm) (sym lacks.1) (keeps kept));
     })
 faulted_at g old mid new calls i done call KeepFault.Store low here before same opened keeps still memory store closed unchanged other =
     let loses = store refl in

@@ -1,3 +1,4 @@
+pub mod Names
 mod AnswerLemmas
 mod ReceivedLemmas
 mod ConverseLemmas

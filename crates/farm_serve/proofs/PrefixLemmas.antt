@@ -2,25 +2,13 @@
 use Rattle.std.proofs.Common.{◌≡◌, ◌⊎◌, ℕ, Bool, true, false, List, [], ◌∷◌, ◌++◌, refl, sym, ap, ◌∙◌, subst, inl, inr}
 use Rattle.std.specs.Prelude.{Result, Ok, Err}
 use Rattle.std.specs.Io.KnownBytes.{Appends}
-use Rattle.std.proofs.lemmas.List.Sums.{fold-append}
-use Rattle.sqlite_trees.specs.declared.store.Store.{Ghosts}
-use Rattle.sqlite.specs.Held.{state}
-use Rattle.farm_types.specs.Farm.{Farm}
-use Rattle.farm_types.specs.Machine.{answer, step, run}
-use Rattle.farm_types.specs.declared.calls.Call.{Call}
-use Rattle.farm_core.specs.Answers.{IsChange}
+use Rattle.farm_serve.proofs.Names.{Ask, Call, Denial, DeskFault, fold-append, Ghosts, IsChange, KeeperState, KeepFault, KeepsEither, KeepsFarm, KeepsOwnFarm}
+use Rattle.farm_serve.proofs.Names.{Out, state}
+use Rattle.farm_types.specs.Names.{answer, Farm, run, step}
 use Rattle.farm_store.specs.Holds.{StandsFor}
-use Rattle.farm_keep.specs.KeeperState.{KeeperState, KeepsOwnFarm, KeepsFarm, KeepsEither}
-use Rattle.farm_keep.specs.declared.fault.KeepFault.{KeepFault}
-use Rattle.farm_wire.specs.Reading.{Denial}
-use Rattle.farm_wire.specs.declared.ask.Ask.{Ask}
-use Rattle.farm_wire.specs.declared.answers.Out.{Out}
-use Rattle.farm_serve.specs.Answers.{Encodes}
-use Rattle.farm_serve.specs.Received.{Receives}
-use Rattle.farm_serve.specs.Response.{IsResponse, IsResponseTo, UnchangedOrDone, IsCause}
-use Rattle.farm_serve.specs.Serving.{Reaches}
-use Rattle.farm_serve.specs.Conversations.{Desk, Converses, Conversation, ConverseInTurn, call_asked, AsksCalls, DoesAsked, IsMachineAnswer, LeavesOpen, LeavesBy, IsClosing, OpenKeepsDone, ClosedKeepsPrefix}
-use Rattle.farm_serve.specs.declared.fault.DeskFault.{DeskFault}
+use Rattle.farm_serve.specs.Names.{AsksCalls, call_asked, ClosedKeepsPrefix, Conversation, ConverseInTurn, Converses, Desk, DoesAsked, Encodes, IsCause}
+use Rattle.farm_serve.specs.Names.{IsClosing, IsMachineAnswer, IsResponse, IsResponseTo, LeavesBy, LeavesOpen, OpenKeepsDone, Reaches, Receives}
+use Rattle.farm_serve.specs.Names.{UnchangedOrDone}
 use Rattle.farm_serve.proofs.ConversationLemmas.{HasResponse, has_response, reached, reaches_nothing, reaches_on}
 
 -- ---- open or closed

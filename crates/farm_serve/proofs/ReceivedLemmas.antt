@@ -1,22 +1,18 @@
 -- What was read and what it means, joined.
 use Rattle.std.proofs.Common.{◌≡◌, ℕ, List, drop, refl, Ok, Err, inl, inr, subst}
 use Rattle.std.specs.Prelude.{Option, Some, None, Result, IfSome}
+use Rattle.farm_types.specs.Names.{FaultOrNoMemory}
 use Rattle.farm_types.specs.declared.refusal.Refusal.{Refusal}
 use Rattle.farm_http.specs.Request.{Request, request_of}
 use Rattle.farm_http.specs.Requests.{IsRequest, ParsesTo}
-use Rattle.farm_http.specs.Faults.{FailsAfter, TakesFrom}
-use Rattle.farm_http.specs.Turns.{Turns, IsSpent, IsSpentBy}
-use Rattle.farm_types.specs.Limits.{most_reads}
+use Rattle.farm_http.specs.Faults.{TakesFrom}
 use Rattle.farm_http.specs.declared.taken.Taken.{Taken}
 use Rattle.farm_http.specs.declared.fault.WireFault.{WireFault}
-use Rattle.farm_http.specs.declared.fault.WireFault.TheVariants.{NoMemory, Read, Write, Refused}
+use Rattle.farm_http.specs.declared.fault.WireFault.TheVariants.{NoMemory, Refused}
 use Rattle.farm_wire.specs.Asked.{ask}
-use Rattle.farm_types.specs.Reads.{FaultOrNoMemory}
-use Rattle.farm_wire.specs.Reading.{Denial, denial_of, refused, other_methods}
-use Rattle.farm_wire.specs.declared.ask.Ask.{Ask}
-use Rattle.farm_wire.specs.declared.fault.AskFault.{AskFault}
-use Rattle.farm_serve.specs.Received.{plain_ask, receive_error, IsMeant, Asks, Receives, ReceivesWhole, ReceivesResult}
-use Rattle.farm_serve.specs.declared.conversation.ReceiveError.{ReceiveError}
+use Rattle.farm_serve.proofs.Names.{Ask, AskFault, Denial}
+use Rattle.farm_wire.specs.Reading.{denial_of, refused, other_methods}
+use Rattle.farm_serve.specs.Names.{Asks, IsMeant, plain_ask, Receives, ReceivesBadRequest, ReceivesWhole}
 
 -- what was taken of a reader whose bytes are known
 abbrev pub Known : Option (List ℕ) → Option (List ℕ) → Result Taken WireFault → Type 0
@@ -71,22 +67,13 @@ pub receives_nothing : (input rest : Option (List ℕ))
 receives_nothing None rest known = tt
 receives_nothing (Some bytes) rest known = record { used = known.0; taken = known.1; whole = inl known.2 }
 
--- no request was read
-pub receive_fails : (input rest : Option (List ℕ)) (now left : ℕ) (old new : Option Turns) (fault : WireFault)
-    → Known input rest (Err fault) → FailsAfter input rest fault → IsSpentBy most_reads left old new fault
-    → ReceivesResult input rest now (IsSpent most_reads old new) (Err (receive_error fault))
-receive_fails input rest now left old new NoMemory known fails spent = receives_nothing input rest known
-receive_fails input rest now left old new Read known fails spent = spent
-receive_fails input rest now left old new Write known fails spent = absurd fails.2
-receive_fails input rest now left old new (Refused refusal) known fails spent = receives_refused input rest now refusal known
-
 -- one was read, and it asks nothing
-pub receives_bad_request : (input rest : Option (List ℕ)) (now : ℕ) (Spent : Type 0) (taken : Taken) (fault : AskFault)
+pub receives_bad_request : (input rest : Option (List ℕ)) (now : ℕ) (taken : Taken) (fault : AskFault)
     → Known input rest (Ok taken)
     → ((request : Request) → ParsesTo taken.bytes.items taken.head request → FaultOrNoMemory (denial_of fault) (ask request now))
-    → ReceivesResult input rest now Spent (Err (ReceiveError.BadRequest fault))
-receives_bad_request input rest now Spent taken AskFault.NoMemory known means = receives_whole input rest taken known
-receives_bad_request input rest now Spent taken (AskFault.Refused refusal) known means =
+    → ReceivesBadRequest input rest now fault
+receives_bad_request input rest now taken AskFault.NoMemory known means = receives_whole input rest taken known
+receives_bad_request input rest now taken (AskFault.Refused refusal) known means =
     receives_meant input rest now taken (Err (refused refusal.code)) known means
-receives_bad_request input rest now Spent taken (AskFault.Method allowed) known means =
+receives_bad_request input rest now taken (AskFault.Method allowed) known means =
     receives_meant input rest now taken (Err (other_methods allowed)) known means

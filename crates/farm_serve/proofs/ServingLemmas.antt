@@ -1,22 +1,10 @@
 -- What a conversation makes of a keeper, and one connection after others.
 use Rattle.std.proofs.Common.{◌≡◌, ◌≢◌, ◌≤◌, ◌+◌, ℕ, List, [], ◌∷◌, ◌++◌, true, refl, sym, ap, ◌∙◌, subst, arith, Ok, Err, inl, inr}
 use Rattle.std.specs.Prelude.{Option, Result}
-use Rattle.std.proofs.lemmas.List.{length-append}
-use Rattle.std.proofs.lemmas.List.Sums.{fold-append}
-use Rattle.sqlite_trees.specs.declared.store.Store.{Ghosts}
-use Rattle.farm_types.specs.Farm.{Farm}
-use Rattle.farm_types.specs.Machine.{answer, run, step}
-use Rattle.farm_types.specs.declared.calls.Call.{Call}
-use Rattle.farm_core.specs.Answers.{IsChange}
-use Rattle.farm_keep.specs.KeeperState.{KeeperState, KeepsOwnFarm, KeepsEither, KeepsFarm}
-use Rattle.farm_keep.specs.declared.fault.KeepFault.{KeepFault}
-use Rattle.farm_wire.specs.Reading.{Denial}
-use Rattle.farm_wire.specs.declared.ask.Ask.{Ask}
-use Rattle.farm_serve.specs.Answers.{Answers}
-use Rattle.farm_serve.specs.Response.{Closes, IsResponse, IsResponseTo, UnchangedOrDone}
-use Rattle.farm_serve.specs.Ends.{WritesAnswer}
-use Rattle.farm_serve.specs.Serving.{ServingCloses, PassesOn, ServesClients, ServesUntil}
-use Rattle.farm_serve.specs.declared.fault.DeskFault.{DeskFault}
+use Rattle.farm_serve.proofs.Names.{Ask, Call, Denial, DeskFault, fold-append, Ghosts, IsChange, KeeperState, KeepFault, KeepsFarm, KeepsOwnFarm, length-append}
+use Rattle.farm_types.specs.Names.{answer, Farm, run, step}
+use Rattle.farm_serve.specs.Names.{Answers, Closes, IsResponse, IsResponseTo, LeavesAfter, PassesOn, ServesClients, ServesUntil, ServingCloses, UnchangedOrDone}
+use Rattle.farm_serve.specs.Names.{WritesAnswer}
 
 -- ---- one connection
 
@@ -118,19 +106,19 @@ conversation_serves g old new input rest now Room failed held holds end writes o
 run_on : (F G : Farm) (before calls : List Call) → G ≡ run F before → run G calls ≡ run F (before ++ calls)
 run_on F G before calls farm = ap (λ H. run H calls) farm ∙ sym (fold-append step F before calls)
 
-closes_on : {S : Type 0} (g : Ghosts S) (old mid new : KeeperState S) (n : ℕ) (Leaves Leaves' : List Call → Call → Type 0)
-    → (first : ServesClients g old mid n) → ServingCloses g mid new 1 Leaves
-    → ((calls : List Call) (call : Call) → Leaves calls call → Leaves' (first.calls ++ calls) call)
-    → ServingCloses g old new (n + 1) Leaves'
-closes_on g old mid new n Leaves Leaves' first last further = record {
-  was_open = first.was_open;
-  is_closed = last.is_closed;
-  calls = first.calls ++ last.calls;
-  call = last.call;
-  few = omega (arith, first.few, last.few, length-append first.calls last.calls);
-  change = subst (λ F. IsChange (answer F last.call)) (run_on old.farm.farm mid.farm.farm first.calls last.calls first.reaches.farm) last.change;
-  leaves = λ keeps. further last.calls last.call (last.leaves (first.reaches.keeps keeps));
-}
+closes_on : {S : Type 0} (g : Ghosts S) (old mid new : KeeperState S) (n : ℕ) (fault : KeepFault)
+    → ServesClients g old mid n → ServingCloses g mid new 1 fault → ServingCloses g old new (n + 1) fault
+closes_on g old mid new n fault first last =
+    let same = run_on old.farm.farm mid.farm.farm first.calls last.calls first.reaches.farm in
+    record {
+      was_open = first.was_open;
+      is_closed = last.is_closed;
+      calls = first.calls ++ last.calls;
+      call = last.call;
+      few = omega (arith, first.few, last.few, length-append first.calls last.calls);
+      change = subst (λ F. IsChange (answer F last.call)) same last.change;
+      leaves = λ keeps. subst (λ F. LeavesAfter g new fault F (step F last.call)) same (last.leaves (first.reaches.keeps keeps));
+    }
 
 -- one more connection is served
 pub serves_next : {S A : Type 0} (g : Ghosts S) (old mid new : KeeperState S) (n : ℕ) (end : Result A DeskFault)
@@ -145,20 +133,15 @@ serves_next g old mid new n (Ok done) first last = record {
     keeps = λ keeps. last.reaches.keeps (first.reaches.keeps keeps);
   };
 }
-serves_next g old mid new n (Err (DeskFault.Keep KeepFault.NoMemory)) first last =
-    closes_on g old mid new n (λ calls call. KeepsFarm g new (run mid.farm.farm calls)) (λ calls call. KeepsFarm g new (run old.farm.farm calls)) first last
-    (λ calls call kept. subst (KeepsFarm g new) (run_on old.farm.farm mid.farm.farm first.calls calls first.reaches.farm) kept)
-serves_next g old mid new n (Err (DeskFault.Keep KeepFault.Store)) first last =
-    closes_on g old mid new n (λ calls call. KeepsEither g new (run mid.farm.farm calls) (step (run mid.farm.farm calls) call))
-    (λ calls call. KeepsEither g new (run old.farm.farm calls) (step (run old.farm.farm calls) call)) first last
-    (λ calls call kept. subst (λ F. KeepsEither g new F (step F call)) (run_on old.farm.farm mid.farm.farm first.calls calls first.reaches.farm) kept)
+serves_next g old mid new n (Err (DeskFault.Keep KeepFault.NoMemory)) first last = closes_on g old mid new n KeepFault.NoMemory first last
+serves_next g old mid new n (Err (DeskFault.Keep KeepFault.Store)) first last = closes_on g old mid new n KeepFault.Store first last
 serves_next g old mid new n (Err (DeskFault.Keep KeepFault.Closed)) first last =
     absurd (let e = sym last.was_closed ∙ first.reaches.opened ∙ first.was_open in cc)
 serves_next g old mid new n end first last = absurd last
 
-closes_within : {S : Type 0} (g : Ghosts S) (old new : KeeperState S) (n max : ℕ) (Leaves : List Call → Call → Type 0) → n ≤ max
-    → ServingCloses g old new n Leaves → ServingCloses g old new max Leaves
-closes_within g old new n max Leaves less closes = record {
+closes_within : {S : Type 0} (g : Ghosts S) (old new : KeeperState S) (n max : ℕ) (fault : KeepFault) → n ≤ max
+    → ServingCloses g old new n fault → ServingCloses g old new max fault
+closes_within g old new n max fault less closes = record {
   was_open = closes.was_open;
   is_closed = closes.is_closed;
   calls = closes.calls;
@@ -173,9 +156,7 @@ pub serves_within : {S A : Type 0} (g : Ghosts S) (old new : KeeperState S) (n m
     → ServesUntil g old new n end → ServesUntil g old new max end
 serves_within g old new n max (Ok done) less serves =
     record { was_open = serves.was_open; calls = serves.calls; few = omega (arith, less, serves.few); reaches = serves.reaches }
-serves_within g old new n max (Err (DeskFault.Keep KeepFault.NoMemory)) less serves =
-    closes_within g old new n max (λ calls call. KeepsFarm g new (run old.farm.farm calls)) less serves
-serves_within g old new n max (Err (DeskFault.Keep KeepFault.Store)) less serves =
-    closes_within g old new n max (λ calls call. KeepsEither g new (run old.farm.farm calls) (step (run old.farm.farm calls) call)) less serves
+serves_within g old new n max (Err (DeskFault.Keep KeepFault.NoMemory)) less serves = closes_within g old new n max KeepFault.NoMemory less serves
+serves_within g old new n max (Err (DeskFault.Keep KeepFault.Store)) less serves = closes_within g old new n max KeepFault.Store less serves
 serves_within g old new n max (Err (DeskFault.Keep KeepFault.Closed)) less serves = serves
 serves_within g old new n max end less serves = absurd serves

@@ -1,28 +1,17 @@
 -- What a stop leaves after connections, or after an import, is found again.
-use Rattle.std.proofs.Common.{◌≡◌, ◌⊎◌, ◌+◌, ℕ, Bool, true, false, List, [], ◌∷◌, ◌++◌, ◌≤◌, length, take, Option, Some, None, refl, sym, ap, ◌∙◌, subst, inl, inr, arith}
+use Rattle.std.proofs.Common.{◌≡◌, ◌⊎◌, ◌+◌, ℕ, Bool, true, false, List, [], ◌∷◌, ◌++◌, ◌≤◌, length, take, Option, Some, None, refl, sym, ap, ◌∙◌, subst, inl}
+use Rattle.std.proofs.Common.{inr, arith}
 use Rattle.std.specs.Prelude.{Result, Ok, Err}
 use Rattle.std.proofs.Math.Seq.{take-length}
-use Rattle.std.proofs.lemmas.List.{length-append}
-use Rattle.std.proofs.lemmas.List.Sums.{fold-append}
-use Rattle.sqlite.specs.Held.{state}
+use Rattle.farm_serve.proofs.Names.{Call, DeskFault, fold-append, Ghosts, Holds, KeeperState, KeepFault, KeepsFarm, KeepsOwnFarm, length-append, rows_of, state}
+use Rattle.farm_serve.proofs.Names.{Trees}
 use Rattle.sqlite.specs.State.{HasCleanDisk}
-use Rattle.sqlite.specs.Tree.{Trees}
-use Rattle.sqlite_trees.specs.declared.store.Store.{Ghosts}
-use Rattle.farm_types.specs.Farm.{Farm}
-use Rattle.farm_types.specs.Machine.{step, run}
-use Rattle.farm_types.specs.declared.calls.Call.{Call}
-use Rattle.farm_store.specs.Columns.{rows_of}
-use Rattle.farm_store.specs.Holds.{Holds}
+use Rattle.farm_types.specs.Names.{Farm, run, step}
 use Rattle.farm_types.specs.declared.refusal.Refusal.{Refusal}
-use Rattle.farm_keep.specs.KeeperState.{KeeperState, KeepsFarm, KeepsOwnFarm}
-use Rattle.farm_keep.specs.declared.fault.KeepFault.{KeepFault}
-use Rattle.farm_serve.specs.Serving.{Reaches, ServesUntil}
-use Rattle.farm_serve.specs.Conversations.{Converses, call_asked, desk, AsksCalls, DoesAsked, IsClosing, LeavesBy}
-use Rattle.farm_serve.specs.Connections.{AreServedInTurn, Connection, IsConnection}
-use Rattle.farm_serve.specs.Imports.{EndsBy, Imports, ImportsBy, done_by}
-use Rattle.farm_serve.specs.Stops.{Do, Does, GivesCalls, GivesImported}
+use Rattle.farm_serve.specs.Names.{AreServedInTurn, AsksCalls, call_asked, Connection, Converses, desk, Do, DoesAsked, done_by, EndsBy, GivesCalls}
+use Rattle.farm_serve.specs.Names.{GivesImported, Imports, ImportsBy, IsClosing, IsConnection, LeavesBy, Reaches, ServesUntil}
+use Rattle.farm_serve.specs.Stops.{Does}
 use Rattle.farm_serve.specs.declared.lab_import.ImportEnd.{ImportEnd}
-use Rattle.farm_serve.specs.declared.fault.DeskFault.{DeskFault}
 use Rattle.farm_serve.proofs.PrefixLemmas.{both_ways, cut, lost_part, whole_part}
 
 -- ---- a connection that leaves the keeper open
@@ -187,7 +176,7 @@ ended_left g old new calls done None None db it keeps clean may =
 ended_left g old new calls done (Some stop) None db it keeps clean may =
     kept_left g new new.farm.farm old.farm.farm calls done None db it.reaches.farm (it.reaches.keeps keeps) clean may
 ended_left g old new calls done None (Some (DeskFault.Keep KeepFault.NoMemory)) db it keeps clean may =
-    kept_left g new (run old.farm.farm (take done calls)) old.farm.farm calls done (Some (DeskFault.Keep KeepFault.NoMemory)) db refl (it.keeps keeps) clean may
+    kept_left g new (run old.farm.farm (take done calls)) old.farm.farm calls done (Some (DeskFault.Keep KeepFault.NoMemory)) db refl (it.leaves keeps) clean may
 ended_left g old new calls done None (Some (DeskFault.Keep KeepFault.Store)) db it keeps clean may = elim (it.leaves keeps clean db may) [
   | inl before ↦ record { n = done; counts = inl refl; holds = before }
   | inr after ↦ record { n = done + 1; counts = inr (refl, refl); holds = after }

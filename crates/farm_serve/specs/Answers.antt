@@ -1,23 +1,17 @@
--- What is answered to what was asked, and what becomes of the keeper.
-use Rattle.std.specs.Prelude.{◌≡◌, ℕ, true, List, map, Option, Some, None, Result, Ok, Err}
+-- What is answered to what was asked, its bytes, and what becomes of the keeper.
+use Rattle.std.specs.Prelude.{◌≡◌, ℕ, true, List, map, Some, None, Result, Ok, Err}
 use Rattle.sqlite_trees.specs.declared.store.Store.{Ghosts}
-use Rattle.farm_types.specs.Farm.{Farm, job_of, status_of}
-use Rattle.farm_types.specs.Machine.{Answered, Changed, Repeated, Denied, answer, step}
-use Rattle.farm_types.specs.Pick.{queue, shown_claim}
-use Rattle.farm_types.specs.Refuse.{kind_of}
+use Rattle.farm_types.specs.Names.{answer, Answered, Changed, Denied, Farm, job_of, kind_of, no_job, no_memory, queue, Repeated, shown_claim, status_of, step}
 use Rattle.farm_types.specs.declared.calls.Call.{Call}
-use Rattle.farm_types.specs.declared.claims.Claim.{Claim}
-use Rattle.farm_types.specs.declared.rows.TypeRow.{TypeRow}
-use Rattle.farm_types.specs.declared.rows.BoardRow.{BoardRow}
-use Rattle.farm_types.specs.declared.rows.ResRow.{ResRow}
-use Rattle.farm_types.specs.declared.rows.JobRow.{JobRow}
-use Rattle.farm_types.specs.Refusals.{no_job}
 use Rattle.farm_keep.specs.KeeperState.{KeeperState, KeepsOwnFarm}
 use Rattle.farm_wire.specs.Reading.{Denial, refused, other_methods}
 use Rattle.farm_wire.specs.Replies.{method_status, ok_status, reply_bytes, status_or}
 use Rattle.farm_wire.specs.declared.ask.Ask.{Ask}
 use Rattle.farm_wire.specs.declared.ask.View.{View}
 use Rattle.farm_wire.specs.declared.answers.Out.{Out}
+use Rattle.farm_wire.specs.declared.fault.AskFault.{AskFault}
+use Rattle.farm_serve.specs.declared.answer.Bytes.{Bytes}
+use Rattle.farm_serve.specs.declared.fault.DeskFault.{DeskFault}
 
 -- ---- which answer it is
 
@@ -35,37 +29,16 @@ out_of_answer kind (Changed reply) = Out.Reply kind reply
 out_of_answer kind (Repeated reply) = Out.Reply kind reply
 out_of_answer kind (Denied code) = out_of_refusal code
 
--- the answer lists these rows
-abbrev pub ListsTypes : List TypeRow → Out → Type 0
-ListsTypes rows (Out.Types borrowed) = borrowed.now ≡ rows
-ListsTypes rows out = ⊥
-
-abbrev pub ListsBoards : List BoardRow → Out → Type 0
-ListsBoards rows (Out.Boards borrowed) = borrowed.now ≡ rows
-ListsBoards rows out = ⊥
-
-abbrev pub ListsReservations : List ResRow → Out → Type 0
-ListsReservations rows (Out.Reservations borrowed) = borrowed.now ≡ rows
-ListsReservations rows out = ⊥
-
-abbrev pub ListsClaims : List Claim → Out → Type 0
-ListsClaims claims (Out.Queue borrowed) = borrowed.now ≡ claims
-ListsClaims claims out = ⊥
-
--- the answer shows the job, or that there is none
-abbrev pub ShowsJob : Option JobRow → Out → Type 0
-ShowsJob (Some job) (Out.Job borrowed) = borrowed.now ≡ job
-ShowsJob (Some job) out = ⊥
-ShowsJob None out = out ≡ out_of_refusal no_job
-
 -- the answer shows what the view asks for, of that farm
 abbrev pub IsView : View → Farm → Out → Type 0
-IsView View.Types F out = ListsTypes F.types out
-IsView View.Boards F out = ListsBoards F.boards out
-IsView View.Reservations F out = ListsReservations F.reservations out
-IsView View.Queue F out = ListsClaims (map shown_claim (queue F)) out
-IsView View.Status F out = out ≡ Out.Status (status_of F)
-IsView (View.Job number) F out = ShowsJob (job_of F number) out
+IsView View.Types F (Out.Types rows) = rows.now ≡ F.types
+IsView View.Boards F (Out.Boards rows) = rows.now ≡ F.boards
+IsView View.Reservations F (Out.Reservations rows) = rows.now ≡ F.reservations
+IsView View.Queue F (Out.Queue claims) = claims.now ≡ map shown_claim (queue F)
+IsView View.Status F (Out.Status status) = status ≡ status_of F
+IsView (View.Job number) F (Out.Job job) = job_of F number ≡ Some job.now
+IsView (View.Job number) F (Out.Refused refusal) = (job_of F number ≡ None) × (refusal.code ≡ no_job)
+IsView view F out = ⊥
 
 -- its HTTP status
 abbrev pub http_status : Out → ℕ
@@ -79,6 +52,34 @@ http_status out = ok_status
 pub record Encodes (out : Out) (bytes : List ℕ) (status : ℕ) : Type 0 where
   pub bytes_are : bytes ≡ reply_bytes out
   pub status_is : status ≡ http_status out
+
+abbrev pub bytes_in : Bytes → List ℕ
+bytes_in (Bytes.Encoded bytes) = bytes.items
+bytes_in (Bytes.Constant bytes) = bytes.now
+
+-- there is no memory for the answer, and the bytes are the refusal for that
+pub record EncodesNoMemory (bytes : List ℕ) (fault : DeskFault) : Type 0 where
+  pub fault_is : fault ≡ DeskFault.NoMemory
+  pub bytes_are : bytes ≡ reply_bytes (out_of_refusal no_memory)
+
+-- the bytes are the answer's, or there is no memory for them
+abbrev pub IsEncoded : Out → List ℕ → Result ℕ DeskFault → Type 0
+IsEncoded out bytes (Ok status) = Encodes out bytes status
+IsEncoded out bytes (Err fault) = EncodesNoMemory bytes fault
+
+-- the bytes are those of one of some answers, or there is no memory for them
+abbrev pub IsEncodedOne : (Out → Type 0) → List ℕ → Result ℕ DeskFault → Type 0
+IsEncodedOne P bytes (Ok status) = (out : Out) × P out × Encodes out bytes status
+IsEncodedOne P bytes (Err fault) = EncodesNoMemory bytes fault
+
+-- the bytes are the answer to a request that asks nothing
+abbrev pub IsDenialEncoded : AskFault → List ℕ → Result ℕ DeskFault → Type 0
+IsDenialEncoded (AskFault.Refused refusal) bytes end = IsEncoded (Out.Refused refusal) bytes end
+IsDenialEncoded (AskFault.Method allowed) bytes end = IsEncoded (Out.Method allowed) bytes end
+IsDenialEncoded AskFault.NoMemory bytes end = (end ≡ Err DeskFault.NoMemory)
+    × (bytes ≡ reply_bytes (out_of_refusal no_memory))
+
+-- ---- what becomes of the keeper
 
 -- the request is denied, and the keeper stays as it was
 pub record AnswersRefusal {S : Type 0} (old new : KeeperState S) (why : Denial) (bytes : List ℕ)

@@ -1,6 +1,5 @@
 -- Connections, one after another: a client arrives, is conversed with, and departs.
-use Rattle.std.specs.Prelude.{◌≡◌, ◌≤◌, ◌⊎◌, ℕ, true, List, [], ◌∷◌, ◌++◌, map, length, Option}
-use Rattle.std.specs.Prelude.{Some, None, Result}
+use Rattle.std.specs.Prelude.{◌≡◌, ◌≤◌, ◌⊎◌, ℕ, true, List, [], ◌∷◌, ◌++◌, map, length, Option, Some, None, Result}
 use Rattle.sqlite_trees.specs.declared.store.Store.{Ghosts}
 use Rattle.farm_keep.specs.KeeperState.{KeeperState}
 use Rattle.farm_serve.specs.Clients.{Arrival, Departure, ClientList, HasRoom, IsOver}

@@ -1,15 +1,12 @@
 -- Conversations one after another over one keeper: what they ask, what they do, what they answer.
-use Rattle.std.specs.Prelude.{◌≡◌, ◌≢◌, ◌⊎◌, ℕ, true, false, IsOk, List, [], ◌∷◌, ◌++◌, map, Option}
-use Rattle.std.specs.Prelude.{Some, Result, Ok, Err}
+use Rattle.std.specs.Prelude.{◌≡◌, ◌≢◌, ◌⊎◌, ℕ, true, false, IsOk, List, [], ◌∷◌, ◌++◌, map, Option, Some, Result, Ok, Err}
 use Rattle.std.specs.List.{AllByRecursion, flat_map}
 use Rattle.sqlite_trees.specs.declared.store.Store.{Ghosts}
-use Rattle.farm_types.specs.Farm.{Farm}
-use Rattle.farm_types.specs.Machine.{Changed, answer, run}
-use Rattle.farm_types.specs.Refuse.{kind_of}
+use Rattle.farm_types.specs.Names.{answer, Changed, Farm, kind_of, run}
 use Rattle.farm_types.specs.declared.calls.Call.{Call}
 use Rattle.farm_types.specs.declared.rows.Reply.{Reply}
 use Rattle.farm_core.specs.Answers.{IsChange}
-use Rattle.farm_keep.specs.KeeperState.{KeeperState, KeepsOwnFarm, KeepsFarm, KeepsEither}
+use Rattle.farm_keep.specs.KeeperState.{KeeperState, KeepsOwnFarm, KeepsEither}
 use Rattle.farm_keep.specs.Restarts.{answer_again}
 use Rattle.farm_keep.specs.declared.fault.KeepFault.{KeepFault}
 use Rattle.farm_http.specs.Room.{RoomLeft}
@@ -20,7 +17,7 @@ use Rattle.farm_serve.specs.Received.{Asks, Receives}
 use Rattle.farm_serve.specs.Answers.{Encodes, IsView, out_of_denial, out_of_answer}
 use Rattle.farm_serve.specs.Response.{IsResponse}
 use Rattle.farm_serve.specs.Ends.{IsAnswered, IsUnwritten, IsUnread, EndsWritten, HasNoRoom}
-use Rattle.farm_serve.specs.Serving.{Reaches}
+use Rattle.farm_serve.specs.Serving.{LeavesAfter, Reaches}
 use Rattle.farm_serve.specs.declared.fault.DeskFault.{DeskFault}
 
 -- ---- one conversation, and several in a row
@@ -222,8 +219,7 @@ LeaveOpen {S} g (conversation ∷ conversations) old new done =
 -- a stop then leaves the farm before the call or, not after want of memory, the one after it
 abbrev pub LeavesBy : {S : Type 0} → Ghosts S → KeeperState S → Result ℕ DeskFault → Farm → Farm
     → Type 0
-LeavesBy {S} g k (Err (DeskFault.Keep KeepFault.NoMemory)) F G = KeepsFarm g k F
-LeavesBy {S} g k (Err (DeskFault.Keep KeepFault.Store)) F G = KeepsEither g k F G
+LeavesBy {S} g k (Err (DeskFault.Keep fault)) F G = LeavesAfter g k fault F G
 LeavesBy {S} g k (Err DeskFault.Write) F G = KeepsEither g k F G
 LeavesBy {S} g k end F G = ⊥
 

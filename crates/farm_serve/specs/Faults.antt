@@ -1,6 +1,6 @@
 -- The numbers of a conversation's faults.
 use Rattle.std.specs.Prelude.{ℕ}
-use Rattle.farm_types.specs.Refusals.{no_memory, read_fault, write_fault}
+use Rattle.farm_types.specs.Names.{no_memory, read_fault, write_fault}
 use Rattle.farm_jobfile.specs.Reading.{file_fault_code}
 use Rattle.farm_keep.specs.Faults.{keep_fault_code}
 use Rattle.farm_serve.specs.declared.fault.DeskFault.{DeskFault}

@@ -1,21 +1,18 @@
 -- What an import does: the calls of a lab file, one after another, up to the first refusal or
 -- fault.
-use Rattle.std.specs.Prelude.{◌≡◌, ◌≤◌, ◌<◌, ◌+◌, ℕ, [], ◌∷◌, ◌++◌, Bool, true, false, List, map}
-use Rattle.std.specs.Prelude.{take, length, Option, Some, None, Ok}
+use Rattle.std.specs.Prelude.{◌≡◌, ◌≤◌, ◌<◌, ◌+◌, ℕ, [], ◌∷◌, ◌++◌, Bool, true, false, List, map, take, length, Option, Some, None, Ok}
 use Rattle.std.specs.List.{count_by}
 use Rattle.sqlite_trees.specs.declared.store.Store.{Ghosts}
-use Rattle.farm_types.specs.Farm.{Farm}
-use Rattle.farm_types.specs.Machine.{Answered, Changed, Repeated, Denied, run}
+use Rattle.farm_types.specs.Names.{Answered, Changed, Denied, Farm, FaultOrNoMemory, Repeated, run}
 use Rattle.farm_types.specs.declared.calls.Call.{Call}
 use Rattle.farm_types.specs.declared.refusal.Refusal.{Refusal}
-use Rattle.farm_keep.specs.KeeperState.{KeeperState, KeepsOwnFarm, KeepsFarm, KeepsEither}
-use Rattle.farm_keep.specs.Runs.{answers_of, IsNextChange}
+use Rattle.farm_keep.specs.KeeperState.{KeeperState, KeepsOwnFarm}
+use Rattle.farm_keep.specs.Headline.{answers_of, IsNextChange}
 use Rattle.farm_keep.specs.declared.fault.KeepFault.{KeepFault}
-use Rattle.farm_types.specs.Reads.{FaultOrNoMemory}
 use Rattle.farm_jobfile.specs.Reading.{text_fault}
 use Rattle.farm_jobfile.specs.Lab.{entry_of, lab}
 use Rattle.farm_jobfile.specs.declared.fault.FileFault.{FileFault}
-use Rattle.farm_serve.specs.Serving.{Reaches}
+use Rattle.farm_serve.specs.Serving.{LeavesAfter, Reaches}
 use Rattle.farm_serve.specs.declared.fault.DeskFault.{DeskFault}
 use Rattle.farm_serve.specs.declared.lab_import.ImportEnd.{ImportEnd}
 
@@ -30,14 +27,6 @@ is_accepted answered = false
 abbrev pub is_kept : Answered → Bool
 is_kept (Repeated reply) = true
 is_kept answered = false
-
--- an answer is counted, or it is a refusal and returned
-abbrev pub Counts : Answered → ImportEnd → ImportEnd → Option Refusal → Type 0
-Counts (Changed reply) old new refusal = (new ≡ record old { accepted = old.accepted + 1 })
-    × (refusal ≡ None)
-Counts (Repeated reply) old new refusal = (new ≡ record old { kept = old.kept + 1 })
-    × (refusal ≡ None)
-Counts (Denied code) old new refusal = (new ≡ old) × (refusal ≡ Some (record { code = code }))
 
 -- so many of the calls were done
 abbrev pub done_by : ImportEnd → ℕ
@@ -67,23 +56,14 @@ pub record IsStopped {S : Type 0} (g : Ghosts S) (old new : KeeperState S) (call
       (take done calls) ++ Denied code ∷ []
   pub reaches : Reaches g old new (take done calls)
 
--- there was no memory for the change of the next call: the keeper is closed, and its store keeps
--- the farm before it
-pub record LacksMemoryFor {S : Type 0} (g : Ghosts S) (old new : KeeperState S) (calls : List Call)
-    (done : ℕ) : Type 0 where
+-- the change of the next call closed the keeper with this fault, and a stop leaves the farm before
+-- it or, not after want of memory, the one after it
+pub record ClosesAt {S : Type 0} (g : Ghosts S) (old new : KeeperState S) (calls : List Call)
+    (done : ℕ) (fault : KeepFault) : Type 0 where
   pub within : done < length calls
   pub change : IsNextChange old.farm.farm calls done
   pub is_closed : new.is_open ≡ false
-  pub keeps : KeepsOwnFarm g old → KeepsFarm g new (run old.farm.farm (take done calls))
-
--- the store refused the next call's change: the keeper is closed, and a stop leaves the farm before
--- it or after it
-pub record LosesStoreAt {S : Type 0} (g : Ghosts S) (old new : KeeperState S) (calls : List Call)
-    (done : ℕ) : Type 0 where
-  pub within : done < length calls
-  pub change : IsNextChange old.farm.farm calls done
-  pub is_closed : new.is_open ≡ false
-  pub leaves : KeepsOwnFarm g old → KeepsEither g new (run old.farm.farm (take done calls))
+  pub leaves : KeepsOwnFarm g old → LeavesAfter g new fault (run old.farm.farm (take done calls))
       (run old.farm.farm (take (done + 1) calls))
 
 -- the keeper was closed before, and nothing is imported
@@ -97,12 +77,9 @@ abbrev pub EndsBy : {S : Type 0} → Ghosts S → KeeperState S → KeeperState 
     → Option (ℕ × Refusal) → Option DeskFault → Type 0
 EndsBy g old new calls done None None = ImportsAll g old new calls done
 EndsBy g old new calls done (Some stop) None = IsStopped g old new calls done stop.0 stop.1.code
-EndsBy g old new calls done None (Some (DeskFault.Keep KeepFault.NoMemory)) =
-    LacksMemoryFor g old new calls done
-EndsBy g old new calls done None (Some (DeskFault.Keep KeepFault.Store)) =
-    LosesStoreAt g old new calls done
-EndsBy g old new calls done None (Some (DeskFault.Keep KeepFault.Closed)) =
-    ImportsNothing old new done
+EndsBy g old new calls done None (Some (DeskFault.Keep KeepFault.NoMemory)) = ClosesAt g old new calls done KeepFault.NoMemory
+EndsBy g old new calls done None (Some (DeskFault.Keep KeepFault.Store)) = ClosesAt g old new calls done KeepFault.Store
+EndsBy g old new calls done None (Some (DeskFault.Keep KeepFault.Closed)) = ImportsNothing old new done
 EndsBy g old new calls done stopped fault = ⊥
 
 -- these calls were done up to the first refusal or fault

@@ -3,7 +3,6 @@ pub mod Received
 pub mod Answers
 pub mod Response
 pub mod Ends
-pub mod Encoding
 pub mod Serving
 pub mod Conversations
 pub mod Clients
@@ -12,3 +11,4 @@ pub mod Scripts
 pub mod Imports
 pub mod Stops
 pub mod DeskLives
+pub mod Names

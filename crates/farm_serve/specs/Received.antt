@@ -3,12 +3,10 @@ use Rattle.std.specs.Prelude.{◌≡◌, ℕ, ◌⊎◌, List, [], Option, Some,
 use Rattle.std.specs.Io.KnownBytes.{Consumes}
 use Rattle.farm_http.specs.Request.{Request}
 use Rattle.farm_http.specs.Requests.{IsRefused, IsRequest, ParsesTo}
-use Rattle.farm_http.specs.declared.fault.WireFault.{WireFault}
 use Rattle.farm_wire.specs.Asked.{Asked, ask, shown_ask}
 use Rattle.farm_wire.specs.Reading.{Denial, refused, other_methods}
 use Rattle.farm_wire.specs.declared.ask.Ask.{Ask}
 use Rattle.farm_wire.specs.declared.fault.AskFault.{AskFault}
-use Rattle.farm_serve.specs.declared.conversation.ReceiveError.{ReceiveError}
 
 -- what is asked, or why nothing is, in the words of the definitions
 abbrev pub plain_ask : Result Ask Denial → Result Asked Denial
@@ -60,18 +58,3 @@ ReceivesBadRequest input rest now (AskFault.Refused refusal) =
     Receives input rest now (Err (refused refusal.code))
 ReceivesBadRequest input rest now (AskFault.Method allowed) =
     Receives input rest now (Err (other_methods allowed))
-
--- the error of receiving where no request was read
-abbrev pub receive_error : WireFault → ReceiveError
-receive_error WireFault.NoMemory = ReceiveError.BadRequest AskFault.NoMemory
-receive_error (WireFault.Refused refusal) = ReceiveError.BadRequest (AskFault.Refused refusal)
-receive_error WireFault.Read = ReceiveError.Read
-receive_error WireFault.Write = ReceiveError.Read
-
--- the result of receiving a request
-abbrev pub ReceivesResult : Option (List ℕ) → Option (List ℕ) → ℕ → Type 0 → Result Ask ReceiveError
-    → Type 0
-ReceivesResult input rest now Spent (Ok what) = Receives input rest now (Ok what)
-ReceivesResult input rest now Spent (Err ReceiveError.Read) = Spent
-ReceivesResult input rest now Spent (Err (ReceiveError.BadRequest fault)) =
-    ReceivesBadRequest input rest now fault

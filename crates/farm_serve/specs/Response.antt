@@ -1,9 +1,8 @@
 -- Which answer is due, and how the conversation ends once it is written.
 use Rattle.std.specs.Prelude.{◌≡◌, ℕ, ◌⊎◌, true, false, List, Option, Result, Ok, Err}
 use Rattle.sqlite_trees.specs.declared.store.Store.{Ghosts}
-use Rattle.farm_types.specs.Machine.{answer, step}
+use Rattle.farm_types.specs.Names.{answer, no_memory, step}
 use Rattle.farm_types.specs.declared.calls.Call.{Call}
-use Rattle.farm_types.specs.Refusals.{no_memory}
 use Rattle.farm_core.specs.Answers.{IsChange}
 use Rattle.farm_keep.specs.Faults.{keep_fault_code}
 use Rattle.farm_keep.specs.KeeperState.{KeeperState, KeepsOwnFarm, KeepsEither}

@@ -2,7 +2,7 @@
 -- none.
 use Rattle.std.specs.Prelude.{◌≡◌, ◌≤◌, ◌<◌, ℕ, true, false, List, length, Result, Ok, Err}
 use Rattle.sqlite_trees.specs.declared.store.Store.{Ghosts}
-use Rattle.farm_types.specs.Machine.{answer, run, step}
+use Rattle.farm_types.specs.Names.{answer, Farm, run, step}
 use Rattle.farm_types.specs.declared.calls.Call.{Call}
 use Rattle.farm_core.specs.Answers.{IsChange}
 use Rattle.farm_keep.specs.KeeperState.{KeeperState, KeepsOwnFarm, KeepsFarm, KeepsEither}
@@ -26,34 +26,31 @@ pub record ServesClients {S : Type 0} (g : Ghosts S) (old new : KeeperState S) (
   pub few : length calls ≤ max
   pub reaches : Reaches g old new calls
 
--- some calls were done, and the change of one more closed the keeper
+-- after the keeper's fault a stop leaves the farm before the call or, not after want of memory, the
+-- one after it
+abbrev pub LeavesAfter : {S : Type 0} → Ghosts S → KeeperState S → KeepFault → Farm → Farm → Type 0
+LeavesAfter g k KeepFault.NoMemory F G = KeepsFarm g k F
+LeavesAfter g k KeepFault.Store F G = KeepsEither g k F G
+LeavesAfter g k fault F G = ⊥
+
+-- some calls were done, and the change of one more closed the keeper with this fault
 pub record ServingCloses {S : Type 0} (g : Ghosts S) (old new : KeeperState S) (max : ℕ)
-    (Leaves : List Call → Call → Type 0) : Type 0 where
+    (fault : KeepFault) : Type 0 where
   pub was_open : old.is_open ≡ true
   pub is_closed : new.is_open ≡ false
   pub calls : List Call
   pub call : Call
   pub few : length calls < max
   pub change : IsChange (answer (run old.farm.farm calls) call)
-  pub leaves : KeepsOwnFarm g old → Leaves calls call
-
--- there was no memory for that change: the store keeps the farm before it
-abbrev pub LacksMemoryAfter : {S : Type 0} → Ghosts S → KeeperState S → KeeperState S → ℕ → Type 0
-LacksMemoryAfter g old new max =
-    ServingCloses g old new max (λ calls call. KeepsFarm g new (run old.farm.farm calls))
-
--- the store refused that change: a stop leaves the farm before it or after it
-abbrev pub LosesStoreAfter : {S : Type 0} → Ghosts S → KeeperState S → KeeperState S → ℕ → Type 0
-LosesStoreAfter g old new max = ServingCloses g old new max
-    (λ calls call. KeepsEither g new (run old.farm.farm calls)
-    (step (run old.farm.farm calls) call))
+  pub leaves : KeepsOwnFarm g old → LeavesAfter g new fault (run old.farm.farm calls)
+      (step (run old.farm.farm calls) call)
 
 -- what serving at most so many connections makes of a keeper, by how it ends
 abbrev pub ServesUntil : {S A : Type 0} → Ghosts S → KeeperState S → KeeperState S → ℕ
     → Result A DeskFault → Type 0
 ServesUntil g old new max (Ok done) = ServesClients g old new max
-ServesUntil g old new max (Err (DeskFault.Keep KeepFault.NoMemory)) = LacksMemoryAfter g old new max
-ServesUntil g old new max (Err (DeskFault.Keep KeepFault.Store)) = LosesStoreAfter g old new max
+ServesUntil g old new max (Err (DeskFault.Keep KeepFault.NoMemory)) = ServingCloses g old new max KeepFault.NoMemory
+ServesUntil g old new max (Err (DeskFault.Keep KeepFault.Store)) = ServingCloses g old new max KeepFault.Store
 ServesUntil g old new max (Err (DeskFault.Keep KeepFault.Closed)) = WasClosed old new
 ServesUntil g old new max (Err fault) = ⊥
 

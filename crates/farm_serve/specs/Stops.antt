@@ -1,10 +1,8 @@
 -- What is found again after a stop, of what connections asked and of what an import did.
-use Rattle.std.specs.Prelude.{◌≡◌, ◌≤◌, ◌⊎◌, ◌+◌, ℕ, List, [], ◌∷◌, ◌++◌, length, map, take, Option}
-use Rattle.std.specs.Prelude.{Some, Result, Ok, Err}
+use Rattle.std.specs.Prelude.{◌≡◌, ◌≤◌, ◌⊎◌, ◌+◌, ℕ, List, [], ◌∷◌, ◌++◌, length, map, take, Option, Some, Result, Ok, Err}
 use Rattle.std.specs.Io.KnownBytes.{Appends}
 use Rattle.farm_core.specs.Shown.{Shown}
-use Rattle.farm_types.specs.Farm.{Farm}
-use Rattle.farm_types.specs.Machine.{run}
+use Rattle.farm_types.specs.Names.{Farm, run}
 use Rattle.farm_types.specs.declared.calls.Call.{Call}
 use Rattle.farm_jobfile.specs.Lab.{entry_of, lab}
 use Rattle.farm_keep.specs.Lives.{GivesFarm}

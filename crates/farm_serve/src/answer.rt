@@ -8,10 +8,9 @@ ghost use Rattle.farm_types.specs.Refuse.{kind_of};
 ghost use Rattle.farm_core.specs.Answers.{answer_of};
 ghost use Rattle.farm_keep.specs.Faults.{IsActFault, keep_fault_code};
 ghost use Rattle.farm_wire.specs.Replies.{reply_bytes};
-ghost use Rattle.farm_wire.specs.declared.ask.Ask.{Ask as Asking};
-ghost use Rattle.farm_serve.specs.Answers.{out_of_answer, out_of_refusal, http_status, IsView};
-ghost use Rattle.farm_serve.specs.Response.{IsResponseTo};
-ghost use Rattle.farm_serve.specs.Encoding.{IsEncoded, IsEncodedOne, IsDenialEncoded, bytes_in};
+ghost use Rattle.farm_serve.specs.Names.{bytes_in, http_status, IsDenialEncoded, IsEncoded};
+ghost use Rattle.farm_serve.specs.Names.{IsEncodedOne, IsResponseTo, IsView, out_of_answer};
+ghost use Rattle.farm_serve.specs.Names.{out_of_refusal};
 
 use crate::fault::DeskFault;
 use farm_core::Farm;
@@ -123,21 +122,14 @@ pub(crate) fn response_to<S: Alter>(alloc: Global, keeper: &mut Keeper<S>, ask: 
         (state S.Store keeper.new.conn).is_clean }
 {
     match ask {
-        Ask::Call(call) => response_to_call(alloc, keeper, call),
-        Ask::View(view) => response_to_view(alloc, keeper, *view),
-    }
-}
-
-/// The answer due to a call.
-fn response_to_call<S: Alter>(alloc: Global, keeper: &mut Keeper<S>, call: &Call) -> Response
-    ensures response { IsResponseTo S.Store keeper.old keeper.new (Ok (Asking.Call call.entry.now))
-        (bytes_in result.bytes) result.end }
-    ensures clean { doubt (state S.Store keeper.old.conn).is_clean ≤ doubt
-        (state S.Store keeper.new.conn).is_clean }
-{
-    match keeper.act(call) {
-        Ok(answer) => Response::of(alloc, &reply_of(call, &answer)),
-        Err(fault) => Response::closing(fault),
+        Ask::Call(call) => match keeper.act(call) {
+            Ok(answer) => Response::of(alloc, &reply_of(call, &answer)),
+            Err(fault) => Response::closing(fault),
+        },
+        Ask::View(view) => match keeper.farm() {
+            Some(farm) => show(alloc, farm, *view),
+            None => Response::closing(KeepFault::Closed),
+        },
     }
 }
 
@@ -148,17 +140,6 @@ fn reply_of(call: &Call, answer: &Answer) -> Out<'static>
     match answer {
         Answer::Did(reply, _) | Answer::Kept(reply) => Out::Reply(call.cmd.kind(), *reply),
         Answer::Refused(refusal) => Out::Refused(*refusal),
-    }
-}
-
-/// The answer due to a view of an open keeper's farm.
-fn response_to_view<S: Alter>(alloc: Global, keeper: &Keeper<S>, view: View) -> Response
-    ensures { IsResponseTo S.Store keeper.now keeper.now (Ok (Asking.View view))
-        (bytes_in result.bytes) result.end }
-{
-    match keeper.farm() {
-        Some(farm) => show(alloc, farm, view),
-        None => Response::closing(KeepFault::Closed),
     }
 }
 

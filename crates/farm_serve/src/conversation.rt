@@ -10,11 +10,8 @@ ghost use Rattle.farm_http.specs.Room.{KeepsRoom};
 ghost use Rattle.farm_http.specs.Turns.{IsSpent, FailsBehind, TakesTurns};
 ghost use Rattle.farm_wire.specs.Asked.{ask, shown_ask};
 ghost use Rattle.farm_wire.specs.Reading.{denial_of};
-ghost use Rattle.farm_serve.specs.Received.{ReceivesResult};
-ghost use Rattle.farm_serve.specs.Response.{IsResponse};
-ghost use Rattle.farm_serve.specs.Ends.{IsAnswered, IsUnwritten, IsUnread, WritesAnswer, EndsWritten};
-ghost use Rattle.farm_serve.specs.Ends.{HasNoRoom, CountsLoss};
-ghost use Rattle.farm_serve.specs.Encoding.{bytes_in};
+ghost use Rattle.farm_serve.specs.Names.{bytes_in, CountsLoss, EndsWritten, HasNoRoom, IsAnswered};
+ghost use Rattle.farm_serve.specs.Names.{IsResponse, IsUnread, IsUnwritten, WritesAnswer};
 
 use crate::answer::{Response, response_to};
 use crate::fault::DeskFault;
@@ -32,29 +29,6 @@ pub(crate) struct Context {
     pub(crate) alloc: Global,
     /// The router of all conversations, where one was built.
     pub(crate) routes: Option<Routes>,
-}
-
-/// Why no request was received.
-#[derive(Clone, Copy, Debug, PartialEq, Eq)]
-pub(crate) enum ReceiveError {
-    /// The reader failed before it returned a request.
-    Read,
-    /// What it returned asks nothing, or there was no memory for it.
-    BadRequest(AskFault),
-}
-
-impl From<WireFault> for ReceiveError {
-    ghost use Rattle.farm_serve.specs.Received.{receive_error};
-
-    ghost from_gives = { λ fault e. e ≡ receive_error fault };
-
-    fn from(fault: WireFault) -> ReceiveError {
-        match fault {
-            WireFault::NoMemory => ReceiveError::BadRequest(AskFault::NoMemory),
-            WireFault::Refused(refusal) => ReceiveError::BadRequest(AskFault::Refused(refusal)),
-            WireFault::Read | WireFault::Write => ReceiveError::Read,
-        }
-    }
 }
 
 /// Reads one request, acts on the farm or looks at it, and writes one answer; returns the HTTP
@@ -163,17 +137,15 @@ impl Context {
         ensures clean { doubt (state S.Store keeper.old.conn).is_clean ≤ doubt
             (state S.Store keeper.new.conn).is_clean }
     {
-        let response = match self.response(keeper, reader, now) {
-            Ok(response) => response,
-            Err(fault) => return Ending {
+        match self.response(keeper, reader, now) {
+            Ok(response) => Ending {
+                is_lost: write_whole(writer, response.bytes()).is_err(),
+                due: response.end,
+            },
+            Err(fault) => Ending {
                 due: Err(fault),
                 is_lost: false,
             },
-        };
-        let is_lost = write_whole(writer, response.bytes()).is_err();
-        Ending {
-            due: response.end,
-            is_lost,
         }
     }
 
@@ -194,27 +166,18 @@ impl Context {
         ensures clean { doubt (state S.Store keeper.old.conn).is_clean ≤ doubt
             (state S.Store keeper.new.conn).is_clean }
     {
-        match self.receive(reader, now) {
-            Ok(ask) => Ok(response_to(self.alloc, keeper, &ask)),
-            Err(ReceiveError::BadRequest(fault)) => Ok(Response::denial(self.alloc, fault)),
-            Err(ReceiveError::Read) => Err(DeskFault::Read),
-        }
-    }
-
-    /// Reads one request and returns what it asks at a moment.
-    pub(crate) fn receive<R: Input>(
-        &mut self,
-        reader: &mut R,
-        now: u64,
-    ) -> Result<Ask, ReceiveError>
-        ensures receives { ReceivesResult (R.remaining reader.old) (R.remaining reader.new) now
-            (IsSpent most_reads (R.turns reader.old) (R.turns reader.new)) result }
-        ensures sure { R.never_fails → result ≢ Err ReceiveError.Read }
-    {
-        let taken = read_request(self.alloc, reader)?;
+        let taken = match read_request(self.alloc, reader) {
+            Ok(taken) => taken,
+            Err(WireFault::NoMemory) => return Ok(Response::no_memory()),
+            Err(WireFault::Refused(refusal)) => {
+                return Ok(Response::denial(self.alloc, AskFault::Refused(refusal)));
+            }
+            Err(WireFault::Read) => return Err(DeskFault::Read),
+            Err(WireFault::Write) => unreachable!(),
+        };
         match self.ask_of(&taken, now) {
-            Ok(ask) => Ok(ask),
-            Err(fault) => Err(ReceiveError::BadRequest(fault)),
+            Ok(ask) => Ok(response_to(self.alloc, keeper, &ask)),
+            Err(fault) => Ok(Response::denial(self.alloc, fault)),
         }
     }
 

@@ -2,7 +2,7 @@
 ghost use Rattle.std.specs.Prelude.{◌≡◌, ◌≤◌};
 ghost use Rattle.sqlite.specs.Held.{state};
 ghost use Rattle.sqlite_trees.specs.View.{doubt};
-ghost use Rattle.farm_serve.specs.Imports.{IsImport, DoesCalls};
+ghost use Rattle.farm_serve.specs.Names.{DoesCalls, IsImport};
 
 use crate::fault::DeskFault;
 use farm_jobfile::lab_of;
@@ -22,26 +22,6 @@ pub struct ImportEnd {
     pub stopped: Option<(usize, Refusal)>,
     /// The fault that ended it.
     pub fault: Option<DeskFault>,
-}
-
-impl ImportEnd {
-    ghost use Rattle.std.specs.Prelude.{◌+◌, ◌^◌, ◌<◌};
-    ghost use Rattle.farm_core.specs.Answers.{answer_of};
-    ghost use Rattle.farm_serve.specs.Imports.{Counts};
-
-    /// Counts an answer, or returns the refusal that it is.
-    fn count(&mut self, answer: &Answer) -> Option<Refusal>
-        requires accepted { self.old.accepted + 1 < 2 ^ 64 }
-        requires kept { self.old.kept + 1 < 2 ^ 64 }
-        ensures { Counts (answer_of answer.now) self.old self.new result }
-    {
-        match answer {
-            Answer::Did(_, _) => self.accepted += 1,
-            Answer::Kept(_) => self.kept += 1,
-            Answer::Refused(refusal) => return Some(*refusal),
-        }
-        None
-    }
 }
 
 /// Adds the types and the boards of a lab file at a moment, in seconds since 1970-01-01 00:00:00
@@ -72,12 +52,14 @@ fn do_calls<S: Alter>(keeper: &mut Keeper<S>, calls: &[Call]) -> ImportEnd
     let mut end = ImportEnd::default();
     for call in calls {
         match keeper.act(call) {
-            Ok(answer) => {
-                if let Some(refusal) = end.count(&answer) {
-                    end.stopped = Some((end.accepted + end.kept + 1, refusal));
+            Ok(answer) => match &answer {
+                Answer::Did(_, _) => end.accepted += 1,
+                Answer::Kept(_) => end.kept += 1,
+                Answer::Refused(refusal) => {
+                    end.stopped = Some((end.accepted + end.kept + 1, *refusal));
                     return end;
                 }
-            }
+            },
             Err(fault) => {
                 end.fault = Some(DeskFault::Keep(fault));
                 return end;

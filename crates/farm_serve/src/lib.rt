@@ -6,7 +6,7 @@
 //! `import` adds what a lab file lists.
 //!
 //! Read `src/` in the order fault, answer, conversation; lab_import; clients, serving,
-//! scripted_clients; laws. Read `specs/` in the order Faults, Received, Answers, Encoding, Response,
+//! scripted_clients; laws. Read `specs/` in the order Faults, Received, Answers, Response,
 //! Ends, which say what a conversation is; Serving, Conversations, Clients, Scripts, Connections, what
 //! several are; Imports, what an import is; Stops, DeskLives, what is found again after a stop.
 #![tactic(auto)]

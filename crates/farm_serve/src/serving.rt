@@ -2,14 +2,11 @@
 ghost use Rattle.std.specs.Prelude.{◌≡◌, ◌≤◌, ◌↔◌, true, false, Err, IsOk, Result};
 ghost use Rattle.sqlite.specs.Held.{state};
 ghost use Rattle.sqlite_trees.specs.View.{doubt};
-ghost use Rattle.farm_serve.specs.Conversations.{ConversesOnce, desk};
-ghost use Rattle.farm_serve.specs.Serving.{ServesUntil, PassesOn};
-ghost use Rattle.farm_serve.specs.Connections.{ServesInTurn};
+ghost use Rattle.farm_serve.specs.Names.{PassesOn, ServesInTurn, ServesUntil};
 
 use crate::clients::Clients;
 use crate::conversation::Context;
 use crate::fault::DeskFault;
-use farm_http::{Input, Output};
 use farm_keep::{KeepFault, Keeper};
 use farm_wire::Routes;
 use sqlite::Alter;
@@ -61,7 +58,8 @@ pub fn serve<S: Alter, K: Clients>(
 }
 
 impl Context {
-    /// Serves the next client, if there is one.
+    /// Serves the next client, if there is one, and returns the keeper's fault where that closed it,
+    /// also where the answer was lost.
     fn serve_next<S: Alter, K: Clients>(
         &mut self,
         keeper: &mut Keeper<S>,
@@ -77,30 +75,9 @@ impl Context {
         let Some(mut client) = clients.next() else {
             return Ok(());
         };
-        let ended = self.serve_one(keeper, &mut client.reader, &mut client.writer, client.now);
+        let ended = self.converse(keeper, &mut client.reader, &mut client.writer, client.now);
         clients.close(client.reader, client.writer);
-        ended
-    }
-
-    /// Answers one request as `converse` does, and returns the keeper's fault where that closed it,
-    /// also where the answer was lost.
-    fn serve_one<R: Input, W: Output, S: Alter>(
-        &mut self,
-        keeper: &mut Keeper<S>,
-        reader: &mut R,
-        writer: &mut W,
-        now: u64,
-    ) -> Result<(), DeskFault>
-        requires { keeper.old.is_open ≡ true }
-        ensures converses { ConversesOnce S.Store
-            (desk keeper.old (R.remaining reader.old) (W.contents writer.old))
-            (desk keeper.new (R.remaining reader.new) (W.contents writer.new)) now
-            R.never_fails (W.has_room writer.old) }
-        ensures serves { ServesUntil S.Store keeper.old keeper.new 1 result }
-        ensures clean { doubt (state S.Store keeper.old.conn).is_clean ≤ doubt
-            (state S.Store keeper.new.conn).is_clean }
-    {
-        pass_on(self.converse(keeper, reader, writer, now).due)
+        pass_on(ended.due)
     }
 }
 

@@ -1,49 +1,58 @@
--- Each answer is counted, and a refusal or a fault ends it.
+-- Each accepted call is counted, and a refusal or a fault ends it.
 use Rattle.std.proofs.Common.{◌≡◌, ◌≤◌, ◌<◌, ◌+◌, length, arith, sym, ◌∙◌, subst}
 use Rattle.std.specs.Prelude.{Some, None}
-use Rattle.farm_core.specs.Answers.{answer_of}
-use Rattle.farm_serve.specs.declared.fault.DeskFault.{DeskFault}
-use Rattle.farm_serve.specs.declared.lab_import.ImportEnd.{ImportEnd}
-use Rattle.farm_serve.specs.Imports.{DoesCalls, EndsBy}
-use Rattle.farm_serve.proofs.ImportLemmas.{counts_on, counts_out, farm_after, faulted_at, unchanged_when_denied, stopped_at, whole_at}
+use Rattle.farm_serve.proofs.Names.{DeskFault}
+use Rattle.farm_serve.specs.Names.{EndsBy}
+use Rattle.farm_serve.proofs.ImportLemmas.{counted_accepted, counted_kept, farm_after, faulted_at, stopped_at, whole_at}
 use Rattle.farm_serve.proofs.lab_import.do_calls.Goals as goal
+use Rattle.farm_serve.proofs.lab_import.do_calls.Goals.{in-Did, in-Kept}
 
-pub returns-in-Some-clause-does : goal.returns-in-Some-clause-does
-returns-in-Some-clause-does g c =
+pub returns-in-Refused-clause-does : goal.returns-in-Refused-clause-does
+returns-in-Refused-clause-does g c =
     let was = c.loop-call.invariant in
     let low : c.loop-call.call-index < length c.args.calls.now = omega arith in
     let done = c.loop-call.end.accepted + c.loop-call.end.kept in
     let did = c.in-Ok.ensures in
-    let out = counts_out (answer_of c.in-Ok.answer) c.loop-call.end c.count.new.self c.count.result c.in-Some.refusal c.in-Some.is c.count.ensures in
-    let unchanged = unchanged_when_denied c.in-Ok.answer c.in-Some.refusal.code (c.act.new.self ≡ c.loop-call.keeper) out.0 did.rests in
-    let ends : EndsBy g.S.Store c.args.keeper.now c.act.new.self c.args.calls.now done (Some (done + 1, c.in-Some.refusal)) c.loop-call.end.fault =
-    subst (EndsBy g.S.Store c.args.keeper.now c.act.new.self c.args.calls.now done (Some (done + 1, c.in-Some.refusal))) (sym was.faultless)
-    (stopped_at g.S.Store c.args.keeper.now c.loop-call.keeper c.act.new.self c.args.calls.now c.loop-call.call-index done c.call-item.result c.in-Some.refusal.code
-    (record { low = low; here = c.call-item.is; before = was.farm; answer_is = sym out.0 ∙ did.answer })
-    was.done was.opened was.keeps unchanged) in
-    subst (λ (e : ImportEnd). DoesCalls g.S.Store c.args.keeper.now c.act.new.self c.args.calls.now
-    (record { accepted = e.accepted; kept = e.kept; stopped = Some (e.accepted + e.kept + 1, c.in-Some.refusal); fault = e.fault })) (sym out.1)
-    (record { counted = was.counted; ends = ends })
+    record {
+      counted = was.counted;
+      ends = subst (EndsBy g.S.Store c.args.keeper.now c.act.new.self c.args.calls.now done (Some (done + 1, c.in-Refused.refusal))) (sym was.faultless)
+          (stopped_at g.S.Store c.args.keeper.now c.loop-call.keeper c.act.new.self c.args.calls.now c.loop-call.call-index done c.call-item.result c.in-Refused.refusal.code
+          (record { low = low; here = c.call-item.is; before = was.farm; answer_is = rw c.in-Refused.is at did.answer })
+          was.done was.opened was.keeps (rw c.in-Refused.is at did.rests));
+    }
 
 pub loop-call-preserved : goal.loop-call-preserved
 loop-call-preserved g c =
     let was = c.loop-call.invariant in
     let low : c.loop-call.call-index < length c.args.calls.now = omega arith in
     let did = c.in-Ok.ensures in
-    let on = counts_on c.args.keeper.now.farm.farm c.loop-call.keeper.farm.farm c.args.calls.now c.loop-call.call-index c.call-item.result (answer_of c.in-Ok.answer)
-    c.loop-call.end c.count.new.self c.count.result (record { low = low; here = c.call-item.is; before = was.farm; answer_is = did.answer })
-    was.done was.counted c.in_default.is c.count.ensures in
-    record {
-      clean = omega (arith, c.act.ensures.clean);
-      opened = did.opened.1 ∙ sym did.opened.0 ∙ was.opened;
-      farm = did.farm ∙ farm_after c.args.keeper.now.farm.farm c.loop-call.keeper.farm.farm c.args.calls.now c.loop-call.call-index c.call-item.result low c.call-item.is was.farm;
-      done = on.done;
-      counted = on.counted;
-      goes_on = on.stopped ∙ was.goes_on;
-      faultless = on.fault ∙ was.faultless;
-      still = λ shut. absurd (let e = sym did.opened.0 ∙ was.opened ∙ shut in cc);
-      keeps = λ keeps. did.stands (was.keeps keeps);
-    }
+    let F = c.args.keeper.now.farm.farm in
+    elim c.match-answer.branch [
+      | in-Did w ↦ rw w.end-is (record {
+        clean = omega (arith, c.act.ensures.clean);
+        opened = did.opened.1 ∙ sym did.opened.0 ∙ was.opened;
+        farm = did.farm ∙ farm_after F c.loop-call.keeper.farm.farm c.args.calls.now c.loop-call.call-index c.call-item.result low c.call-item.is was.farm;
+        done = omega (arith, was.done);
+        counted = counted_accepted F c.loop-call.keeper.farm.farm c.args.calls.now c.loop-call.call-index c.call-item.result _ c.loop-call.end.accepted c.loop-call.end.kept
+            (record { low = low; here = c.call-item.is; before = was.farm; answer_is = rw w.in-Did.is at did.answer }) was.done was.counted;
+        goes_on = was.goes_on;
+        faultless = was.faultless;
+        still = λ shut. absurd (let e = sym did.opened.0 ∙ was.opened ∙ shut in cc);
+        keeps = λ keeps. did.stands (was.keeps keeps);
+      })
+      | in-Kept w ↦ rw w.end-is (record {
+        clean = omega (arith, c.act.ensures.clean);
+        opened = did.opened.1 ∙ sym did.opened.0 ∙ was.opened;
+        farm = did.farm ∙ farm_after F c.loop-call.keeper.farm.farm c.args.calls.now c.loop-call.call-index c.call-item.result low c.call-item.is was.farm;
+        done = omega (arith, was.done);
+        counted = counted_kept F c.loop-call.keeper.farm.farm c.args.calls.now c.loop-call.call-index c.call-item.result _ c.loop-call.end.accepted c.loop-call.end.kept
+            (record { low = low; here = c.call-item.is; before = was.farm; answer_is = rw w.in-Kept.is at did.answer }) was.done was.counted;
+        goes_on = was.goes_on;
+        faultless = was.faultless;
+        still = λ shut. absurd (let e = sym did.opened.0 ∙ was.opened ∙ shut in cc);
+        keeps = λ keeps. did.stands (was.keeps keeps);
+      })
+    ]
 
 pub returns-in-Err-clause-does : goal.returns-in-Err-clause-does
 returns-in-Err-clause-does g c =

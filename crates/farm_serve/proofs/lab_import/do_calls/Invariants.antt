@@ -1,10 +1,8 @@
 use Rattle.std.proofs.Common.{◌≡◌, ◌≤◌, ◌+◌, false, take}
 use Rattle.std.specs.Prelude.{None}
-use Rattle.sqlite.specs.Held.{state}
-use Rattle.sqlite_trees.specs.View.{doubt}
-use Rattle.farm_types.specs.Machine.{run}
-use Rattle.farm_keep.specs.KeeperState.{KeepsOwnFarm}
-use Rattle.farm_serve.specs.Imports.{IsCounted}
+use Rattle.farm_serve.proofs.Names.{doubt, KeepsOwnFarm, state}
+use Rattle.farm_types.specs.Names.{run}
+use Rattle.farm_serve.specs.Names.{IsCounted}
 use Rattle.farm_serve.proofs.lab_import.do_calls.Given as goal
 
 -- the first calls are done, none of them was refused, and each answer is counted

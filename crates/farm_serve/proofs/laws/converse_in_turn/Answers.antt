@@ -1,6 +1,6 @@
 -- One conversation more, answered or not.
 use Rattle.std.proofs.Common.{◌<◌, length, arith, refl, ap, Err}
-use Rattle.farm_serve.specs.Conversations.{desk}
+use Rattle.farm_serve.specs.Names.{desk}
 use Rattle.farm_serve.proofs.ConversationLemmas.{fault_in, gains_more, one_more, stops_at}
 use Rattle.farm_serve.proofs.ConverseLemmas.{no_room_within}
 use Rattle.farm_serve.proofs.laws.converse_in_turn.Goals as goal

@@ -1,7 +1,6 @@
 use Rattle.std.proofs.Common.{◌≤◌, take}
-use Rattle.sqlite.specs.Held.{state}
-use Rattle.sqlite_trees.specs.View.{doubt}
-use Rattle.farm_serve.specs.Conversations.{AnswersAll, desk}
+use Rattle.farm_serve.proofs.Names.{doubt, state}
+use Rattle.farm_serve.specs.Names.{AnswersAll, desk}
 use Rattle.farm_serve.proofs.ConversationLemmas.{GainsWithin}
 use Rattle.farm_serve.proofs.laws.converse_in_turn.Given as goal
 

@@ -1,12 +1,8 @@
 use Rattle.std.proofs.Common.{sym, subst}
-use Rattle.sqlite.specs.Held.{state}
-use Rattle.sqlite.specs.Tree.{Trees}
-use Rattle.farm_sound.proofs.Step.{IsSound-run}
-use Rattle.farm_store.specs.Columns.{rows_of}
-use Rattle.farm_store.specs.Holds.{Holds}
+use Rattle.farm_serve.proofs.Names.{gives_farm, Holds, IsSound-run, rows_of, state, Trees}
 use Rattle.farm_store.proofs.Listed.{opened_stands}
-use Rattle.farm_types.specs.Machine.{run}
-use Rattle.farm_keep.proofs.LifeLemmas.{StandsOpened, gives_farm}
+use Rattle.farm_types.specs.Names.{run}
+use Rattle.farm_keep.proofs.LifeLemmas.{StandsOpened}
 use Rattle.farm_serve.proofs.DeskLifeLemmas.{desk_lives}
 use Rattle.farm_serve.proofs.laws.desk_lives_keep_what_was_answered.Goals as goal
 

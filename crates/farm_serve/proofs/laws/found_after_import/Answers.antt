@@ -1,12 +1,7 @@
 use Rattle.std.proofs.Common.{sym, subst}
-use Rattle.sqlite.specs.Held.{state}
-use Rattle.sqlite.specs.Tree.{Trees}
-use Rattle.farm_sound.proofs.Step.{IsSound-run}
-use Rattle.farm_store.specs.Columns.{rows_of}
-use Rattle.farm_store.specs.Holds.{Holds}
-use Rattle.farm_types.specs.Machine.{run}
+use Rattle.farm_serve.proofs.Names.{gives_farm, Holds, IsSound-run, rows_of, state, Trees}
+use Rattle.farm_types.specs.Names.{run}
 use Rattle.farm_keep.specs.Lives.{GivesFarm}
-use Rattle.farm_keep.proofs.LifeLemmas.{gives_farm}
 use Rattle.farm_serve.proofs.StopLemmas.{import_given}
 use Rattle.farm_serve.proofs.laws.found_after_import.Goals as goal
 

@@ -1,11 +1,6 @@
 use Rattle.std.proofs.Common.{sym, subst}
-use Rattle.sqlite.specs.Held.{state}
-use Rattle.sqlite.specs.Tree.{Trees}
-use Rattle.farm_sound.proofs.Step.{IsSound-run}
-use Rattle.farm_store.specs.Columns.{rows_of}
-use Rattle.farm_store.specs.Holds.{Holds}
-use Rattle.farm_types.specs.Machine.{run}
-use Rattle.farm_keep.proofs.LifeLemmas.{gives_farm}
+use Rattle.farm_serve.proofs.Names.{gives_farm, Holds, IsSound-run, rows_of, state, Trees}
+use Rattle.farm_types.specs.Names.{run}
 use Rattle.farm_serve.proofs.StopLemmas.{served_left}
 use Rattle.farm_serve.proofs.laws.found_after_serving.Goals as goal
 

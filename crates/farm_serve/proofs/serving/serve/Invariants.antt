@@ -1,8 +1,6 @@
 use Rattle.std.proofs.Common.{◌≤◌}
-use Rattle.sqlite.specs.Held.{state}
-use Rattle.sqlite_trees.specs.View.{doubt}
-use Rattle.farm_serve.specs.Serving.{ServesClients}
-use Rattle.farm_serve.specs.Connections.{ServesInTurn}
+use Rattle.farm_serve.proofs.Names.{doubt, state}
+use Rattle.farm_serve.specs.Names.{ServesClients, ServesInTurn}
 use Rattle.farm_serve.proofs.serving.serve.Given as goal
 
 -- so many clients were served, and the keeper is open
