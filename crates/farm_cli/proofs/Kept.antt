@@ -1,5 +1,6 @@
 -- Rows whose values pass their arguments, and what a use of an argument keeps of them.
-use Rattle.std.proofs.Common.{ℕ, suc, Bool, true, false, cond, List, [], ◌∷◌, ◌++◌, Option, Some, None, codes, length, ◌≡◌, ◌∙◌, ◌==◌, ◌&&◌, ◌||◌, ap, refl, sym, subst, arith, append-nil}
+use Rattle.std.proofs.Common.{ℕ, suc, Bool, true, false, cond, List, [], ◌∷◌, ◌++◌, Option, Some, None, codes, length, ◌≡◌, ◌∙◌, ◌==◌, ◌&&◌, ◌||◌, ap, refl}
+use Rattle.std.proofs.Common.{sym, subst, arith, append-nil}
 use Rattle.std.specs.Prelude.{find, if◌then◌else◌, IfSome, ⊤}
 use Rattle.std.specs.Str.{bytes_eq}
 use Rattle.std.proofs.lemmas.Bool.Decides.{nat_tests}

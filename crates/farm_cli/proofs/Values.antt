@@ -1,5 +1,6 @@
 -- What the good rows of a subcommand with all that it requires name.
-use Rattle.std.proofs.Common.{ℕ, Bool, true, false, not, cond, List, [], ◌∷◌, Option, Some, None, codes, option_and_then, option_map, is_some, unwrap_or, ◌≡◌, ◌∙◌, ◌≤◌, ◌&&◌, ◌||◌, ap, refl, subst, arith}
+use Rattle.std.proofs.Common.{ℕ, Bool, true, false, not, cond, List, [], ◌∷◌, Option, Some, None, codes, option_and_then, option_map, is_some, unwrap_or, ◌≡◌}
+use Rattle.std.proofs.Common.{◌∙◌, ◌≤◌, ◌&&◌, ◌||◌, ap, refl, subst, arith}
 use Rattle.std.specs.Prelude.{find, IfSome, slice_get, nat_lt}
 use Rattle.std.specs.List.{list_any}
 use Rattle.std.specs.Str.{bytes_eq}
@@ -9,12 +10,13 @@ use Rattle.std.proofs.lemmas.Slice.Eq.{bytes_eq-Decides}
 use Rattle.clap.specs.Takes.{is_given, value_passes}
 use Rattle.clap.specs.ValueTests.{is_unsigned_in}
 use Rattle.clap.specs.Values.{read_as}
-use Rattle.clap.specs.Walk.{Row, Rule, Text, arg_by_id, one_of, row_text}
+use Rattle.clap.specs.Walk.{Row, Rule, Text, arg_by_id, first_of, one_of, row_text}
 use Rattle.clap.specs.declared.builder.value_parser.Reading.{Reading}
 use Rattle.clap.specs.declared.builder.value_parser.Reading.TheVariants.{AsWritten}
 use Rattle.clap.specs.declared.builder.value_parser.ValueParser.TheVariants as vp
 use Rattle.clap.proofs.ValueTestLemmas.{accepts-Accepts, Accepts-accepts}
-use Rattle.farm_cli.specs.Orders.{Form, IsInBounds, DatabaseForm, leaves_choice, minutes_of, argument_number, once, order_named, database_in, port_in, report, serve, argument_text, u16_of, u64_in, which_in}
+use Rattle.farm_cli.specs.Orders.{Form, IsInBounds, leaves_choice, minutes_of, argument_number, once, order_named, database_in, port_in, report}
+use Rattle.farm_cli.specs.Orders.{serve, u16_of, u64_in, which_in}
 use Rattle.farm_cli.specs.declared.order.Report.{Report}
 use Rattle.farm_cli.proofs.Kept.{AllKeep, AreGood, HasPassing, IsGood, KeepsGood, help, help_keeps, memory, memory_keeps, value_keeps, value_rule}
 use Rattle.farm_cli.proofs.Walked.{is_missing}
@@ -52,11 +54,11 @@ found_value c a id (r ∷ rs) found good = go (bytes_eq r.id id) refl (found_val
 
 -- the value of an argument that was given
 given_value : (c : List Rule) (a : Rule) (id : Text) (rows : List Row) → arg_by_id c id ≡ Some a → AreGood c rows → is_given id rows ≡ true
-    → (v : Text) × (argument_text id rows ≡ Some v) × (one_of id rows ≡ Some v) × (value_passes a v ≡ true)
+    → (v : Text) × (first_of id rows ≡ Some v) × (one_of id rows ≡ Some v) × (value_passes a v ≡ true)
 given_value c a id rows found good given = go (find (has_id id) rows) refl (found_value c a id rows found good)
   where
     go : (o : Option Row) → find (has_id id) rows ≡ o → IfSome o (HasValue a)
-        → (v : Text) × (argument_text id rows ≡ Some v) × (one_of id rows ≡ Some v) × (value_passes a v ≡ true)
+        → (v : Text) × (first_of id rows ≡ Some v) × (one_of id rows ≡ Some v) × (value_passes a v ≡ true)
     go None e h = let bad : false ≡ true = rw e at given in cc
     go (Some r) e h =
         (h.0, ap (option_and_then (λ (x : Row). slice_get x.values 0)) e ∙ h.1, ap (option_and_then row_text) e ∙ h.2, h.3)
@@ -180,7 +182,7 @@ once_settles rows whole =
     let n = given_number once_rules (codes "at") true 0 18446744073709551615 rows refl whole.0 (one_given (is_given (codes "at") rows) whole.1) in
     go (database_in rows) (argument_number (codes "at") rows) n.0 n.1
   where
-    go : (place : Option DatabaseForm) (at : Option ℕ) (n : ℕ) → at ≡ Some n
+    go : (place : Option (Option Text)) (at : Option ℕ) (n : ℕ) → at ≡ Some n
         → IsSettled (option_and_then (λ p. option_map (λ t. once p t) at) place) ((true && not (is_some place)) || (false && not (is_some (which_in rows))))
     go None at n e = refl
     go (Some p) at n e = rw e tt
@@ -214,7 +216,7 @@ serve_settles rows whole =
     let f = given_value serve_rules (db true) (codes "db") rows refl whole.0 given.0 in
     let p = given_number serve_rules (codes "port") true 1 65535 rows refl whole.0 given.1 in
     let m = given_number serve_rules (codes "max") true 0 18446744073709551615 rows refl whole.0 given.2 in
-    go (argument_text (codes "db") rows) (port_in rows) (argument_number (codes "max") rows) f.0 p.0 m.0 f.1
+    go (first_of (codes "db") rows) (port_in rows) (argument_number (codes "max") rows) f.0 p.0 m.0 f.1
     (small_port (argument_number (codes "port") rows) p.0 p.1 p.3) m.1 p.2 p.3
   where
     go : (file : Option Text) (port max : Option ℕ) (f : Text) (p m : ℕ) → file ≡ Some f → port ≡ Some p → max ≡ Some m → 1 ≤ p → p ≤ 65535
@@ -225,7 +227,7 @@ pub report_settles : (rows : List Row) → AreWhole report_rules rows → Settle
 report_settles rows whole =
     let given = two_given (is_given (codes "db") rows) (is_given (codes "which") rows) whole.1 in
     let f = given_value report_rules (db true) (codes "db") rows refl whole.0 given.0 in
-    go (argument_text (codes "db") rows) (which_in rows) f.0 f.1
+    go (first_of (codes "db") rows) (which_in rows) f.0 f.1
     (minutes_small report_rules (codes "east") rows refl whole.0) (minutes_small report_rules (codes "west") rows refl whole.0)
   where
     go : (file : Option Text) (which : Option Report) (f : Text) → file ≡ Some f

@@ -1,5 +1,6 @@
 -- Words without a fault enter a subcommand, and name an order or leave a choice open.
-use Rattle.std.proofs.Common.{ℕ, Bool, true, false, not, cond, List, [], ◌∷◌, Option, Some, None, codes, is_some, option_map, drop, fold, ◌≡◌, ◌&&◌, refl, sym, subst}
+use Rattle.std.proofs.Common.{ℕ, Bool, true, false, not, cond, List, [], ◌∷◌, Option, Some, None, codes, is_some, option_map, drop, fold, ◌≡◌, ◌&&◌, refl, sym}
+use Rattle.std.proofs.Common.{subst}
 use Rattle.std.specs.Prelude.{if◌then◌else◌, ⊤}
 use Rattle.std.specs.List.{list_any}
 use Rattle.std.specs.Str.{bytes_eq}
@@ -9,12 +10,15 @@ use Rattle.clap.specs.Faults.{check_fault, defaults_fault, entered_fault, fault_
 use Rattle.clap.specs.Facts.{explicit_source}
 use Rattle.clap.specs.Takes.{is_given}
 use Rattle.clap.specs.Kinds.{check_kinds, or_else}
-use Rattle.clap.specs.Walk.{Held, Names, Outcome, Step, Text, Waiting, Walk, after_flag, after_step, answers_to, arg_by_long, done, finished, idle, long_met, long_or_other, next, nothing_held, rows_after, Row, option, plain, plain_word, positional, refused, settled, short_or_plain, bundle, subcommand, subcommand_or_other, trailing, value, waits, walk, walk_from, walked, walked_from, word_met}
+use Rattle.clap.specs.Walk.{Held, Names, Outcome, Step, Text, Waiting, Walk, after_flag, after_step, answers_to, arg_by_long, done, finished, idle, long_met}
+use Rattle.clap.specs.Walk.{long_or_other, next, nothing_held, rows_after, Row, option, plain, plain_word, positional, refused, settled, short_or_plain, bundle}
+use Rattle.clap.specs.Walk.{subcommand, subcommand_or_other, trailing, value, waits, walk, walk_from, walked, walked_from, word_met}
 use Rattle.clap.specs.Words.{subcommand_of}
 use Rattle.farm_cli.specs.App.{farm_app}
 use Rattle.farm_cli.specs.Orders.{leaves_choice, order_in}
 use Rattle.farm_cli.proofs.Kept.{neither, no_fault}
-use Rattle.farm_cli.proofs.Values.{IsSettled, import_keep, import_rules, import_settles, init_keep, init_rules, init_settles, migrate_settles, once_keep, once_rules, once_settles, report_keep, report_rules, report_settles, serve_keep, serve_rules, serve_settles}
+use Rattle.farm_cli.proofs.Values.{IsSettled, import_keep, import_rules, import_settles, init_keep, init_rules, init_settles, migrate_settles, once_keep}
+use Rattle.farm_cli.proofs.Values.{once_rules, once_settles, report_keep, report_rules, report_settles, serve_keep, serve_rules, serve_settles}
 use Rattle.farm_cli.proofs.Walked.{leaf_taken}
 
 abbrev top : Shape

@@ -1,8 +1,7 @@
 -- The program's words as `clap` is given them: one subcommand for each order.
 use Rattle.std.specs.Prelude.{◌≡◌, ℕ, Bool, Some, false, true, codes}
 use Rattle.clap.specs.Simple.{on_top}
-use Rattle.clap.specs.Words.{AddsSubcommand, App, Rule, Shape, Text, app_of, new_app, new_rule}
-use Rattle.clap.specs.Words.{with_rule, with_subcommand}
+use Rattle.clap.specs.Words.{AddsSubcommand, App, Rule, Shape, Text, app_of, new_app, new_rule, with_rule, with_subcommand}
 use Rattle.clap.specs.declared.builder.action.ArgAction.TheVariants.{Set, SetTrue}
 use Rattle.clap.specs.declared.builder.command.Command.{Command}
 use Rattle.clap.specs.declared.builder.value_parser.ValueParser.TheVariants.{Unsigned}

@@ -1,12 +1,10 @@
 -- What a fault says of the words.
-use Rattle.std.specs.Prelude.{◌≡◌, ◌≢◌, ◌⊎◌, [], List, Option, false, true, ⊤, codes}
-use Rattle.std.specs.Prelude.{if◌then◌else◌, string_bytes}
+use Rattle.std.specs.Prelude.{◌≡◌, ◌≢◌, ◌⊎◌, [], List, Option, false, true, ⊤, codes, if◌then◌else◌, string_bytes}
 use Rattle.std.specs.Option.{option_map_or}
 use Rattle.std.specs.Str.{bytes_eq}
 use Rattle.clap.specs.Words.{IsAmong, Kinds, Row, Text}
 use Rattle.clap.specs.declared.error.kind.ErrorKind.{ErrorKind}
-use Rattle.clap.specs.declared.error.kind.ErrorKind.TheVariants.{DisplayHelp, DisplayVersion}
-use Rattle.clap.specs.declared.error.kind.ErrorKind.TheVariants.{OutOfMemory}
+use Rattle.clap.specs.declared.error.kind.ErrorKind.TheVariants.{DisplayHelp, DisplayVersion, OutOfMemory}
 use Rattle.farm_cli.specs.Orders.{leaves_choice}
 use Rattle.farm_cli.specs.declared.fault.OrderFault.{OrderFault}
 use Rattle.farm_cli.specs.declared.fault.OrderFault.TheVariants.{Help, Words, NoMemory}
@@ -21,14 +19,6 @@ IsOfKind kind (Help text) = IsAnswer kind
 IsOfKind kind (Words text) = (kind ≢ OutOfMemory) × (IsAnswer kind → ⊥)
 IsOfKind kind NoMemory = ⊤
 
--- help or the version is asked for, if errors of these kinds may come
-abbrev pub IsAnswerAmong : Kinds → Type 0
-IsAnswerAmong kinds = (kind : ErrorKind) × IsAmong kind kinds × IsAnswer kind
-
--- an error of one of these kinds, other than those two, may come
-abbrev pub IsWrongAmong : Kinds → Type 0
-IsWrongAmong kinds = (kind : ErrorKind) × IsAmong kind kinds × (IsAnswer kind → ⊥)
-
 -- what is reported of `once` with neither or both of `--memory` and `--db`
 abbrev pub no_place : Text
 no_place = codes "error: exactly one of '--memory' and '--db <FILE>' has to be provided\n\nUsage: farm once <--memory|--db <FILE>> --at <SECONDS>\n\nFor more information, try '--help'.\n"
@@ -42,16 +32,12 @@ abbrev pub open_text : Option (Text × List Row) → Text
 open_text named =
     if option_map_or (λ p. bytes_eq p.0 (codes "once")) named false then no_place else no_report
 
--- the text reports the choice that the words leave open
-pub record ReportsOpen (named : Option (Text × List Row)) (text : Text) : Type 0 where
-  pub open_choice : leaves_choice named ≡ true
-  pub reported : text ≡ open_text named
-
 -- a fault of words that may give errors of these kinds and name this subcommand: a text to print
 -- where help or the version is asked for, and else what is wrong with them, be it a choice that
 -- they leave open, which is reported
 abbrev pub IsFaultAmong : Kinds → Option (Text × List Row) → OrderFault → Type 0
-IsFaultAmong kinds named (Help text) = IsAnswerAmong kinds
-IsFaultAmong kinds named (Words text) = IsWrongAmong kinds
-    ⊎ ((kinds ≡ []) × ReportsOpen named (string_bytes text))
+IsFaultAmong kinds named (Help text) = (kind : ErrorKind) × IsAmong kind kinds × IsAnswer kind
+IsFaultAmong kinds named (Words text) =
+    ((kind : ErrorKind) × IsAmong kind kinds × (IsAnswer kind → ⊥))
+    ⊎ ((kinds ≡ []) × (leaves_choice named ≡ true) × (string_bytes text ≡ open_text named))
 IsFaultAmong kinds named NoMemory = ⊤

@@ -1,7 +1,6 @@
 -- The order that a subcommand and its values name.
-use Rattle.std.specs.Prelude.{◌≤◌, ◌&&◌, ◌||◌, ℕ, Bool, not, List, Option, Some, None, false, ⊤}
-use Rattle.std.specs.Prelude.{codes, if◌then◌else◌, is_some, nat_lt, option_and_then, option_map}
-use Rattle.std.specs.Prelude.{string_bytes, unwrap_or}
+use Rattle.std.specs.Prelude.{◌≤◌, ◌&&◌, ◌||◌, ℕ, Bool, not, List, Option, Some, None, false, ⊤, codes, if◌then◌else◌, is_some, nat_lt, option_and_then}
+use Rattle.std.specs.Prelude.{option_map, string_bytes, unwrap_or}
 use Rattle.std.specs.Option.{option_map_or}
 use Rattle.std.specs.Str.{bytes_eq}
 use Rattle.std.specs.Str.Parse.{digits_value, without_leading_plus}
@@ -18,13 +17,9 @@ use Rattle.farm_cli.specs.declared.order.Report.TheVariants.{Queue, Boards, Rese
 
 -- ---- an order, with its texts as bytes
 
--- a file, or none: memory
-abbrev pub DatabaseForm : Type 0
-DatabaseForm = Option Text
-
 pub data Form : Type 0 where
-  -- the database and the moment
-  once : DatabaseForm → ℕ → Form
+  -- the file, or none for memory, and the moment
+  once : Option Text → ℕ → Form
   -- the file
   init : Text → Form
   -- the file
@@ -36,7 +31,7 @@ pub data Form : Type 0 where
   -- the file, the minutes east and west, and the report
   report : Text → ℕ → ℕ → Report → Form
 
-abbrev pub database_form : Database → DatabaseForm
+abbrev pub database_form : Database → Option Text
 database_form Memory = None
 database_form (File file) = Some (string_bytes file)
 
@@ -60,10 +55,6 @@ IsInBounds _ = ⊤
 abbrev pub has_flag : Text → List Row → Bool
 has_flag id rows = option_map_or (λ text. bytes_eq text (codes "true")) (one_of id rows) false
 
--- the text that an argument has
-abbrev pub argument_text : Text → List Row → Option Text
-argument_text = first_of
-
 -- the `u64` that a text writes in decimal digits
 abbrev pub u64_in : Text → Option ℕ
 u64_in text = if is_unsigned_in 0 18446744073709551615 text
@@ -74,10 +65,10 @@ abbrev pub argument_number : Text → List Row → Option ℕ
 argument_number id rows = option_and_then u64_in (one_of id rows)
 
 -- just one of `--memory` and `--db FILE`
-abbrev pub database_in : List Row → Option DatabaseForm
+abbrev pub database_in : List Row → Option (Option Text)
 database_in rows = if has_flag (codes "memory") rows
-    then (if is_some (argument_text (codes "db") rows) then None else Some None)
-    else option_map (λ file. Some file) (argument_text (codes "db") rows)
+    then (if is_some (first_of (codes "db") rows) then None else Some None)
+    else option_map (λ file. Some file) (first_of (codes "db") rows)
 
 abbrev pub u16_of : ℕ → Option ℕ
 u16_of n = if nat_lt n 65536 then Some n else None
@@ -92,7 +83,7 @@ report_of name = if bytes_eq name (codes "queue") then Some Queue
     else (if bytes_eq name (codes "reservations") then Some Reservations else None))
 
 abbrev pub which_in : List Row → Option Report
-which_in rows = option_and_then report_of (argument_text (codes "which") rows)
+which_in rows = option_and_then report_of (first_of (codes "which") rows)
 
 -- the minutes of an offset, 0 where it wasn't given
 abbrev pub minutes_of : Text → List Row → ℕ
@@ -104,32 +95,26 @@ abbrev pub once_in : List Row → Option Form
 once_in rows = option_and_then (λ database. option_map (λ at. once database at)
     (argument_number (codes "at") rows)) (database_in rows)
 
-abbrev pub init_in : List Row → Option Form
-init_in rows = option_map (λ file. init file) (argument_text (codes "db") rows)
-
-abbrev pub migrate_in : List Row → Option Form
-migrate_in rows = option_map (λ file. migrate file) (argument_text (codes "db") rows)
-
 abbrev pub import_in : List Row → Option Form
 import_in rows = option_and_then (λ file. option_and_then (λ at. option_map (λ lab.
-    import file at lab) (argument_text (codes "lab") rows)) (argument_number (codes "at") rows))
-    (argument_text (codes "db") rows)
+    import file at lab) (first_of (codes "lab") rows)) (argument_number (codes "at") rows))
+    (first_of (codes "db") rows)
 
 abbrev pub serve_in : List Row → Option Form
 serve_in rows = option_and_then (λ file. option_and_then (λ port. option_map (λ max.
     serve file port max) (argument_number (codes "max") rows)) (port_in rows))
-    (argument_text (codes "db") rows)
+    (first_of (codes "db") rows)
 
 abbrev pub report_in : List Row → Option Form
 report_in rows = option_and_then (λ file. option_map (λ which.
     report file (minutes_of (codes "east") rows) (minutes_of (codes "west") rows) which)
-    (which_in rows)) (argument_text (codes "db") rows)
+    (which_in rows)) (first_of (codes "db") rows)
 
 -- the order of a subcommand with its values
 abbrev pub order_named : Text → List Row → Option Form
 order_named name rows = if bytes_eq name (codes "once") then once_in rows
-    else (if bytes_eq name (codes "init") then init_in rows
-    else (if bytes_eq name (codes "migrate") then migrate_in rows
+    else (if bytes_eq name (codes "init") then option_map (λ file. init file) (first_of (codes "db") rows)
+    else (if bytes_eq name (codes "migrate") then option_map (λ file. migrate file) (first_of (codes "db") rows)
     else (if bytes_eq name (codes "import") then import_in rows
     else (if bytes_eq name (codes "serve") then serve_in rows
     else (if bytes_eq name (codes "report") then report_in rows else None)))))

@@ -1,17 +1,17 @@
 //! Reading the words.
 ghost use Rattle.std.specs.Prelude.{◌≡◌, ◌⊎◌, [], IfErr, IfOk, Some, false, map, option_map, true};
 ghost use Rattle.std.specs.Prelude.{codes, string_bytes};
-ghost use Rattle.clap.specs.Words.{app_of, fault_of as kinds_of, found_of, rows_of};
+ghost use Rattle.clap.specs.Words.{app_of, fault_of as kinds_of, first_of, found_of, rows_of};
 ghost use Rattle.clap.specs.Words.{rule_of, subcommand_of, subcommand_rows_of, takes};
 ghost use Rattle.farm_cli.specs.App.{AddsShape, at_rule, bare_app, db_rule, farm_app};
 ghost use Rattle.farm_cli.specs.App.{import_app, init_app, max_rule, memory_rule, migrate_app};
 ghost use Rattle.farm_cli.specs.App.{offset_rule, once_app, text_rule};
 ghost use Rattle.farm_cli.specs.App.{port_rule, positional_rule, report_app, serve_app};
 ghost use Rattle.farm_cli.specs.Faults.{IsFaultAmong, open_text};
-ghost use Rattle.farm_cli.specs.Orders.{IsInBounds, form_of, has_flag, import_in, init_in};
-ghost use Rattle.farm_cli.specs.Orders.{leaves_choice, migrate_in, argument_number, once_in, order_in};
+ghost use Rattle.farm_cli.specs.Orders.{IsInBounds, form_of, has_flag, import_in};
+ghost use Rattle.farm_cli.specs.Orders.{leaves_choice, argument_number, once_in, order_in};
 ghost use Rattle.farm_cli.specs.Orders.{database_form, database_in, port_in, report_in};
-ghost use Rattle.farm_cli.specs.Orders.{report_of, serve_in, argument_text, which_in};
+ghost use Rattle.farm_cli.specs.Orders.{report_of, serve_in, which_in};
 ghost use Rattle.farm_cli.specs.declared.fault.OrderFault.TheVariants.{NoMemory};
 
 use crate::fault::{OrderFault, fault_of};
@@ -104,7 +104,7 @@ fn named(alloc: Global, matches: &ArgMatches<'_>) -> Result<Option<Order>, Alloc
 
 fn once_named(given: &ArgMatches<'_>, file: Option<String>) -> Option<Order>
     requires { option_map string_bytes file
-        ≡ argument_text (codes "db") (rows_of (found_of given.now)) }
+        ≡ first_of (codes "db") (rows_of (found_of given.now)) }
     ensures { option_map form_of result ≡ once_in (rows_of (found_of given.now)) }
 {
     let database = match (flag(given, "memory"), file) {
@@ -118,9 +118,9 @@ fn once_named(given: &ArgMatches<'_>, file: Option<String>) -> Option<Order>
 
 fn import_named(given: &ArgMatches<'_>, file: Option<String>, lab: Option<String>) -> Option<Order>
     requires file { option_map string_bytes file
-        ≡ argument_text (codes "db") (rows_of (found_of given.now)) }
+        ≡ first_of (codes "db") (rows_of (found_of given.now)) }
     requires lab { option_map string_bytes lab
-        ≡ argument_text (codes "lab") (rows_of (found_of given.now)) }
+        ≡ first_of (codes "lab") (rows_of (found_of given.now)) }
     ensures { option_map form_of result ≡ import_in (rows_of (found_of given.now)) }
 {
     let (file, at, lab) = (file?, number(given, "at")?, lab?);
@@ -129,7 +129,7 @@ fn import_named(given: &ArgMatches<'_>, file: Option<String>, lab: Option<String
 
 fn serve_named(given: &ArgMatches<'_>, file: Option<String>) -> Option<Order>
     requires { option_map string_bytes file
-        ≡ argument_text (codes "db") (rows_of (found_of given.now)) }
+        ≡ first_of (codes "db") (rows_of (found_of given.now)) }
     ensures { option_map form_of result ≡ serve_in (rows_of (found_of given.now)) }
 {
     let (file, port, max) = (file?, port(given)?, number(given, "max")?);
@@ -138,7 +138,7 @@ fn serve_named(given: &ArgMatches<'_>, file: Option<String>) -> Option<Order>
 
 fn report_named(given: &ArgMatches<'_>, file: Option<String>) -> Option<Order>
     requires { option_map string_bytes file
-        ≡ argument_text (codes "db") (rows_of (found_of given.now)) }
+        ≡ first_of (codes "db") (rows_of (found_of given.now)) }
     ensures { option_map form_of result ≡ report_in (rows_of (found_of given.now)) }
 {
     Some(Order::Report {
@@ -172,7 +172,7 @@ fn port(given: &ArgMatches<'_>) -> Option<u16>
 /// The text that an argument has.
 fn text(alloc: Global, given: &ArgMatches<'_>, id: &str) -> Result<Option<String>, AllocError>
     ensures { IfOk result (λ text.
-        option_map string_bytes text ≡ argument_text id.now (rows_of (found_of given.now))) }
+        option_map string_bytes text ≡ first_of id.now (rows_of (found_of given.now))) }
 {
     let text = given.get_str(id).map(|text| String::from_str(alloc, text));
     text.transpose()

@@ -1,6 +1,3 @@
 mod FileLemmas
-mod UpgradeLemmas
 mod LineLemmas
-mod LabLemmas
 mod UnsentLemmas
-mod PendingLemmas

@@ -1,5 +1,6 @@
--- What is left of bytes, what is cut of a row from its front, and how many bytes wait aside for it.
-use Rattle.std.proofs.Common.{◌≡◌, ℕ, ◌+◌, ◌-◌, ◌^◌, ◌<◌, ◌≤◌, List, [], ◌∷◌, ◌++◌, length, take, drop, map, min, All, refl, sym, ap, subst, ◌∙◌, append_assoc, length-append, arith}
+-- What is left of bytes, who stays in a row, who is cut from its front, and how many bytes wait aside for it.
+use Rattle.std.proofs.Common.{◌≡◌, ℕ, ◌+◌, ◌-◌, ◌^◌, ◌<◌, ◌≤◌, List, [], ◌∷◌, ◌++◌, length, take, drop, map, min, All, refl, sym, ap, subst, ◌∙◌}
+use Rattle.std.proofs.Common.{append_assoc, length-append, arith, Bool, true, false, if◌then◌else◌, append-nil}
 use Rattle.std.proofs.KnownBytes.{Appends-nil, Appends-kept, Appends-trans}
 use Rattle.std.proofs.lemmas.List.{drop_all, length-drop, same_from_push, take-append-drop, map-append}
 use Rattle.std.proofs.lemmas.List.Sums.{sum_by-append}
@@ -7,9 +8,9 @@ use Rattle.std.proofs.lemmas.List.Elements.{All-push}
 use Rattle.std.specs.Io.KnownBytes.{Appends, Keeps}
 use Rattle.std.specs.Prelude.{Option}
 use Rattle.std.specs.declared.time.Duration.{Duration}
-use Rattle.farm_desk.specs.Unsent.{held, held_by, SendsSome, CutsOldest, Fits}
-use Rattle.farm_desk.specs.Waiting.{HasTimedOut, IsCut}
+use Rattle.farm_desk.specs.Waiting.{held, held_by, SendsSome, CutsOldest, Fits, HasTimedOut, IsCut, Stay}
 use Rattle.farm_desk.specs.declared.leavers.Leaving.{Leaving}
+use Rattle.farm_desk.specs.declared.waiting.Waiting.{Waiting}
 
 -- nothing is left where as many bytes were sent
 pub none_left : (bytes : List ℕ) (n : ℕ) → length bytes ≤ n → drop n bytes ≡ []
@@ -95,3 +96,12 @@ adds_one v xs x sum so =
     let all : held_by (map v (xs ++ x ∷ [])) ≡ held_by (map v xs) + held_by (v x ∷ []) = ap held_by (map-append v xs (x ∷ [])) ∙ sum_by-append (λ one. held one.unsent) (map v xs) (v x ∷ []) in
     let one : held_by (v x ∷ []) ≡ 0 + held (v x).unsent = refl in
     omega (arith, so, all, one)
+
+-- ---- who stays
+
+pub stay_same : (old new : List Waiting) → new ≡ old → Stay old new
+stay_same old new same = ([], same ∙ sym (append-nil old))
+
+pub stay_push : (pushed : Bool) (old row new : List Waiting) (one : Waiting) → row ≡ old → new ≡ (if pushed then row ++ one ∷ [] else row) → Stay old new
+stay_push true old row new one same is = (one ∷ [], is ∙ ap (λ l. l ++ one ∷ []) same)
+stay_push false old row new one same is = stay_same old new (is ∙ same)

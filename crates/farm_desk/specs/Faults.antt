@@ -1,10 +1,11 @@
 -- The program's exit statuses.
-use Rattle.std.specs.Prelude.{◌==◌, ℕ, Result, Ok, Err, if◌then◌else◌}
+use Rattle.std.specs.Prelude.{◌==◌, ℕ, Result, Ok, Err, if◌then◌else◌, ◌≡◌, [], ◌∷◌}
 use Rattle.farm_jobfile.specs.declared.fault.FileFault.{FileFault}
 use Rattle.farm_wire.specs.Replies.{ok_status}
 use Rattle.farm_keep.specs.declared.fault.KeepFault.{KeepFault}
 use Rattle.farm_serve.specs.declared.fault.DeskFault.{DeskFault}
 use Rattle.farm_desk.specs.declared.orders.End.{End}
+use Rattle.farm_desk.specs.declared.command_line.TheConstants.{DONE, FAILED, OUT_OF_MEMORY, REFUSED, WRONG_WORDS}
 
 -- the order was carried out
 abbrev pub done : ℕ
@@ -49,3 +50,7 @@ order_status (Ok End.Done) = done
 order_status (Ok End.Refused) = refused
 order_status (Ok (End.RefusedAt place refusal)) = refused
 order_status (Err fault) = exit_status fault
+
+abbrev pub ExitStatusesAgree : Type 0
+ExitStatusesAgree = (DONE ∷ WRONG_WORDS ∷ REFUSED ∷ FAILED ∷ OUT_OF_MEMORY ∷ [])
+    ≡ (done ∷ wrong_words ∷ refused ∷ failed ∷ out_of_memory ∷ [])

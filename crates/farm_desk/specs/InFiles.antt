@@ -1,5 +1,5 @@
--- Which farm a file and the log beside it hold.
-use Rattle.std.specs.Prelude.{◌≡◌, ◌≤◌, ℕ, true, List, take, Result, Ok, Err, ⊤}
+-- Which farm a file and the log beside it hold, and how one of the first edition comes to this one.
+use Rattle.std.specs.Prelude.{◌≡◌, ◌≤◌, ℕ, true, List, take, Result, Ok, Err, ⊤, ◌⊎◌}
 use Rattle.sqlite.specs.Effect.{Database, IsDatabase}
 use Rattle.sqlite.specs.Files.{HoldsDatabase, over_files, file_state, AreFoundIn, IsOpened}
 use Rattle.sqlite.specs.Held.{Held, state}
@@ -15,20 +15,18 @@ use Rattle.sqlite_trees.specs.View.{IsClean, doubt}
 use Rattle.sqlite_trees.specs.Objects.{catalog_tree}
 use Rattle.sqlite_trees.specs.declared.store.Store as store
 use Rattle.sqlite_wal.specs.Recovery.{Image}
-use Rattle.farm_store.specs.Columns.{IsOfSchema, TableRows, first_schema, rows_of}
-use Rattle.farm_store.specs.Holds.{Holds}
+use Rattle.farm_store.specs.Columns.{IsOfSchema, TableRows, first_schema, rows_of, first_rows_of, second_schema}
+use Rattle.farm_store.specs.Holds.{Holds, LeavesEither, Stands}
 use Rattle.farm_store.specs.Schema.{farm_schema, no_schema}
-use Rattle.farm_types.specs.Farm.{Farm, empty_farm}
-use Rattle.farm_types.specs.Sound.{IsSound}
-use Rattle.farm_types.specs.Machine.{run}
+use Rattle.farm_types.specs.Names.{empty_farm, Farm, IsSound, run}
 use Rattle.farm_types.specs.declared.calls.Call.{Call}
-use Rattle.farm_keep.specs.Faults.{IsFindFault}
+use Rattle.farm_keep.specs.Faults.{IsFindFault, IsMigrateFault}
 use Rattle.farm_keep.specs.Headline.{Runs}
-use Rattle.farm_keep.specs.KeeperState.{KeeperState, KeepsOwnFarm, KeepsFarm}
+use Rattle.farm_keep.specs.KeeperState.{KeeperState, KeepsOwnFarm, KeepsFarm, UnkeptState}
 use Rattle.farm_keep.specs.Lives.{LeavesDone}
-use Rattle.farm_keep.specs.UnkeptState.{UnkeptState}
 use Rattle.farm_keep.specs.declared.fault.KeepFault.{KeepFault}
 use Rattle.farm_keep.specs.declared.keeper.run.RunEnd.{RunEnd}
+use Rattle.farm_keep.specs.First.{IsSoundFirst}
 use Rattle.farm_serve.specs.Connections.{AreServedInTurn, Connection}
 use Rattle.farm_serve.specs.Imports.{IsImport}
 use Rattle.farm_serve.specs.Stops.{Do, GivesImported}
@@ -101,13 +99,13 @@ abbrev pub IsOpenFault : DeskFault → Type 0
 IsOpenFault (DeskFault.Keep fault) = IsFindFault fault
 IsOpenFault fault = ⊥
 
--- the files are bad only where they hold no sound farm, and their schema is old only where their
--- tables are of the first edition
-abbrev pub DeniesFarm : Image → DeskFault → Type 0
-DeniesFarm image (DeskFault.Keep KeepFault.BadStore) = (F : Farm) → IsSound F → ¬ HoldsFarm image F
-DeniesFarm image (DeskFault.Keep KeepFault.OldSchema) = (T : TableRows) → HoldsTables image T
+-- where these tables are held, they are bad only if they are no sound farm's, and their schema is
+-- old only if they are of the first edition
+abbrev pub DeniesFarm : (TableRows → Type 0) → DeskFault → Type 0
+DeniesFarm Are (DeskFault.Keep KeepFault.BadStore) = (F : Farm) → IsSound F → ¬ Are (rows_of F)
+DeniesFarm Are (DeskFault.Keep KeepFault.OldSchema) = (T : TableRows) → Are T
     → IsOfSchema first_schema T
-DeniesFarm image other = ⊤
+DeniesFarm Are other = ⊤
 
 -- what was made of a connection, or the fault that came in its place
 abbrev pub handed_on : {S A : Type 0} → Result A (UnkeptState S) → Result A DeskFault
@@ -169,14 +167,6 @@ pub record MakesTables {S : Type 0} (g : store.Ghosts S) (conn : Held S) (k : Ke
   pub bare : (state g conn).now.schema ≡ no_schema
   pub free : HasCleanDisk (state g k.conn) → (T : TableRows) → ¬ OpensTables g conn T
 
--- why no keeper is made from a connection
-abbrev pub DeniesTables : {S : Type 0} → store.Ghosts S → Held S → DeskFault → Type 0
-DeniesTables g conn (DeskFault.Keep KeepFault.BadStore) = (F : Farm) → IsSound F
-    → ¬ OpensTables g conn (rows_of F)
-DeniesTables g conn (DeskFault.Keep KeepFault.OldSchema) = (T : TableRows) → OpensTables g conn T
-    → IsOfSchema first_schema T
-DeniesTables g conn other = ⊤
-
 -- ---- after a stop
 
 -- they hold the farm after so many of the calls as a stop after this run leaves done
@@ -220,3 +210,57 @@ LeavesImportedFiles k it =
     → KeepsOwnFarm over_files old → IsImport over_files old k text now end
     → (image : Image) → (files.state it).may_leave image
     → ∥ GivesImported (HoldsFarm image) old.farm.farm text now end end.fault ∥₁
+
+-- ---- the first edition's farm, brought to this edition
+
+-- they hold the first edition's tables of this farm
+abbrev pub HoldsFirst : Image → Farm → Type 0
+HoldsFirst image F = HoldsTables image (first_rows_of F)
+
+-- they hold the farm's tables, of the first edition or of this one
+abbrev pub FilesHoldEither : Image → Farm → Type 0
+FilesHoldEither image F = HoldsFirst image F ⊎ HoldsFarm image F
+
+-- these tables are those of a sound farm in the first edition
+abbrev pub AreFirst : TableRows → Type 0
+AreFirst T = (F : Farm) × IsSoundFirst F × (T ≡ first_rows_of F)
+
+-- where the files held a sound farm of the first edition, the store now represents its tables of
+-- this edition; and the files held no other tables
+pub record RaisesFarm {D : Type 0} {g : Ghosts D} (image : Image) (conn : Held (FileStore D g))
+    : Type 0 where
+  pub raised : HasCleanDisk (file_state conn) → (F : Farm) → IsSoundFirst F → HoldsFirst image F
+      → Stands (file_state conn) (rows_of F)
+  pub only : HasCleanDisk (file_state conn) → (T : TableRows) → HoldsTables image T → AreFirst T
+
+-- memory or the store failed, or the tables are those of no farm of the first edition
+abbrev pub IsUpgradeFault : DeskFault → Type 0
+IsUpgradeFault (DeskFault.Keep fault) = IsMigrateFault fault
+IsUpgradeFault fault = ⊥
+
+-- where these tables are held, they are bad only if they are no sound farm's of the first edition,
+-- and their schema is new only if they are of this one
+abbrev pub DeniesUpgrade : (TableRows → Type 0) → DeskFault → Type 0
+DeniesUpgrade Are (DeskFault.Keep KeepFault.BadStore) = (F : Farm) → IsSoundFirst F
+    → ¬ Are (first_rows_of F)
+DeniesUpgrade Are (DeskFault.Keep KeepFault.NewSchema) = (T : TableRows) → Are T
+    → IsOfSchema second_schema T
+DeniesUpgrade Are other = ⊤
+
+-- a connection was made from one: where that was just opened on the first edition's tables of a
+-- sound farm, it now represents its tables of this edition; and it was opened on no other tables
+pub record RaisesTables {S : Type 0} (g : store.Ghosts S) (conn new : Held S) : Type 0 where
+  pub clean : doubt (state g conn).is_clean ≤ doubt (state g new).is_clean
+  pub raised : HasCleanDisk (state g new) → (F : Farm) → IsSoundFirst F
+      → OpensTables g conn (first_rows_of F) → Stands (state g new) (rows_of F)
+  pub only : HasCleanDisk (state g new) → (T : TableRows) → OpensTables g conn T → AreFirst T
+
+-- what a stop leaves of the files of this store, which the connection had: where a stop may leave
+-- no more of the connection than a farm's tables of either edition, each holds these
+abbrev pub LeavesEitherFile : {D : Type 0} {g : Ghosts D} → Held (FileStore D g) → FileStore D g
+    → Type 0
+LeavesEitherFile conn it =
+    IsClean (files.view it) → (F : Farm)
+    → LeavesEither (file_state conn) (first_rows_of F) (rows_of F)
+    → (image : Image) → (files.state it).may_leave image
+    → ∥ FilesHoldEither image F ∥₁

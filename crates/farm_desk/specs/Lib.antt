@@ -1,15 +1,8 @@
 pub mod Faults
-pub mod LabFiles
 pub mod InFiles
-pub mod Upgrades
 pub mod Preflight
-pub mod Reports
 pub mod Lines
 pub mod NewFile
-pub mod Pending
-pub mod Unsent
 pub mod Waiting
-pub mod ExitStatuses
-pub mod Tasks
 pub mod Orders
 pub mod Program

@@ -1,6 +1,5 @@
 -- What the program does with its words.
-use Rattle.std.specs.Prelude.{◌≡◌, ◌⊎◌, ℕ, [], List, Option, Some, Result, Ok, Err, IfOk, IfErr}
-use Rattle.std.specs.Prelude.{Bool, true, false, string_bytes}
+use Rattle.std.specs.Prelude.{◌≡◌, ◌⊎◌, ℕ, [], List, Option, Some, Result, Ok, Err, IfOk, IfErr, Bool, true, false, string_bytes}
 use Rattle.std.specs.Io.KnownBytes.{Keeps}
 use Rattle.clap.specs.Words.{Text, fault_of, subcommand_of}
 use Rattle.farm_cli.specs.App.{farm_app}
@@ -36,28 +35,20 @@ pub record PrintsFault (held holds : Option (List ℕ)) (fault : DeskFault) (sta
   pub status_is : status ≡ exit_status fault
   pub printed : WritesPart held holds (fault_line (desk_fault_code fault))
 
--- a text is printed to a writer that has such room, or for want of room a part of it
-abbrev pub PrintsText : (ℕ → Type 0) → Option (List ℕ) → Option (List ℕ) → List ℕ → Type 0
-PrintsText Room held holds text = (failed : Bool) × Writes Room failed held holds text
-
--- help is on the output, and nothing beside it; or the output had no room for it, and that fault is
--- printed
-abbrev pub ShowsHelp : (ℕ → Type 0) → List ℕ → Option (List ℕ) → Option (List ℕ) → Option (List ℕ)
-    → Option (List ℕ) → ℕ → Type 0
-ShowsHelp Room text held holds errors_held errors_hold status =
-    ((status ≡ done) × Writes Room false held holds text × Keeps errors_held errors_hold)
-    ⊎ (Writes Room true held holds text
-    × PrintsFault errors_held errors_hold DeskFault.Write status)
-
 module _ (Room ErrorsRoom : ℕ → Type 0) where
-  -- how the program ends where the words name no order; the output and the errors have such room
+  -- how the program ends where the words name no order; the output and the errors have such room.
+  -- Help is on the output, and nothing beside it; or the output had no room for it, and that fault
+  -- is printed. What is wrong with the words is printed, or for want of room a part of it
   abbrev pub EndsUnread : OrderFault → Option (List ℕ) → Option (List ℕ) → Option (List ℕ)
       → Option (List ℕ) → ℕ → Type 0
   EndsUnread (OrderFault.Help text) held holds errors_held errors_hold status =
-      ShowsHelp Room (string_bytes text) held holds errors_held errors_hold status
+      ((status ≡ done) × Writes Room false held holds (string_bytes text)
+      × Keeps errors_held errors_hold)
+      ⊎ (Writes Room true held holds (string_bytes text)
+      × PrintsFault errors_held errors_hold DeskFault.Write status)
   EndsUnread (OrderFault.Words text) held holds errors_held errors_hold status =
-      (status ≡ wrong_words) × Keeps held holds
-      × PrintsText ErrorsRoom errors_held errors_hold (string_bytes text)
+      (status ≡ wrong_words) × Keeps held holds × (failed : Bool)
+      × Writes ErrorsRoom failed errors_held errors_hold (string_bytes text)
   EndsUnread OrderFault.NoMemory held holds errors_held errors_hold status =
       Keeps held holds × PrintsFault errors_held errors_hold DeskFault.NoMemory status
 

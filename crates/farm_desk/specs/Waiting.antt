@@ -1,7 +1,8 @@
--- Where a listener listens, who of its connections waits, and for how long. Times are in
--- nanoseconds, those of a clock since its start.
-use Rattle.std.specs.Prelude.{◌≡◌, ◌⊎◌, ◌+◌, ◌-◌, ◌*◌, ◌^◌, ◌<◌, ◌≤◌, ℕ, List, [], ◌∷◌, Option, Some, None, drop}
-use Rattle.std.specs.Prelude.{◌++◌, All, Bool, true, false, IsTrue, IsSomeAnd, min, nat_lt, if◌then◌else◌, ⊤}
+-- Where a listener listens, what is awaited of a connection, who waits, and for how long; what is left
+-- of answers that wait aside, and who is cut where that is too much. Times are in nanoseconds, those
+-- of a clock since its start.
+use Rattle.std.specs.Prelude.{◌≡◌, ◌⊎◌, ◌+◌, ◌-◌, ◌*◌, ◌^◌, ◌<◌, ◌≤◌, ℕ, List, [], ◌∷◌, Option, Some, None, drop, ◌++◌, All, Bool, true, false, IsTrue}
+use Rattle.std.specs.Prelude.{IsSomeAnd, min, nat_lt, if◌then◌else◌, ⊤, length, take, sum_by}
 use Rattle.std.specs.Option.{option_map}
 use Rattle.std.specs.Duration.{as_nanos, max_nanos}
 use Rattle.std.specs.Net.Addr.{ipv4_octets}
@@ -9,10 +10,15 @@ use Rattle.std.specs.Net.Socket.{v4_ip, v4_port}
 use Rattle.std.specs.VecDeque.{deque_items, deque_len}
 use Rattle.std.specs.declared.net.socket_addr.SocketAddr.{SocketAddr}
 use Rattle.std.specs.declared.time.Duration.{Duration}
+use Rattle.std.specs.Io.KnownBytes.{Appends}
+use Rattle.farm_http.specs.Fronts.{AreRefused, BeginsRequest}
+use Rattle.farm_http.specs.Heads.{IsOpenBelow}
 use Rattle.farm_desk.specs.declared.deadline_stream.ClientStream.{ClientStream}
 use Rattle.farm_desk.specs.declared.pending.Pending.{Pending}
 use Rattle.farm_desk.specs.declared.leavers.Leaving.{Leaving}
 use Rattle.farm_desk.specs.declared.waiting.Waiting.{Waiting}
+use Rattle.farm_desk.specs.declared.waiting.Look.{Look}
+use Rattle.farm_desk.specs.declared.unsent.Unsent.{Unsent}
 
 -- ---- times
 
@@ -122,18 +128,14 @@ LetsOldestGo old new true = OldestGoes old new × LosesNobody old new
     × (new.has_arrivals ≡ old.has_arrivals) × (new.to_accept ≡ old.to_accept)
 LetsOldestGo old new false = (deque_len old.incomplete ≡ 0) × (new ≡ old)
 
--- how long nobody is accepted once the system has refused to
-abbrev pub pause : ℕ
-pause = 100 * 10 ^ 6
-
--- one that the system refused counts as refused; then nobody is accepted for a while, unless the
--- oldest incomplete one may go and does
+-- one that the system refused counts as refused; then nobody is accepted for a tenth of a second,
+-- unless the oldest incomplete one may go and does
 pub record Refuses (now : Option Duration) (may_go : Bool) (old new : Pending) (paused : Bool)
     : Type 0 where
   pub all : LosesNobody old new
   pub arrivals : new.has_arrivals ≡ old.has_arrivals
   pub pauses : paused ≡ true → option_map as_nanos new.paused_until
-      ≡ option_map (λ at. min (as_nanos at + pause) max_nanos) now
+      ≡ option_map (λ at. min (as_nanos at + 100 * 10 ^ 6) max_nanos) now
   pub goes : paused ≡ false → IsTrue may_go × OldestGoes old new
 
 -- none of so many was accepted or refused, or is kept waiting
@@ -165,3 +167,84 @@ pub record TakesNext (now : Option Duration) (old new : Pending) (result : Optio
       → IsSomeAnd result (IsFirst (deque_items old.ready))
   pub numbered : new.numbered ≡ old.numbered
   pub arrivals : new.has_arrivals ≡ old.has_arrivals
+
+-- ---- what a look at the first bytes of a request finds
+
+-- of a request whose length is known that many bytes came, or more are awaited
+abbrev pub IsWhole : ℕ → List ℕ → Look → Type 0
+IsWhole whole came Look.Open = length came < whole
+IsWhole whole came Look.Done = whole ≤ length came
+IsWhole whole came Look.Empty = ⊥
+
+-- the request's head is there, and its length known from now on
+pub record Learns (new : Waiting) (came : List ℕ) (look : Look) : Type 0 where
+  pub whole : ℕ
+  pub begins : BeginsRequest came whole
+  pub known : new.whole ≡ Some whole
+  pub is_whole : IsWhole whole came look
+
+-- no line of the bytes ends a head, each leaves it open, and these are the bytes that were seen
+pub record StaysOpen (new : Waiting) (came : List ℕ) : Type 0 where
+  pub unknown : new.whole ≡ None
+  pub seen : new.seen ≡ length came
+  pub open_lines : IsOpenBelow (length came) came
+
+-- a byte of a line's end
+abbrev pub IsLineEnd : ℕ → Type 0
+IsLineEnd byte = (byte ≡ 13) ⊎ (byte ≡ 10)
+
+-- more bytes of empty lines than may come before a head
+abbrev pub HasManyEmpty : List ℕ → Type 0
+HasManyEmpty came = (n : ℕ) × (256 < n) × (n ≤ length came) × All IsLineEnd (take n came)
+
+-- what is found where nothing was known before: more is awaited, since the head isn't there or not
+-- all of its request; or none is, since some bytes are refused or all of the request is there; or
+-- there are too many empty lines
+abbrev pub LooksFirst : Waiting → List ℕ → Look → Type 0
+LooksFirst new came Look.Open = StaysOpen new came ⊎ Learns new came Look.Open
+LooksFirst new came Look.Done = AreRefused came ⊎ Learns new came Look.Done
+LooksFirst new came Look.Empty = HasManyEmpty came
+
+-- what is found by the first bytes of a request, if nothing was known by those that were seen before
+pub record Looks (old new : Waiting) (came : List ℕ) (look : Look) : Type 0 where
+  pub known : (whole : ℕ) → old.whole ≡ Some whole → IsWhole whole came look
+  pub first : old.whole ≡ None → IsOpenBelow old.seen came → LooksFirst new came look
+
+-- the end of a connection is all that is awaited of it; else that is found
+pub record LooksUnless (AtEnd : Type 0) (old new : Waiting) (came : List ℕ) (look : Look) : Type 0 where
+  pub end : AtEnd → look ≡ Look.Done
+  pub some : (AtEnd → ⊥) → Looks old new came look
+
+-- ---- what is left of answers that wait aside
+
+-- the bytes that are left of an answer
+abbrev pub left : Unsent → List ℕ
+left it = drop it.sent it.bytes.items
+
+-- how many bytes wait aside for it, those too that were sent
+abbrev pub held : Unsent → ℕ
+held it = length it.bytes.items
+
+-- some bytes from the front of what was left went to the writer, in their order, and no others did
+pub record SendsSome (old new : Option (List ℕ)) (before after : List ℕ) : Type 0 where
+  pub sent : List ℕ
+  pub parts : before ≡ sent ++ after
+  pub appends : Appends old new sent
+
+-- ---- clients whose answers wait aside
+
+-- how many bytes wait aside for a row of them
+abbrev pub held_by : List Leaving → ℕ
+held_by row = sum_by (λ one. held one.unsent) row
+
+-- they are no more, in number and in bytes, than may wait aside
+pub record Fits (row : List Leaving) : Type 0 where
+  pub few : length row ≤ 256
+  pub small : held_by row ≤ 64 * 2 ^ 20
+
+-- the oldest were cut until the others fit, and nobody without need
+pub record CutsOldest (old new : List Leaving) : Type 0 where
+  pub cut : List Leaving
+  pub parts : old ≡ cut ++ new
+  pub fits : Fits new
+  pub needed : (before : List Leaving) (last : Leaving) → cut ≡ before ++ last ∷ [] → Fits (last ∷ new) → ⊥

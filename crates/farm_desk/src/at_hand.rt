@@ -13,11 +13,11 @@ ghost use Rattle.sqlite_trees.specs.View.{doubt};
 ghost use Rattle.sqlite_wal.specs.Recovery.{Image};
 ghost use Rattle.farm_store.specs.Holds.{ReadsOnly};
 ghost use Rattle.farm_keep.specs.Faults.{IsFindFault, IsMigrateFault};
-ghost use Rattle.farm_keep.specs.Versions.{LooksForFarm, LooksForFirst};
+ghost use Rattle.farm_keep.specs.Found.{LooksForFarm, LooksForFirst};
 ghost use Rattle.farm_serve.specs.declared.fault.DeskFault as fault;
-ghost use Rattle.farm_desk.specs.InFiles.{DeniesFarm, DeniesTables, FindsFarm, FindsTables};
-ghost use Rattle.farm_desk.specs.InFiles.{LooksAtFiles, ShowsFiles};
-ghost use Rattle.farm_desk.specs.Upgrades.{DeniesRaise, DeniesUpgrade, RaisesFarm, RaisesTables};
+ghost use Rattle.farm_desk.specs.InFiles.{DeniesFarm, FindsFarm, FindsTables, HoldsTables};
+ghost use Rattle.farm_desk.specs.InFiles.{LooksAtFiles, OpensTables, ShowsFiles, DeniesUpgrade};
+ghost use Rattle.farm_desk.specs.InFiles.{RaisesFarm, RaisesTables};
 
 use farm_keep::{Keeper, Unkept, upgrade};
 use farm_store::opened_stands;
@@ -37,7 +37,8 @@ pub(crate) fn find_on<D: Disk>(
     // The files are reported as bad only where they hold no sound farm, and as of an old schema
     // only where their tables are of the first edition.
     ensures denied { IfErr result (λ u. HasCleanDisk (file_state u.conn) → (image : Image)
-        → ShowsFiles image conn → DeniesFarm image (fault.DeskFault.Keep u.fault)) }
+        → ShowsFiles image conn
+        → DeniesFarm (HoldsTables image) (fault.DeskFault.Keep u.fault)) }
 
     // Whatever else they hold, they are reported to be of an old schema only where their `meta` may
     // have 1, and are reported so where it has; where it has neither 1 nor 2 they are bad.
@@ -60,7 +61,7 @@ fn find_in<S: Alter>(alloc: Global, conn: Connection<S>) -> Result<Keeper<S>, Un
     requires { conn.in_transaction ≡ false }
     ensures found { IfOk result (FindsTables S.Store conn) }
     ensures denied { IfErr result (λ u. HasCleanDisk (state S.Store u.conn)
-        → DeniesTables S.Store conn (fault.DeskFault.Keep u.fault)) }
+        → DeniesFarm (OpensTables S.Store conn) (fault.DeskFault.Keep u.fault)) }
     ensures version { MatchResult result
         (λ k. HasCleanDisk (state S.Store k.conn) → LooksForFarm None (state S.Store conn).now)
         (λ u. HasCleanDisk (state S.Store u.conn)
@@ -85,7 +86,8 @@ pub(crate) fn raise_on<D: Disk>(
     // The files are reported as bad only where they hold no sound farm of the first edition, and as
     // new only where their tables are of this one.
     ensures denied { IfErr result (λ u. HasCleanDisk (file_state u.conn) → (image : Image)
-        → ShowsFiles image conn → DeniesUpgrade image (fault.DeskFault.Keep u.fault)) }
+        → ShowsFiles image conn
+        → DeniesUpgrade (HoldsTables image) (fault.DeskFault.Keep u.fault)) }
 
     // Whatever else they hold, they are reported to be of a new schema only where their `meta` may
     // have 2, and are reported so where it has; where it has neither 1 nor 2 they are bad.
@@ -107,7 +109,7 @@ fn raise_in<S: Alter>(alloc: Global, conn: Connection<S>) -> Result<Connection<S
     requires { conn.in_transaction ≡ false }
     ensures raised { IfOk result (RaisesTables S.Store conn) }
     ensures denied { IfErr result (λ u. HasCleanDisk (state S.Store u.conn)
-        → DeniesRaise S.Store conn (fault.DeskFault.Keep u.fault)) }
+        → DeniesUpgrade (OpensTables S.Store conn) (fault.DeskFault.Keep u.fault)) }
     ensures version { MatchResult result
         (λ new. HasCleanDisk (state S.Store new) → LooksForFirst None (state S.Store conn).now)
         (λ u. HasCleanDisk (state S.Store u.conn)

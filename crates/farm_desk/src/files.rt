@@ -2,10 +2,9 @@
 ghost use Rattle.std.specs.Prelude.{◌≡◌, false, IfOk, IfErr, IfSome};
 ghost use Rattle.sqlite_wal.specs.Files.{image_at};
 ghost use Rattle.sqlite_wal.specs.Recovery.{Image};
-ghost use Rattle.farm_desk.specs.InFiles.{ShowsFiles, FindsFarm, MakesTables};
-ghost use Rattle.farm_desk.specs.InFiles.{MakesFarm, IsOpenFault, handed_on};
+ghost use Rattle.farm_desk.specs.InFiles.{ShowsFiles, FindsFarm, MakesTables, MakesFarm};
+ghost use Rattle.farm_desk.specs.InFiles.{IsOpenFault, handed_on, IsUpgradeFault, RaisesFarm};
 ghost use Rattle.farm_desk.specs.Orders.{MakesNewFarm};
-ghost use Rattle.farm_desk.specs.Upgrades.{IsUpgradeFault, RaisesFarm};
 
 use crate::at_hand::{find_on, raise_on};
 use crate::new_file::NewFile;

@@ -2,7 +2,7 @@
 ghost use Rattle.std.specs.Prelude.{◌≡◌, ◌⊎◌, ◌↔◌, List, None, Option, IfOk, ℕ};
 ghost use Rattle.std.specs.IoError.{error_kind};
 ghost use Rattle.std.specs.declared.io.ErrorKind.TheVariants.{OutOfMemory};
-ghost use Rattle.farm_desk.specs.LabFiles.{IsTextOf};
+ghost use Rattle.farm_desk.specs.Orders.{IsTextOf};
 
 use farm_serve::DeskFault;
 use farm_types::LONGEST_LAB_FILE;

@@ -1,7 +1,7 @@
 //! What is proved of farms in files, and of the exit statuses.
-ghost use Rattle.farm_desk.specs.ExitStatuses.{ExitStatusesAgree};
+ghost use Rattle.farm_desk.specs.Faults.{ExitStatusesAgree};
 ghost use Rattle.farm_desk.specs.InFiles.{LeavesFiles, LeavesImportedFiles, LeavesServedFiles};
-ghost use Rattle.farm_desk.specs.Upgrades.{LeavesEitherFile};
+ghost use Rattle.farm_desk.specs.InFiles.{LeavesEitherFile};
 
 use farm_keep::Keeper;
 use farm_serve::Clients;

@@ -3,8 +3,8 @@ ghost use Rattle.std.specs.Prelude.{◌≡◌, ◌+◌, ◌-◌, ◌^◌, ◌↔
 ghost use Rattle.std.specs.Duration.{as_nanos};
 ghost use Rattle.std.specs.Option.{option_map};
 ghost use Rattle.std.specs.VecDeque.{deque_items};
-ghost use Rattle.farm_desk.specs.Unsent.{held_by, CutsOldest, Fits};
-ghost use Rattle.farm_desk.specs.Waiting.{leaver_left, CutsOverdue, IsCut};
+ghost use Rattle.farm_desk.specs.Waiting.{held_by, CutsOldest, Fits, leaver_left, CutsOverdue};
+ghost use Rattle.farm_desk.specs.Waiting.{IsCut};
 
 use crate::deadline_stream::{ClientStream, has_timed_out, time_left};
 use crate::unsent::Unsent;

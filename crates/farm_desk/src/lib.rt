@@ -7,9 +7,8 @@
 //! socket_clients; new_file, preflight, at_hand, files, open_files, spent; report, orders,
 //! command_line; laws.
 //!
-//! Read `specs/` in the order LabFiles; Pending, Unsent, Waiting, who is served next; Preflight, NewFile,
-//! InFiles, Upgrades, which farm files hold; Faults, Lines, Reports, what the program prints; Tasks,
-//! Orders, Program, what it does.
+//! Read `specs/` in the order Waiting, who is served next; NewFile, Preflight, InFiles, which farm files
+//! hold; Faults, Lines, what the program prints; Orders, Program, what it does.
 #![tactic(auto)]
 
 mod at_hand;

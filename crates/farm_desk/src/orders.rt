@@ -4,12 +4,10 @@ ghost use Rattle.sqlite.specs.Files.{over_files};
 ghost use Rattle.sqlite_wal.specs.Files.{image_at};
 ghost use Rattle.farm_serve.specs.Conversations.{desk};
 ghost use Rattle.farm_desk.specs.Lines.{counts_line, port_line, ready_line, PrintsLine, PrintsImport};
-ghost use Rattle.farm_desk.specs.Orders.{streams, DoesInFiles, DoesInMemory, DoesOrder};
-ghost use Rattle.farm_desk.specs.Orders.{DoesIfThere, DoesWhileThere, Inits, MigratesFile};
-ghost use Rattle.farm_desk.specs.Orders.{OpensMemory, PrintsIfDone};
-ghost use Rattle.farm_desk.specs.Tasks.{AnswersOne, DoesTask, ImportsFile, PrintsReportOf};
-ghost use Rattle.farm_desk.specs.Tasks.{ServesIfListening};
-ghost use Rattle.farm_desk.specs.Upgrades.{IsUpgradeFault, RaisesFarm};
+ghost use Rattle.farm_desk.specs.Orders.{streams, DoesInFiles, DoesInMemory, DoesOrder, Inits};
+ghost use Rattle.farm_desk.specs.Orders.{MigratesFile, OpensMemory, PrintsIfDone, AnswersOne};
+ghost use Rattle.farm_desk.specs.Orders.{DoesTask, ImportsFile, PrintsReportOf, ServesIfThere};
+ghost use Rattle.farm_desk.specs.InFiles.{IsUpgradeFault, RaisesFarm};
 ghost use Rattle.farm_desk.specs.Waiting.{IsLocal};
 
 use crate::files::{FileKeeper, make_farm, make_new_farm, migrate_farm, open_farm};
@@ -115,8 +113,9 @@ pub fn carry_out_from<S: Start, L: LabFiles, R: Input, W: Output>(
             do_in_files(rt, file.as_str(), start, task, labs, input, output)
         }
         Order::Serve { file, port, max } => {
+            print_size_note(rt, file.as_str(), "opening");
             let task = Task::Serve { port, max };
-            do_while_there(rt, file.as_str(), start, task, labs, input, output)
+            do_in_files(rt, file.as_str(), start, task, labs, input, output)
         }
     }
 }
@@ -152,57 +151,9 @@ fn do_in_files<S: Start, L: LabFiles, R: Input, W: Output>(
         ⟦<FileFrom<S> as Disk>⟧ (image_at S.Start) task result }
 {
     let keeper = open_farm(rt, rt.alloc(), file, start)?;
-    let (spent, ended) = do_with_files(rt, keeper, task, labs, None, input, output);
+    let (spent, ended) = do_with_files(rt, file, keeper, task, labs, input, output);
     let_go(spent);
     ended
-}
-
-/// Opens the farm in a file, and does a task with it as long as the file is there.
-fn do_while_there<S: Start, L: LabFiles, R: Input, W: Output>(
-    rt: &HostRuntime,
-    file: &str,
-    start: S,
-    task: Task,
-    labs: &L,
-    input: &mut R,
-    output: &mut W,
-) -> Ended
-    ensures { DoesWhileThere (L.contents labs.now) R.never_fails (W.has_room output.old)
-        (streams (R.remaining input.old) (W.contents output.old))
-        (streams (R.remaining input.new) (W.contents output.new))
-        ⟦<FileFrom<S> as Disk>⟧ (image_at S.Start) task result }
-{
-    print_size_note(rt, file, "opening");
-    let keeper = open_farm(rt, rt.alloc(), file, start)?;
-    let (spent, ended) = do_if_there(rt, file, keeper, task, labs, input, output);
-    let_go(spent);
-    ended
-}
-
-/// Does a task with the farm in a file as long as that is there. Where somebody takes away the file
-/// or its log meanwhile, that is a fault of the store, since what would be written then is lost.
-fn do_if_there<S: Start, L: LabFiles, R: Input, W: Output>(
-    rt: &HostRuntime,
-    file: &str,
-    keeper: FileKeeper<S>,
-    task: Task,
-    labs: &L,
-    input: &mut R,
-    output: &mut W,
-) -> (Spent<FileKeeper<S>>, Ended)
-    ensures { DoesIfThere over_files (L.contents labs.now) task
-        (desk keeper (R.remaining input.old) (W.contents output.old))
-        (desk result.0.it (R.remaining input.new) (W.contents output.new))
-        R.never_fails (W.has_room output.old) result.1 }
-{
-    let Some(files) = OpenFiles::new(rt, file) else {
-        return (Spent::of(keeper), Err(DeskFault::Keep(KeepFault::Store)));
-    };
-    let (spent, ended) = do_with_files(rt, keeper, task, labs, Some(&files), input, output);
-    if ended.is_ok() && files.are_lost() {
-        return (spent, Err(DeskFault::Keep(KeepFault::Store)));
-    }
-    (spent, ended)
 }
 
 /// What is done with a farm that is there.
@@ -222,10 +173,10 @@ enum Task {
 /// its proof short.
 fn do_with_files<S: Start, L: LabFiles, R: Input, W: Output>(
     rt: &HostRuntime,
+    file: &str,
     mut keeper: FileKeeper<S>,
     task: Task,
     labs: &L,
-    files: Option<&OpenFiles<'_>>,
     input: &mut R,
     output: &mut W,
 ) -> (Spent<FileKeeper<S>>, Ended)
@@ -234,21 +185,20 @@ fn do_with_files<S: Start, L: LabFiles, R: Input, W: Output>(
         (desk result.0.it (R.remaining input.new) (W.contents output.new))
         R.never_fails (W.has_room output.old) result.1 }
 {
-    let ended = do_task(rt, &mut keeper, &task, labs, files, input, output);
+    let ended = do_task(rt, file, &mut keeper, &task, labs, input, output);
     (Spent::of(keeper), ended)
 }
 
 /// Lets the farm in a file go. That nothing else drops one keeps the proofs of the others short.
 fn let_go<S: Start>(_spent: Spent<FileKeeper<S>>) {}
 
-/// Does a task with a keeper's farm. It serves as long as these files are there, where
-/// they are passed.
+/// Does a task with a keeper's farm, which was opened in a file.
 fn do_task<L: LabFiles, R: Input, W: Output, S: Alter>(
     rt: &HostRuntime,
+    file: &str,
     keeper: &mut Keeper<S>,
     task: &Task,
     labs: &L,
-    files: Option<&OpenFiles<'_>>,
     input: &mut R,
     output: &mut W,
 ) -> Ended
@@ -264,7 +214,7 @@ fn do_task<L: LabFiles, R: Input, W: Output, S: Alter>(
         Task::Report { east, west, which } => {
             print_report(alloc, keeper, (*east, *west), *which, output)
         }
-        Task::Serve { port, max } => serve(rt, keeper, *port, *max, files, output),
+        Task::Serve { port, max } => serve(rt, file, keeper, *port, *max, output),
     }
 }
 
@@ -405,26 +355,32 @@ fn counts_line(accepted: usize, kept: usize) -> ArrayString<LINE_ROOM>
     line
 }
 
-/// Serves so many connections to a port of 127.0.0.1 from a keeper's farm, as long as its files are
-/// there, where they are passed: once somebody took one away it ends without a fault, and before
-/// anybody else is answered from the farm.
+/// Serves so many connections to a port of 127.0.0.1 from a keeper's farm, as long as its file and
+/// the log of that are there. Where somebody takes one away meanwhile, nobody else is answered, and
+/// that is a fault of the store, since what would be written then is lost.
 fn serve<W: Output, S: Alter>(
     rt: &HostRuntime,
+    file: &str,
     keeper: &mut Keeper<S>,
     port: u16,
     max: u64,
-    files: Option<&OpenFiles<'_>>,
     output: &mut W,
 ) -> Ended
-    ensures { ServesIfListening S.Store (W.has_room output.old) keeper.old keeper.new
+    ensures { ServesIfThere S.Store (W.has_room output.old) keeper.old keeper.new
         (W.contents output.old) (W.contents output.new) port max result }
 {
+    let Some(files) = OpenFiles::new(rt, file) else {
+        return Err(DeskFault::Keep(KeepFault::Store));
+    };
     let listener = listen(rt, port).map_err(|_| DeskFault::Read)?;
     print_line(output, port_line(port).as_bytes())?;
-    let mut clients = SocketClients::new(rt.alloc(), &listener, max, rt, files);
+    let mut clients = SocketClients::new(rt.alloc(), &listener, max, rt, Some(&files));
     let ended = farm_serve::serve(rt.alloc(), keeper, &mut clients, max);
     clients.send_rest();
     ended?;
+    if files.are_lost() {
+        return Err(DeskFault::Keep(KeepFault::Store));
+    }
     Ok(End::Done)
 }
 

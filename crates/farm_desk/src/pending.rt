@@ -5,7 +5,7 @@ ghost use Rattle.std.specs.Duration.{as_nanos};
 ghost use Rattle.std.specs.Option.{option_map};
 ghost use Rattle.std.specs.VecDeque.{deque_items, deque_len};
 
-use crate::deadline_stream::{ClientStream, is_shorter, shorter, time_left};
+use crate::deadline_stream::{ClientStream, has_timed_out, is_shorter, shorter, time_left};
 use crate::leavers::{Leavers, Leaving};
 use crate::unsent::Unsent;
 use crate::waiting::{LONGEST_REQUEST, Look, Waiting};
@@ -61,9 +61,10 @@ pub(crate) struct Pending {
 }
 
 impl Pending {
-    ghost use Rattle.farm_desk.specs.Waiting.{leaver_left, limit_left, outstanding, pause_left, shorter, time_of};
-    ghost use Rattle.farm_desk.specs.Waiting.{IsDue, IsOverdue, IsPaused, IsUntouched, LosesNobody};
-    ghost use Rattle.farm_desk.specs.Waiting.{TakesNext, LetsOldestGo, MakesPlace, Refuses, Stay};
+    ghost use Rattle.farm_desk.specs.Waiting.{leaver_left, limit_left, outstanding, pause_left};
+    ghost use Rattle.farm_desk.specs.Waiting.{shorter, time_of, IsDue, IsOverdue, IsPaused};
+    ghost use Rattle.farm_desk.specs.Waiting.{IsUntouched, LosesNobody, TakesNext, LetsOldestGo};
+    ghost use Rattle.farm_desk.specs.Waiting.{MakesPlace, Refuses, Stay};
 
     /// The first `max` connections of a listener, none of which was accepted yet; none where the
     /// system or the memory refuses what that takes, and then the listener is as it was.
@@ -116,7 +117,8 @@ impl Pending {
             self.leavers.cut_overdue(now);
             self.accept_all(listener, now);
             // Who waits is looked at before whoever came now, also while there is always one ready.
-            if self.has_next(now) && self.has_registered() {
+            let has_registered = !self.incomplete.is_empty() || !self.leavers.is_empty();
+            if has_registered && self.has_next(now) {
                 self.poll_events(Some(Duration::ZERO));
             }
             if self.has_next(now) {
@@ -127,11 +129,6 @@ impl Pending {
             now = clock.monotonic().ok();
         }
         self.take_next(now)
-    }
-
-    /// Whether somebody beside the listener is registered.
-    fn has_registered(&self) -> bool {
-        !self.incomplete.is_empty() || !self.leavers.is_empty()
     }
 
     /// Whether nothing is to be waited for: somebody is ready, or timed out, or was refused, or
@@ -331,7 +328,7 @@ impl Pending {
         ensures { IsTrue result ↔ IsOverdue now (deque_items self.now.incomplete) }
     {
         match self.incomplete.front() {
-            Some(first) => first.has_timed_out(now),
+            Some(first) => has_timed_out(first.since, now),
             None => false,
         }
     }

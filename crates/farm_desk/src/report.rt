@@ -1,6 +1,6 @@
 //! The text of a report, by its kind and its time zone.
 ghost use Rattle.std.specs.Prelude.{◌≡◌, ◌≢◌, false, Ok, Err, IfOk, string_bytes};
-ghost use Rattle.farm_desk.specs.Reports.{Reports, seconds_ahead};
+ghost use Rattle.farm_desk.specs.Orders.{Reports, seconds_ahead};
 
 use farm_cli::Report;
 use farm_core::Farm;

@@ -32,7 +32,7 @@ pub(crate) struct SocketClients<'a, 'c, C: Clock> {
     listener: &'a TcpListener,
     clock: &'c C,
     pending: Option<Pending>,
-    files: Option<&'a OpenFiles<'a>>,
+    files: Option<&'a OpenFiles<'c>>,
 }
 
 impl<'a, 'c, C: Clock + Net> SocketClients<'a, 'c, C> {
@@ -43,7 +43,7 @@ impl<'a, 'c, C: Clock + Net> SocketClients<'a, 'c, C> {
         listener: &'a TcpListener,
         max: u64,
         clock: &'c C,
-        files: Option<&'a OpenFiles<'a>>,
+        files: Option<&'a OpenFiles<'c>>,
     ) -> SocketClients<'a, 'c, C> {
         let pending = Pending::new(alloc, clock, listener, max);
         if pending.is_none() {

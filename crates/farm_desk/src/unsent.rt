@@ -1,7 +1,7 @@
 //! What is left of an answer whose client doesn't take it yet: it waits aside, in memory.
 ghost use Rattle.std.specs.Prelude.{◌≡◌, ◌≢◌, ◌↔◌, [], ◌++◌, IsTrue, OnErr, OnOk};
 ghost use Rattle.std.specs.Io.KnownBytes.{append_known};
-ghost use Rattle.farm_desk.specs.Unsent.{left, held, SendsSome};
+ghost use Rattle.farm_desk.specs.Waiting.{left, held, SendsSome};
 
 use std::alloc::Global;
 use std::io::{self, ErrorKind, Write};

@@ -3,10 +3,8 @@ ghost use Rattle.std.specs.Prelude.{◌≡◌, ◌≢◌, ◌<◌, ◌≤◌, �
 ghost use Rattle.std.specs.Prelude.{length, slice_index, take};
 ghost use Rattle.std.specs.IoError.{error_kind};
 ghost use Rattle.std.specs.declared.io.ErrorKind.TheVariants.{WouldBlock};
-ghost use Rattle.farm_desk.specs.Pending.{IsLineEnd, Looks, LooksUnless};
-ghost use Rattle.farm_desk.specs.Waiting.{HasTimedOut};
+ghost use Rattle.farm_desk.specs.Waiting.{IsLineEnd, Looks, LooksUnless};
 
-use crate::deadline_stream::has_timed_out;
 use farm_http::{Front, front_of};
 use farm_types::{LONGEST_BODY, LONGEST_HEAD};
 use std::io::{self, ErrorKind};
@@ -58,13 +56,6 @@ impl Waiting {
             seen: 0,
             whole: None,
         }
-    }
-
-    /// Whether its time is over at a time, or the time isn't known.
-    pub(crate) fn has_timed_out(&self, now: Option<Duration>) -> bool
-        ensures { IsTrue result ↔ HasTimedOut now self.now.since }
-    {
-        has_timed_out(self.since, now)
     }
 
     /// Looks at what came. `bytes` has room for a request.

@@ -3,7 +3,7 @@ use Rattle.std.proofs.Common.{ℕ, zero, suc, ◌<◌, ◌≡◌, Bool, true, fa
 use Rattle.std.specs.List.{AllByRecursion, Any}
 use Rattle.farm_core.specs.Shown.{Shown}
 use Rattle.farm_report.specs.Moments.{last_second}
-use Rattle.farm_types.specs.Sound.{IsBoardRow, IsResRow, IsSound}
+use Rattle.farm_types.specs.Names.{IsBoardRow, IsResRow, IsSound}
 use Rattle.farm_types.specs.declared.rows.BoardRow.{BoardRow}
 use Rattle.farm_types.specs.declared.rows.ResRow.{ResRow}
 

@@ -1,4 +1,3 @@
 pub mod Columns
 pub mod Moments
 pub mod Lines
-pub mod Agreed

@@ -1,9 +1,8 @@
 -- The lines of the reports, and a report as its lines.
 use Rattle.std.specs.Prelude.{◌≡◌, ℕ, ℤ, List, [], ◌∷◌, ◌++◌, decimal, flat_map, unwrap_or}
-use Rattle.farm_types.specs.Called.{claim_word, holder_text}
-use Rattle.farm_types.specs.Codes.{health_word, res_state_word, state_word}
-use Rattle.farm_types.specs.declared.claims.Claim.{Claim}
+use Rattle.farm_types.specs.Names.{claim_word, health_word, holder_text, res_state_word, state_word}
 use Rattle.farm_types.specs.declared.rows.BoardRow.{BoardRow}
+use Rattle.farm_types.specs.declared.claims.Claim.{Claim}
 use Rattle.farm_types.specs.declared.rows.ResRow.{ResRow}
 use Rattle.farm_report.specs.Columns.{left_column, right_column, spaced_line}
 use Rattle.farm_report.specs.Moments.{ShowsCheck, ShowsMoment}

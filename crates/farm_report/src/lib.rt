@@ -4,8 +4,7 @@
 //! filled up with spaces to its width. Moments show as the civil date and time at a fixed offset
 //! from UTC, which the caller hands in.
 //!
-//! Read `specs/` in the order Columns, Moments, Lines; Agreed has
-//! the code's numbers beside theirs.
+//! Read `specs/` in the order Columns, Moments, Lines.
 #![tactic(auto)]
 
 mod columns;

@@ -32,12 +32,9 @@ returns-in-Ok-clause-fault c =
     let text : string_bytes c.in_ok-from_str-in-None.field-0 ≡ c.open_choice.result.now = search rules in
     inr (
       parse_faultless (app_of c.in_ok-farm_command.field-0) (map string_bytes c.args.words.now) is c.in-Ok.ensures.kinds,
-      record {
-        open_choice =
-            unnamed (app_of c.in_ok-farm_command.field-0) (map string_bytes c.args.words.now) c.in-Ok.matches is
-            c.in-Ok.ensures.matches c.in-Ok.ensures.kinds none;
-        reported = text ∙ c.open_choice.ensures ∙ ap open_text (parse_named (app_of c.in_ok-farm_command.field-0) (map string_bytes c.args.words.now) c.in-Ok.matches is c.in-Ok.ensures.matches);
-      },
+      unnamed (app_of c.in_ok-farm_command.field-0) (map string_bytes c.args.words.now) c.in-Ok.matches is
+          c.in-Ok.ensures.matches c.in-Ok.ensures.kinds none,
+      text ∙ c.open_choice.ensures ∙ ap open_text (parse_named (app_of c.in_ok-farm_command.field-0) (map string_bytes c.args.words.now) c.in-Ok.matches is c.in-Ok.ensures.matches),
     )
 
 pub returns-in-Ok-clause-taken : goal.returns-in-Ok-clause-taken

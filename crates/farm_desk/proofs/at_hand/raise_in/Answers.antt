@@ -1,7 +1,6 @@
 use Rattle.std.proofs.Common.{Err, ap}
 use Rattle.std.proofs.lemmas.Result.{IfErr-weaker, IfOk-weaker}
-use Rattle.farm_desk.proofs.FileLemmas.{ok_err_match}
-use Rattle.farm_desk.proofs.UpgradeLemmas.{denies_raise, raises_tables}
+use Rattle.farm_desk.proofs.FileLemmas.{ok_err_match, denies_raise, raises_tables}
 use Rattle.farm_desk.proofs.at_hand.raise_in.Goals as goal
 
 pub returns-clause-raised : goal.returns-clause-raised

@@ -3,8 +3,7 @@ use Rattle.std.proofs.lemmas.Result.{IfOk-weaker}
 use Rattle.sqlite.specs.Files.{file_state}
 use Rattle.sqlite.specs.State.{HasCleanDisk}
 use Rattle.farm_serve.specs.declared.fault.DeskFault.{DeskFault}
-use Rattle.farm_desk.proofs.FileLemmas.{both_err, both_match, found_in}
-use Rattle.farm_desk.proofs.UpgradeLemmas.{denies_upgrade, raises_farm}
+use Rattle.farm_desk.proofs.FileLemmas.{both_err, both_match, found_in, denies_upgrade, raises_farm}
 use Rattle.farm_desk.proofs.at_hand.raise_on.Goals as goal
 
 pub returns-clause-raised : goal.returns-clause-raised

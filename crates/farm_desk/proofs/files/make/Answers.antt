@@ -1,5 +1,5 @@
 use Rattle.std.proofs.Common.{subst}
-use Rattle.farm_types.specs.Farm.{Farm}
+use Rattle.farm_types.specs.Names.{Farm}
 use Rattle.farm_keep.specs.KeeperState.{KeepsFarm}
 use Rattle.farm_desk.proofs.FileLemmas.{makes_free}
 use Rattle.farm_desk.proofs.files.make.Goals as goal

@@ -1,7 +1,7 @@
 use Rattle.std.proofs.Common.{sym, ◌∙◌}
 use Rattle.sqlite_wal.specs.Files.{image_at}
 use Rattle.farm_keep.specs.Faults.{IsMigrateFault}
-use Rattle.farm_desk.specs.Upgrades.{IsUpgradeFault}
+use Rattle.farm_desk.specs.InFiles.{IsUpgradeFault}
 use Rattle.farm_desk.proofs.FileLemmas.{handed_err, handed_ok}
 use Rattle.farm_desk.proofs.files.migrate_farm.Goals as goal
 

@@ -1,4 +1,4 @@
-use Rattle.farm_desk.proofs.LabLemmas.{taken_bytes}
+use Rattle.farm_desk.proofs.LineLemmas.{taken_bytes}
 use Rattle.farm_desk.proofs.lab_files.read_lab_from.Goals as goal
 
 pub returns : goal.returns

@@ -1,6 +1,6 @@
 use Rattle.std.proofs.Math.Logic.{∥∥₁_map}
 use Rattle.sqlite.proofs.Theorems.{opens_again}
-use Rattle.farm_desk.proofs.UpgradeLemmas.{either_held}
+use Rattle.farm_desk.proofs.FileLemmas.{either_held}
 use Rattle.farm_desk.proofs.laws.upgraded_files_hold.Goals as goal
 
 pub returns : goal.returns

@@ -20,4 +20,4 @@ pub returns-in-Report : goal.returns-in-Report
 returns-in-Report g c = rw c.in-Report.is c.do_in_files-in-Report.ensures
 
 pub returns-in-Serve : goal.returns-in-Serve
-returns-in-Serve g c = rw c.in-Serve.is c.do_while_there.ensures
+returns-in-Serve g c = rw c.in-Serve.is c.do_in_files-in-Serve.ensures

@@ -7,13 +7,15 @@ returns-in_err-keeper g c =
     let p = err_from_is_err_and c.from_residual.result c.from_residual.ensures.1 in
     record {
       opened = c.open_farm.result;
-      opens = record { found = c.open_farm.ensures.found; fault = c.open_farm.ensures.fault };
+      found = c.open_farm.ensures.found;
+      fault = c.open_farm.ensures.fault;
       does = rw (c.in_err-keeper.was, p.1, p.2) (refl, refl);
     }
 
 pub returns : goal.returns
 returns g c = record {
   opened = c.open_farm.result;
-  opens = record { found = c.open_farm.ensures.found; fault = c.open_farm.ensures.fault };
+  found = c.open_farm.ensures.found;
+  fault = c.open_farm.ensures.fault;
   does = rw c.in_ok-keeper.was (c.do_with_files-spent.result.0.it, c.do_with_files-spent.ensures);
 }

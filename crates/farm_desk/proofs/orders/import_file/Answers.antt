@@ -1,5 +1,5 @@
 use Rattle.std.proofs.Common.{inl}
-use Rattle.farm_desk.proofs.LabLemmas.{unread_lab}
+use Rattle.farm_desk.proofs.LineLemmas.{unread_lab}
 use Rattle.farm_desk.proofs.orders.import_file.Goals as goal
 
 pub returns-in-Ok : goal.returns-in-Ok

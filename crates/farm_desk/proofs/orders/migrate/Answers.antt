@@ -7,13 +7,15 @@ returns-in_err-spent g c =
     let p = err_from_is_err_and c.from_residual.result c.from_residual.ensures.1 in
     record {
       raised = Err c.in_err-spent.field-0.0;
-      upgrades = record { raises = tt; fault = c.in_err-spent.ensures.fault };
+      raises = tt;
+      fault = c.in_err-spent.ensures.fault;
       prints = rw (p.1, p.2) (refl, refl);
     }
 
 pub returns : goal.returns
 returns g c = record {
   raised = Ok c.in_ok-spent.spent.it;
-  upgrades = record { raises = c.in_ok-spent.ensures.raised; fault = tt };
+  raises = c.in_ok-spent.ensures.raised;
+  fault = tt;
   prints = c.print_line.ensures;
 }

@@ -2,7 +2,7 @@
 use Rattle.std.proofs.Common.{rules, ◌+◌, ◌-◌, ◌^◌, ◌∙◌, ap, min}
 use Rattle.std.proofs.lemmas.Iterator.Consumers.{YieldsList-from_deque, YieldsList-end}
 use Rattle.std.specs.VecDeque.{deque_items}
-use Rattle.farm_desk.specs.Unsent.{held_by}
+use Rattle.farm_desk.specs.Waiting.{held_by}
 use Rattle.farm_desk.proofs.UnsentLemmas.{adds_one}
 use Rattle.farm_desk.proofs.leavers.Leavers.held.Goals as goal
 

@@ -1,7 +1,7 @@
 -- Who waits stays, and the new one may come behind them.
 use Rattle.std.proofs.Common.{ap}
 use Rattle.std.specs.VecDeque.{deque_items}
-use Rattle.farm_desk.proofs.PendingLemmas.{stay_same, stay_push}
+use Rattle.farm_desk.proofs.UnsentLemmas.{stay_same, stay_push}
 use Rattle.farm_desk.proofs.pending.Pending.add.Goals as goal
 
 pub returns-in-Done-clause-others : goal.returns-in-Done-clause-others

@@ -1,7 +1,7 @@
 -- What the writer took was the front of what was left.
 use Rattle.std.proofs.Common.{◌≡◌, ◌-◌, length, take, drop, ap, subst, ◌∙◌, arith}
 use Rattle.std.proofs.lemmas.List.{drop-drop, length-drop, take_all}
-use Rattle.farm_desk.specs.Unsent.{left, SendsSome}
+use Rattle.farm_desk.specs.Waiting.{left, SendsSome}
 use Rattle.farm_desk.proofs.UnsentLemmas.{sends_more}
 use Rattle.farm_desk.proofs.unsent.Unsent.send.Goals as goal
 

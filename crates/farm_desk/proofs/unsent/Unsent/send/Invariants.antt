@@ -1,6 +1,6 @@
 -- What was sent so far, and what is left.
 use Rattle.std.proofs.Common.{◌-◌, length}
-use Rattle.farm_desk.specs.Unsent.{left, SendsSome}
+use Rattle.farm_desk.specs.Waiting.{left, SendsSome}
 use Rattle.farm_desk.proofs.unsent.Unsent.send.Given as goal
 
 abbrev pub invariant-loop-self : goal.invariant-loop-self
