@@ -1,7 +1,7 @@
 -- The numbers of the empty farm in the first edition.
 use Rattle.std.proofs.Common.{◌≡◌, [], ◌∷◌, codes}
 use Rattle.sqlite_value.proofs.OrderLemmas.{value_cmp-Text}
-use Rattle.farm_types.specs.Farm.{empty_farm}
+use Rattle.farm_types.specs.Names.{empty_farm}
 use Rattle.farm_store.specs.Columns.{first_rows_of, meta_row, no_rows}
 use Rattle.farm_store.specs.Places.{of_meta, put_at}
 

@@ -4,8 +4,7 @@ use Rattle.sqlite.specs.Held.{Held, state}
 use Rattle.sqlite.specs.State.{HasCleanDisk}
 use Rattle.sqlite.specs.Tree.{Trees}
 use Rattle.sqlite_trees.specs.declared.store.Store.{Ghosts}
-use Rattle.farm_types.specs.Farm.{Farm, empty_farm}
-use Rattle.farm_types.specs.Sound.{IsSound}
+use Rattle.farm_types.specs.Names.{empty_farm, Farm, IsSound}
 use Rattle.farm_types.specs.declared.calls.Call.{Call}
 use Rattle.farm_store.specs.Columns.{rows_of}
 use Rattle.farm_store.specs.Holds.{Holds}

@@ -1,7 +1,7 @@
 use Rattle.std.proofs.Common.{refl, arith, rules}
 use Rattle.sqlite.specs.Held.{state}
 use Rattle.sqlite.specs.State.{HasCleanDisk}
-use Rattle.farm_types.specs.Farm.{empty_farm}
+use Rattle.farm_types.specs.Names.{empty_farm}
 use Rattle.farm_store.specs.Columns.{first_rows_of}
 use Rattle.farm_store.specs.Holds.{Stands}
 use Rattle.farm_store.proofs.Commits.{committed}

@@ -1,5 +1,5 @@
 use Rattle.sqlite.specs.Steps.{over_memory}
-use Rattle.farm_types.specs.Farm.{empty_farm}
+use Rattle.farm_types.specs.Names.{empty_farm}
 use Rattle.farm_premises.proofs.MetLemmas.{keeps_adopted}
 use Rattle.farm_premises.proofs.keepers.adopted.Goals as goal
 

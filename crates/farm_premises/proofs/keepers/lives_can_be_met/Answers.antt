@@ -2,7 +2,7 @@ use Rattle.std.proofs.Common.{[], refl}
 use Rattle.sqlite.specs.Held.{state}
 use Rattle.sqlite.specs.Steps.{over_memory}
 use Rattle.sqlite_trees.specs.View.{doubt}
-use Rattle.farm_types.specs.Farm.{empty_farm}
+use Rattle.farm_types.specs.Names.{empty_farm}
 use Rattle.farm_sound.proofs.Numbers.{IsSound-empty}
 use Rattle.farm_keep.specs.Lives.{Life}
 use Rattle.farm_premises.proofs.MetLemmas.{if_some}
