@@ -164,12 +164,12 @@ fn moment_of(since: Duration) -> u64
 /// Costs what `serve` does, and for each connection an accept, a peek for each time that bytes of
 /// its request came, one read, one write where the answer is taken whole, and a dozen short calls
 /// of the system.
-pub fn serve_on<S: Alter, C: Clock + Net>(
+pub fn serve_on<'a, S: Alter, C: Clock + Net>(
     alloc: Global,
     keeper: &mut Keeper<S>,
-    listener: &TcpListener,
+    listener: &'a TcpListener,
     max: u64,
-    clock: &C,
+    clock: &'a C,
 ) -> Result<(), DeskFault>
     // The farm and its store are then as `serve` says.
     ensures serves { ServesUntil S.Store keeper.old keeper.new max result }
