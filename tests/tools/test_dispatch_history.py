@@ -166,8 +166,8 @@ def test_torn_lines(lab: Lab) -> None:
     file = os.path.join(lab.place, "history.jsonl")
     os.makedirs(lab.place)
     whole: Dict[str, Any] = {
-        **dict.fromkeys(JOB_FIELDS), "kind": "job", "job": 900, "boards": [], "began": 5, "owner": "zoe", "name": "old",
-        "outcome": "Complete", "reason": "",
+        "kind": "job", "job": 900, "group": 900, "owner": "zoe", "boards": [], "type": "bbb", "name": "old",
+        "submitted": None, "began": 5, "ended": 6, "outcome": "Complete", "reason": "",
     }
     rows = [{**whole, "job": 700 + place} for place in range(250)]
     text = "".join(f"{json.dumps(it)}\n" for it in rows)
@@ -262,8 +262,8 @@ def test_room_and_other_farms(lab: Lab) -> None:
     assert lab.finished(lab.farm.submit("true")) == "Complete", "a job beside"
     dispatcher.kill()
     os.rmdir(file)
-    earlier = {**dict.fromkeys(JOB_FIELDS), "kind": "job", "job": number, "boards": ["b1"],
-               "began": 1_000, "owner": "zoe", "name": "old", "outcome": "Infra", "reason": ""}
+    earlier = {"kind": "job", "job": number, "group": number, "owner": "zoe", "boards": ["b1"], "type": "bbb",
+               "name": "old", "submitted": None, "began": 1_000, "ended": 1_001, "outcome": "Infra", "reason": ""}
     with open(file, "w", encoding="utf-8") as history:
         history.write(f"{json.dumps(earlier)}\n")
     dispatcher = lab.dispatch()
