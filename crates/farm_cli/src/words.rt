@@ -10,7 +10,7 @@ ghost use Rattle.farm_cli.specs.App.{port_rule, positional_rule, report_app, ser
 ghost use Rattle.farm_cli.specs.Faults.{IsFaultAmong, open_text};
 ghost use Rattle.farm_cli.specs.Orders.{IsInBounds, form_of, has_flag, import_in};
 ghost use Rattle.farm_cli.specs.Orders.{leaves_choice, argument_number, once_in, order_in};
-ghost use Rattle.farm_cli.specs.Orders.{database_form, database_in, port_in, report_in};
+ghost use Rattle.farm_cli.specs.Orders.{port_in, report_in};
 ghost use Rattle.farm_cli.specs.Orders.{report_of, serve_in, which_in};
 ghost use Rattle.farm_cli.specs.declared.fault.OrderFault.TheVariants.{NoMemory};
 

@@ -1,9 +1,8 @@
 //! What was taken of an input, and its parts, for whoever asks what it means.
-ghost use Rattle.std.specs.Prelude.{take, ◌≡◌, ◌+◌, ◌<◌, ◌≤◌, length, map};
-ghost use Rattle.farm_http.specs.Heads.{AreSpansOf, IsHead};
+ghost use Rattle.std.specs.Prelude.{take, ◌≡◌, ◌+◌, ◌<◌, ◌≤◌, map};
+ghost use Rattle.farm_http.specs.Heads.{AreSpansOf};
 ghost use Rattle.farm_http.specs.Requests.{IsRequest, ParsesTo};
-ghost use Rattle.httparse.specs.Grammar.{RequestHead};
-ghost use Rattle.httparse.specs.Spans.{IsRequestAt, IsRequestWithin, span_bytes, header_bytes};
+ghost use Rattle.httparse.specs.Spans.{IsRequestWithin, span_bytes, header_bytes};
 ghost use Rattle.farm_http.specs.Fields.{called_lookup, field_of};
 ghost use Rattle.farm_http.specs.Request.{Request};
 

@@ -1,6 +1,6 @@
 //! The types that have a queue: that of the type at place i is queue i + 1.
 ghost use Rattle.std.specs.Prelude.{List, [], ◌≡◌, ◌≤◌, ◌<◌, ◌==◌, ◌||◌, ◌++◌, ℕ, length};
-ghost use Rattle.std.specs.Prelude.{slice_get, unwrap_or, Some, false, true, IfNone, IfOk, IfSome};
+ghost use Rattle.std.specs.Prelude.{unwrap_or, Some, true, IfOk};
 ghost use Rattle.std.specs.List.{position};
 ghost use Rattle.std.specs.Option.{option_map_or};
 ghost use Rattle.std.specs.Str.{bytes_eq};

@@ -9,7 +9,6 @@ pub use Rattle.farm_serve.specs.Conversations.{Exchange, IsAnsweredAgain, IsClos
 pub use Rattle.farm_serve.specs.Conversations.{OpenKeepsDone, StopsAt}
 pub use Rattle.farm_serve.specs.DeskLives.{all_connections, AreDeskLives, connections_of, DeskLife, IsDeskLife, IsServedLife}
 pub use Rattle.farm_serve.specs.Ends.{CountsLoss, EndsWritten, HasNoRoom, IsAnswered, IsUnread, IsUnwritten, Writes, WritesAnswer}
-pub use Rattle.farm_serve.specs.Faults.{desk_fault_code}
 pub use Rattle.farm_serve.specs.Imports.{DoesCalls, done_by, EndsBy, Imports, ImportsAll, ImportsBy, is_accepted, is_kept, IsCounted, IsImport, IsStopped}
 pub use Rattle.farm_serve.specs.Received.{Asks, IsMeant, plain_ask, Receives, ReceivesBadRequest, ReceivesWhole}
 pub use Rattle.farm_serve.specs.Response.{Closes, IsCause, IsResponse, IsResponseTo, RunsOutOfMemory, UnchangedOrDone}

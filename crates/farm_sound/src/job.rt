@@ -1,5 +1,5 @@
 //! The test of job rows: each by itself, against the rows that it names, and as one of its group.
-ghost use Rattle.std.specs.Prelude.{◌≡◌, ◌≤◌, ◌==◌, ◌↔◌, ℕ, IsTrue, length};
+ghost use Rattle.std.specs.Prelude.{◌≡◌, ◌≤◌, ◌==◌, ◌↔◌, IsTrue, length};
 ghost use Rattle.std.specs.List.{filter, AllByRecursion};
 ghost use Rattle.farm_types.specs.Farm.{farm_of};
 ghost use Rattle.farm_types.specs.Sound.{IsJobRow, IsCheck, IsCollecting, Follows, job_gives};

@@ -2,7 +2,7 @@
 use crate::asked::call;
 use farm_core::Farm;
 use farm_fakes::{made, make};
-use farm_keep::{KeepFault, Keeper, RunEnd};
+use farm_keep::{Keeper, RunEnd};
 use farm_types::{Answer, Call, Holder, JobState, Outcome, Reply, ResRow, ResState, State};
 use sqlite::{Alter, Connection};
 use std::alloc::Global;

@@ -4,14 +4,14 @@ pub use Rattle.farm_types.specs.Called.{unit_of, unit_word}
 pub use Rattle.farm_types.specs.Change.{act, after_check, after_job, cancel_group, Done, done_with, farm_at_call, finish_one, graded_board, in_state}
 unfoldable pub use Rattle.farm_types.specs.Change.{change}
 pub use Rattle.farm_types.specs.Change.{is_unstarted, keep, new_board, new_members, new_res, reply_of, start_group}
-pub use Rattle.farm_types.specs.Codes.{health_code, health_with, health_word, job_state_code, job_state_with, job_state_word, outcome_code, outcome_with}
-pub use Rattle.farm_types.specs.Codes.{outcome_word, res_state_code, res_state_with, res_state_word, same_health, same_job_state, same_outcome, same_res_state}
-pub use Rattle.farm_types.specs.Codes.{state_code, state_with, state_word}
+pub use Rattle.farm_types.specs.Codes.{health_code, health_word, job_state_code, job_state_with, job_state_word, outcome_code, outcome_with}
+pub use Rattle.farm_types.specs.Codes.{outcome_word, res_state_code, res_state_word, same_health, same_job_state, same_outcome, same_res_state}
+pub use Rattle.farm_types.specs.Codes.{state_code, state_word}
 pub use Rattle.farm_types.specs.Farm.{board_of, empty_farm, Farm, farm_of, job_of, kept_of, members, put_board, put_jobs, put_kept, put_res, put_rows, put_type}
 pub use Rattle.farm_types.specs.Farm.{res_of, status_of, type_of}
 pub use Rattle.farm_types.specs.Limits.{are_few_wants, highest_priority, is_every, is_priority, last_kind, last_moment, lease, longest_body, longest_head}
 pub use Rattle.farm_types.specs.Limits.{longest_job_file, longest_key, longest_lab_file, longest_name, longest_text, most_boards, most_boards_of_type}
-pub use Rattle.farm_types.specs.Limits.{most_commands, most_fields, most_jobs, most_jobs_since, most_reads, most_replies, most_reservations, most_wants}
+pub use Rattle.farm_types.specs.Limits.{most_commands, most_fields, most_jobs, most_jobs_since, most_replies, most_reservations, most_wants}
 pub use Rattle.farm_types.specs.Limits.{numbers_end}
 pub use Rattle.farm_types.specs.Machine.{answer_by, Answered, Changed, Denied, Repeated, repeated_reply, run, step_by}
 unfoldable pub use Rattle.farm_types.specs.Machine.{answer, step}
@@ -41,7 +41,7 @@ pub use Rattle.farm_types.specs.Sound.{IsBoardRow, IsCheck, IsCollecting, IsDesc
 pub use Rattle.farm_types.specs.Sound.{IsResRow, IsSound, IsSteady, IsSubmission, IsTypeRow, IsWithin, job_gives, job_hold, no_hold, phase, res_gives, res_hold}
 pub use Rattle.farm_types.specs.Sound.{shown_hold, sizes_of, submission_of, texts_of}
 pub use Rattle.farm_types.specs.Table.{board_cmp, change_where, job_cmp, kept_cmp, put, put_all, res_cmp, type_cmp}
-pub use Rattle.farm_types.specs.Tags.{tag_parts, tags_text}
+pub use Rattle.farm_types.specs.Tags.{tags_text}
 unfoldable pub use Rattle.farm_types.specs.Tags.{tags_among, tags_of, tags_read}
 pub use Rattle.farm_types.specs.Words.{is_name_byte, IsKey, IsName, IsTag, IsTags, IsText, name_tag, rise, text_cmp, word_or}
 unfoldable pub use Rattle.farm_types.specs.Words.{is_tag, is_tags, is_word}

@@ -1,5 +1,5 @@
 //! Submit: a new group of jobs.
-ghost use Rattle.std.specs.Prelude.{◌≡◌, ◌≤◌, ◌+◌, None, false, is_none, length};
+ghost use Rattle.std.specs.Prelude.{◌≡◌, ◌≤◌, ◌+◌, false, is_none, length};
 ghost use Rattle.std.specs.Prelude.{IfOk, OnOk};
 ghost use Rattle.std.specs.List.{list_any};
 ghost use Rattle.std.specs.Option.{option_map_or};
@@ -9,7 +9,6 @@ ghost use Rattle.farm_types.specs.Pick.{least};
 ghost use Rattle.farm_types.specs.Refuse.{first_code, submit_reasons};
 ghost use Rattle.farm_types.specs.Change.{new_members};
 ghost use Rattle.farm_types.specs.declared.calls.Cmd.{Cmd};
-ghost use Rattle.farm_types.specs.declared.rows.JobState.{JobState};
 ghost use Rattle.farm_core.specs.Edits.{text_at};
 ghost use Rattle.farm_core.specs.Came.{Acts, CameTo, seen, seen_at};
 ghost use Rattle.farm_core.specs.Following.{IsFresh};

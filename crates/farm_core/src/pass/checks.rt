@@ -4,7 +4,7 @@ ghost use Rattle.std.specs.List.{list_any};
 ghost use Rattle.farm_types.specs.Limits.{highest_priority};
 ghost use Rattle.farm_types.specs.Pass.{check_job, check_one, checks, is_due, is_due_by};
 ghost use Rattle.farm_types.specs.Pass.{is_reached};
-ghost use Rattle.farm_types.specs.Pick.{check_of, is_checked, is_nobody};
+ghost use Rattle.farm_types.specs.Pick.{check_of, is_checked};
 ghost use Rattle.farm_types.specs.declared.rows.BoardRow.{BoardRow};
 ghost use Rattle.farm_core.specs.Came.{CameTo, seen, seen_at};
 ghost use Rattle.farm_core.specs.Plain.{plain_farm};

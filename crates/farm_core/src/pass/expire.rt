@@ -1,14 +1,12 @@
 //! The end of leases: reservations that are dead when a pass comes.
-ghost use Rattle.std.specs.Prelude.{◌≡◌, ◌==◌, ◌<◌, ◌^◌, true, false, length};
-ghost use Rattle.std.specs.Prelude.{IfOk, IfSome, IfNone, OnOk};
-ghost use Rattle.std.specs.List.{AllByRecursion, filter};
-ghost use Rattle.std.specs.List.Sorted.{IsStrictlySortedBy};
-ghost use Rattle.farm_types.specs.Table.{change_where, res_cmp};
+ghost use Rattle.std.specs.Prelude.{◌≡◌, ◌==◌, ◌<◌, ◌^◌, length};
+ghost use Rattle.std.specs.Prelude.{IfOk, OnOk};
+ghost use Rattle.std.specs.List.{filter};
+ghost use Rattle.farm_types.specs.Table.{change_where};
 ghost use Rattle.farm_types.specs.Pass.{expire, is_dead};
 ghost use Rattle.farm_types.specs.declared.rows.ResState.{ResState};
-ghost use Rattle.farm_core.specs.Came.{CameTo, seen};
+ghost use Rattle.farm_core.specs.Came.{CameTo};
 ghost use Rattle.farm_core.specs.Following.{without_all, without_claim};
-ghost use Rattle.farm_core.specs.Leases.{is_dead_at};
 ghost use Rattle.farm_core.specs.Plain.{plain_farm};
 
 use crate::board_effect::BoardEffect;

@@ -1,10 +1,10 @@
 //! Claims are served: each is given the least list of free boards that meets it.
 ghost use Rattle.std.specs.Prelude.{◌≡◌, ◌≤◌, ◌==◌, [], true, false, None, Some, map};
 ghost use Rattle.std.specs.Prelude.{◌&&◌, length, take};
-ghost use Rattle.std.specs.Prelude.{◌<◌, OnOk, IfOk, IfSome, option_and_then, option_map, slice_get};
+ghost use Rattle.std.specs.Prelude.{◌<◌, OnOk, IfOk, IfSome, option_map};
 ghost use Rattle.std.specs.List.{All, filter, list_all};
 ghost use Rattle.farm_types.specs.Limits.{last_moment, most_wants};
-ghost use Rattle.farm_types.specs.Pass.{first_free, is_group, serve, serve_all};
+ghost use Rattle.farm_types.specs.Pass.{is_group, serve, serve_all};
 ghost use Rattle.farm_types.specs.Pick.{IsAmong, Claimed, least, is_free, queue, shown_claim};
 ghost use Rattle.farm_types.specs.Pick.{waits};
 ghost use Rattle.farm_types.specs.Small.{IsSmall};

@@ -1,4 +1,4 @@
-use Rattle.std.proofs.Common.{◌≡◌, ◌∙◌, ◌==◌, true, IfSome, get_or, set, refl, sym, ap, subst}
+use Rattle.std.proofs.Common.{◌≡◌, ◌∙◌, ◌==◌, true, get_or, set, refl, sym, ap, subst}
 use Rattle.std.specs.Cmp.{nat_cmp_total}
 use Rattle.farm_core.proofs.Names.{Leads, nat_cmp, ResRow, Tabled}
 use Rattle.farm_types.specs.Names.{change_where, res_cmp}

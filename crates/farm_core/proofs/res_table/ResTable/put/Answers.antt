@@ -1,7 +1,6 @@
-use Rattle.std.proofs.Common.{◌≡◌, true, IfSome, subst}
+use Rattle.std.proofs.Common.{◌≡◌, subst}
 use Rattle.farm_types.specs.Names.{res_cmp}
 use Rattle.farm_core.proofs.Names.{Leads, ResRow, Tabled}
-use Rattle.farm_core.specs.Leases.{is_noted}
 use Rattle.farm_core.proofs.Leasing.{noted_put}
 use Rattle.farm_core.proofs.res_table.ResTable.put.Goals as goal
 
