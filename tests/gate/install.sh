@@ -27,7 +27,8 @@ command -v dpkg-query > /dev/null || {
 }
 wants=$(missing)
 [ -n "$wants" ] || exit 0
-install="env DEBIAN_FRONTEND=noninteractive apt-get install -y --no-install-recommends$wants"
+# (a machine that has just begun may be at its own upgrades, whose lock is awaited)
+install="env DEBIAN_FRONTEND=noninteractive apt-get -o DPkg::Lock::Timeout=600 install -y --no-install-recommends$wants"
 root=
 if [ "$(id -u)" != 0 ]; then
     root=sudo
