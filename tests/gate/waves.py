@@ -129,6 +129,7 @@ PLACE = re.compile(r"(?:note: )?(?:\./)?((?:src|proofs)/\S+?):(\d+):\d+: (.*)")
 # What only tells that a proof names something that the edit took away, or that another's proof is missing.
 NAMES = re.compile(r"has no field|is not in scope|has no `")
 CITES = re.compile(r"was not admitted")
+UNCOVERED = re.compile(r"the borrow checker does not cover")
 NOT_REFUSED = "NOT REFUSED"
 
 
@@ -158,6 +159,8 @@ def judge(edit: Edit, lines: Sequence[str], changed: Texts) -> Tuple[bool, str]:
     stands = [it for it in lines if it.startswith(f"fn {edit.function.name}: ")]
     if not stands:
         return False, f"BAD EDIT: the prover names no function {edit.function.name}"
+    if UNCOVERED.search(stands[0]):
+        return False, f"BAD EDIT: the prover does not cover the edited text, so no contract was tried: {stands[0][:300]}"
     if not own or stands[0].endswith(": proved"):
         return False, f"{NOT_REFUSED}: {edit.function.name} has no error of its own with this edit"
     first = next((it for it in own if not NAMES.search(it)), "")

@@ -205,6 +205,12 @@ class Judgements(unittest.TestCase):
         self.assertFalse(is_refused)
         self.assertIn("ended without a verdict: src/heap.rt:13:9", text)
 
+    def test_what_the_prover_does_not_cover_is_a_bad_edit(self) -> None:
+        stands = "fn shed::heap::size: no proof: expected `size_spec`; the borrow checker does not cover this function yet"
+        is_refused, text = self.judge(stands, self.LAST)
+        self.assertFalse(is_refused)
+        self.assertTrue(text.startswith("BAD EDIT: the prover does not cover the edited text"))
+
 
 class Libraries(unittest.TestCase):
     """What rt ci left is taken where it is all of one run and nothing has changed since."""
