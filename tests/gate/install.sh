@@ -41,8 +41,10 @@ if [ "${FARM_INSTALL-yes}" = no ]; then
 fi
 echo "make $command: installs$wants"
 log=$(mktemp)
+# (where no lists can be fetched, since another fetches them, those that are there may do)
+$root apt-get update > "$log" 2>&1
 # shellcheck disable=SC2086 # (it is a list of words)
-if $root apt-get update > "$log" 2>&1 && $root $install >> "$log" 2>&1; then
+if $root $install >> "$log" 2>&1; then
     rm "$log"
     exit 0
 fi
