@@ -32,7 +32,7 @@ PAGES = {
     "farm-watch.8": "farm_watch.main",
 }
 # What each command has, and the page says once.
-OF_EACH_COMMAND = ("help", "json")
+OF_EACH_COMMAND = ("help", "json", "wide")
 PART = re.compile(r'(\.\\" begin (.+)\n)(?:.*\n)*?(\.\\" end \2\n)')
 WORD = re.compile(
     r"(?<!\w)'(?P<quoted>[^']+)'(?!\w)|(?P<option>--[a-z][a-z-]*)"
@@ -119,7 +119,7 @@ def item(head: str, text: str, values: Set[str]) -> Iterator[str]:
 def synopsis(tool: parsers.Parser) -> Iterator[str]:
     forms = list(parsers.forms_of(tool))
     for command in parsers.commands_of(tool):
-        forms += [it.replace(" [--json]", "") for it in parsers.forms_of(command)]
+        forms += [it.replace(" [--json]", "").replace(" [--wide]", "") for it in parsers.forms_of(command)]
     yield ".nh\n.ad l"
     for form in (*forms, f"{tool.prog} {{--help|--version}}"):
         yield form_marked(unbroken(form))

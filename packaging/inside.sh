@@ -15,7 +15,7 @@ as_farm() { setpriv --reuid farm --regid farm --clear-groups "$@"; }
 does() { "$@" > "$log" 2>&1 || fail "$*: $(tail -n 5 "$log")"; }
 install() { does apt-get install -y --no-install-recommends --reinstall -o Dpkg::Options::=--force-confold "$@"; }
 client="./python3-fizgruk_*.deb ./fizgruk-desk_*.deb"
-upgrade() { does dpkg -i $client ./fizgruk-farm_*.deb; }
+upgrade() { does dpkg -i $client ./fizgruk-worker_*.deb ./fizgruk-farm_*.deb; }
 says() { grep -q "^fizgruk: $1" "$log" || fail "it doesn't say '$1', but $(cat "$log")"; }
 is_silent() { ! grep '^fizgruk: ' "$log" || fail "$1"; }
 # Demands that a unit is enabled or disabled, and active or inactive.
@@ -40,7 +40,7 @@ stands() {
 
 does lintian --allow-root --fail-on error,warning ./*.deb
 echo "package: lintian has no warning"
-apt-get install -qq -y --no-install-recommends openssh-server python3-apsw python3-argcomplete \
+apt-get install -qq -y --no-install-recommends openssh-server python3-argcomplete \
     python3-prometheus-client python3-yaml > "$log" 2>&1 || fail "$(tail -n 3 "$log")"
 stands > /tmp/before
 
@@ -61,9 +61,10 @@ echo "package: the Python package alone can be imported, and leaves nothing"
 
 # ---- the first import and the first reservation
 began=$(date +%s%N)
-install $client ./fizgruk-farm_*.deb
+install $client ./fizgruk-worker_*.deb ./fizgruk-farm_*.deb
 unit farm enabled active 'the first installation'
 unit farm-dispatch enabled active 'the first installation'
+unit farm-worker enabled active 'the first installation'
 unit farm-watch enabled inactive 'the first installation, without rules'
 systemctl stop farm
 cp "$lab" /root/lab.toml
@@ -123,20 +124,20 @@ unit farm-metrics.timer disabled inactive 'an upgrade of a disabled timer'
 systemctl disable -q --now farm-backup.timer
 echo "package: an upgrade copies the farm, and leaves disabled what an admin disabled"
 
-# ---- the next farm, by the commands of USING.md
+# ---- the next farm, by the commands of next-farm.md
 desk --user ann cancel-reservation 1
-sed -n '/^## The next farm/,/^## [^T]/s/^    //p' /usr/share/doc/fizgruk-farm/USING.md > /tmp/next.sh
+sed -n '/^## The turn/,$s/^    //p' /usr/share/doc/fizgruk-farm/next-farm.md > /tmp/next.sh
 (cd /root && EDITOR=true sh -eu /tmp/next.sh && rm next.toml) > "$log" 2>&1 || fail "the next farm: $(cat "$log")"
 grep -q '^/var/lib/farm/lab.db is the farm of next.toml; the old one is in /var/lib/farm/old-1' "$log" ||
     fail "the next farm: $(cat "$log")"
 desk boards | grep -q '^qemu-01 .*Good' || fail "the next farm's boards: $(desk boards)"
 curl -sS http://127.0.0.1:880/status | grep -q '"next":1,' || fail "the next farm isn't new"
-echo "package: the next farm begins as USING.md says"
+echo "package: the next farm begins as next-farm.md says"
 
 # ---- the way to boards: nothing begins with it; then who holds a board gets to it, and purging leaves keys alone
 install ./fizgruk-access_*.deb
 for it in farm-access-sshd farm-access-guard; do unit $it disabled inactive 'the way to boards'; done
-printf '[[ways]]\nsay = ["/bin/echo"]\n' > /etc/farm/access.toml
+printf '[[ways]]\nsay = ["/bin/echo", "..."]\n' > /etc/farm/access.toml
 ssh-keygen -q -t ed25519 -N '' -C '' -f /root/key
 cp /root/key.pub /etc/farm/keys/ann
 systemctl enable -q --now farm-access-sshd farm-access-guard
@@ -148,7 +149,7 @@ said=$(ssh -F none -i /root/key -p 2222 -o BatchMode=yes -o StrictHostKeyCheckin
 does dpkg -i ./fizgruk-access_*.deb
 for it in farm-access-sshd farm-access-guard; do unit $it enabled active 'an upgrade of the way to boards'; done
 does apt-get purge -y fizgruk-access
-[ "$(ls /etc/farm/keys)" = ann ] && ! [ -e /var/lib/farm-access ] || fail "what purging the way to boards leaves"
+[ "$(ls /etc/farm/keys)" = ann ] && ! ls -d /var/lib/farm-access* 2> /dev/null || fail "what purging the way to boards leaves"
 rm -r /root/key /root/key.pub /etc/farm/keys
 desk --user ann cancel-reservation 1
 echo "package: the way to boards begins when it is enabled, and lets in who holds a board"
@@ -200,14 +201,14 @@ says "the farm stays in $home"
 rm -r $home
 does apt-get purge -y fizgruk-desk python3-fizgruk
 stands | diff /tmp/before - || fail "purging leaves more than the farm"
-install $client ./fizgruk-farm_*.deb
+install $client ./fizgruk-worker_*.deb ./fizgruk-farm_*.deb
 unit farm-dispatch enabled active 'an installation after purging'
 does dpkg --remove fizgruk-farm
 does script -qec 'echo yes | DEBIAN_FRONTEND=teletype dpkg --purge fizgruk-farm' /dev/null
 grep -q 'Remove the board farm' "$log" && ! [ -e $home ] || fail "purging doesn't ask: $(cat "$log")"
-install $client ./fizgruk-farm_*.deb
+install $client ./fizgruk-worker_*.deb ./fizgruk-farm_*.deb
 echo 'fizgruk-farm fizgruk-farm/remove-farm boolean true' | debconf-set-selections
-does apt-get purge -y fizgruk-farm fizgruk-desk python3-fizgruk
+does apt-get purge -y fizgruk-farm fizgruk-worker fizgruk-desk python3-fizgruk
 stands | diff /tmp/before - || fail "purging with the farm leaves files"
 echo "package: a removal keeps the farm, purging keeps it where the answer isn't yes, and leaves nothing else"
 
@@ -222,11 +223,11 @@ unit farm-dispatch disabled inactive 'an upgrade from 2.0'
 ls "$home"/before-2*/lab.db > /dev/null 2>&1 || fail "the copy of an upgrade from 2.0"
 does apt-get purge -y fizgruk
 tail -n 1 /etc/farm/run-job | grep -q ours || fail "the admin's command"
-dpkg -S /etc/farm/run-job | grep -q '^fizgruk-farm:' || fail "whose the admin's command is"
+dpkg -S /etc/farm/run-job | grep -q "^fizgruk-worker:" || fail "whose the admin's command is"
 systemctl enable -q --now farm-dispatch
 upgrade
 unit farm-dispatch enabled active 'an upgrade after the one from 2.0'
-does apt-get purge -y fizgruk-access fizgruk-farm fizgruk-desk python3-fizgruk
+does apt-get purge -y fizgruk-access fizgruk-farm fizgruk-worker fizgruk-desk python3-fizgruk
 rm -rf $home
 stands | diff /tmp/before - || fail "purging after 2.0 leaves files"
 install ../old.deb

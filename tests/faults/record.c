@@ -2,8 +2,9 @@
  * Writes down, for a program that it is preloaded into, each write, change of length, sync and removal of a
  * file whose path begins with RECORDED, in the order in which they were made, at the end of the file named by
  * RECORD. tests/faults/power_cuts.py reads it. An entry is one letter ('w' a write, 't' a change of length, 's' a
- * sync, 'u' a removal), then the path's length, the offset and the count as three numbers of 8 bytes, then
- * the path, and for a write its bytes. An entry stands before what it records is done.
+ * sync, 'f' one that failed, 'u' a removal), then the path's length, the offset and the count as three numbers of
+ * 8 bytes, then the path, and for a write its bytes. An entry stands before what it records is done. The sync whose
+ * number, counted from 1, stands in FAILED fails, as where the disk doesn't take what is to be written.
  *
  * It declares what it takes of the C library itself, so that the toolchain's own compiler can make it too,
  * which has no headers.
@@ -19,14 +20,18 @@ typedef long off_t;
 #define O_APPEND 1024
 #define O_CLOEXEC 02000000
 #define SEEK_CUR 1
+#define EIO 5
+#define errno (*__errno_location())
 
 struct part {
     const void *bytes;
     size_t count;
 };
 
+extern int *__errno_location(void);
 extern void *dlsym(void *from, const char *name);
 extern char *getenv(const char *name);
+extern long atol(const char *text);
 extern int open(const char *path, int flags, ...);
 extern off_t lseek(int file, off_t offset, int from);
 extern ssize_t readlink(const char *path, char *text, size_t room);
@@ -121,15 +126,22 @@ int ftruncate64(int file, off_t length) {
     return NEXT(ftruncate64)(file, length);
 }
 
-int fsync(int file) {
-    enter('s', path_of(file), 0, NULL, 0);
-    return NEXT(fsync)(file);
+/* Writes a sync down; whether it is the one that fails. */
+static int fails(int file) {
+    static long seen;
+    const char *path = path_of(file), *prefix = getenv("RECORDED"), *number = getenv("FAILED");
+    int counts = prefix != NULL && strncmp(path, prefix, strlen(prefix)) == 0;
+    seen += counts;
+    int failed = counts && number != NULL && seen == atol(number);
+    enter(failed ? 'f' : 's', path, 0, NULL, 0);
+    if (failed)
+        errno = EIO;
+    return failed;
 }
 
-int fdatasync(int file) {
-    enter('s', path_of(file), 0, NULL, 0);
-    return NEXT(fdatasync)(file);
-}
+int fsync(int file) { return fails(file) ? -1 : NEXT(fsync)(file); }
+
+int fdatasync(int file) { return fails(file) ? -1 : NEXT(fdatasync)(file); }
 
 int unlink(const char *path) {
     enter('u', path, 0, NULL, 0);

@@ -1,7 +1,7 @@
 #!/bin/sh
 # What `make test` runs: what it wants is installed (install.sh); then every proof, every wrong body that has a name,
 # every test and program from nothing (rt ci), and the tests of tests/ over the program that it built (scripts.sh).
-# It tells what that cost by kind, and ends with what wasn't tried and 'N passed, M failed, K skipped'. With
+# It tells what that cost by kind, and ends with what wasn't tried, a line a reason, and 'N passed, M failed, K skipped'. With
 # FARM_STRICT=1 what isn't tried counts as failed. The further wrong bodies are only read: `make wrong` tries them.
 set -u
 cd "$(dirname "$0")/../.." || exit 1
@@ -12,6 +12,7 @@ command -v rt > /dev/null || {
 }
 folder=$(mktemp -d)
 trap 'rm -r "$folder"' EXIT
+trap 'echo "make test: interrupted"; exit 130' INT TERM
 . tests/gate/counting.sh
 
 # One process to a proof, and as many proofs side by side as there are processors, each with room for 7 GB: several

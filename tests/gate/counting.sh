@@ -40,6 +40,6 @@ left_out() {
 
 # Prints what was left out, and the sums.
 told() {
-    [ ! -s "$folder/left" ] || echo "not tried: $(paste -sd, "$folder/left" | sed 's/,/, /g; s/,  */, /g')"
+    [ ! -s "$folder/left" ] || sed 's/^/not tried: /' "$folder/left"
     echo "$passed passed, $failed failed, $skipped skipped"
 }

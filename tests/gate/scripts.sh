@@ -2,7 +2,7 @@
 # Runs the tests of tests/ over a built program and a player of transcripts, side by side, three a processor, since
 # most of their time is waiting:
 #     sh tests/gate/scripts.sh PROGRAM PLAYER [pytest's words]
-# The last lines are 'not tried: NAME (why), ..', where something was left out, and 'N passed, M failed, K skipped'.
+# The last lines are 'not tried: WHAT (why)', one a reason, where something was left out, and 'N passed, M failed, K skipped'.
 set -u
 cd "$(dirname "$0")/../.." || exit 1
 farm=$1 player=$2

@@ -14,12 +14,13 @@ SHELLS = ("#!/bin/sh", "#!/bin/bash", "#!/usr/bin/env bash")
 TYPED = (
     "tools/farm_access", "tools/farm_backup", "tools/farm_dispatch", "tools/farm_door", "tools/farm_import",
     "tools/farm_metrics", "tools/farm_page", "tools/farm_watch", "python/src/fizgruk", "tests/unit", "tests/tools",
+    "tests/by_hand/lab_days.py", "tests/by_hand/lab_week", "tests/by_hand/page_pictures.py", "tests/by_hand/racks_kills.py",
     "tests/security", "tests/gate/counted.py", "tests/gate/functions.py", "tests/gate/next_version.py",
     "tests/gate/toolchain.py", "tests/gate/waves.py", "tests/gate/waves_test.py",
 )
 # Where the tests find what they import, as pytest.ini says. (Modules of other folders are named by these, so that two may
 # have one name.)
-IMPORTED = ("tools", "python/src", "bench", "tests/shared", "tests/tools", "tests/gate")
+IMPORTED = ("tools", "python/src", "bench", "tests/shared", "tests/tools", "tests/gate", "tests/by_hand")
 
 
 def files_of_the_project() -> list[pathlib.Path]:

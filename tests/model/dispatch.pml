@@ -1,60 +1,83 @@
-/* How the jobs of a farm are begun once and finished once, whatever happens around them: the desk,
-   the dispatchers of several machines, the runners of their jobs, and a world that kills, cuts,
-   loses and cancels. test_model.py says which switches are looked at; README.md says what the
-   model leaves out.
+/* How the jobs of a farm are begun once and finished once, whatever happens around them: the desk, its
+   dispatcher, a worker's script (farm-worker) and systemd, and a world that kills, cuts, loses, delays,
+   restores and cancels. test_model.py says which switches are looked at; README.md says what the model
+   leaves out, and how its steps map to the code's.
 
      desk_start, desk_finish   what the desk does with a call, in one step as its store does it
-     Dispatcher                farm-dispatch on one machine, with a folder for each job
-     Runner                    farm_dispatch.runner: the process that runs one job's command once
-     Processes                 a job's command, and the children that it leaves
-     Queue                     passes, cancels, a person's words, and the restore of an older farm
-     Machine                   kills, power cuts and calls that come late
+     Dispatcher                farm-dispatch, with a record for each group that is open
+     worker_begin, ..          farm-worker's words, by what another process could come between
+     Late                      a call that nobody waits for any more
+     Unit                      what systemd does with a unit: ExecStartPre, the command, ExecStopPost
+     Queue, World              passes and cancels; restarts, restores, losses, copies, a person's acts
 
-   A group is one job here, whatever its members: the desk starts it as a whole, and its dispatcher
-   finishes it board by board.
-
-   What can go wrong, each at most so many times in a run: */
-#ifndef KILLS
-#define KILLS 1            /* a dispatcher is killed, and started again on its folder */
-#endif
-#ifndef LOST_ANSWERS
-#define LOST_ANSWERS 1     /* a call isn't answered: not sent, done, or done late, when nobody waits */
+   A dispatcher remembers nothing from one round to the next, so a kill of it is a round's end, possible
+   at each step and as often as one likes; so is an answer that doesn't come, of the desk or a worker.
+   What else can go wrong, each at most so many times in a run: */
+#ifndef LATE
+#define LATE 1             /* a call is given up, and done later, in part or never */
 #endif
 #ifndef CANCELS
 #define CANCELS 1          /* a user cancels a job */
 #endif
-#ifndef RUNNER_KILLS
-#define RUNNER_KILLS 0     /* a runner is killed: alone, or with all of its job's processes */
+#ifndef RESTARTS
+#define RESTARTS 0         /* a worker is restarted: another life */
 #endif
-#ifndef POWER_CUTS
-#define POWER_CUTS 0       /* a machine's power is cut: its dispatcher and all its processes end */
+#ifndef HANDS
+#define HANDS 0            /* a unit is gone with all its processes, and no end is written */
 #endif
-#ifndef FAILED_STARTS
-#define FAILED_STARTS 0    /* a command can't be started */
-#endif
-#ifndef REMOVED_FOLDERS
-#define REMOVED_FOLDERS 0  /* somebody removes a job's folder */
-#endif
-#ifndef LOST_PLACES
-#define LOST_PLACES 0      /* a dispatcher's place is lost, all folders and its id in it */
-#endif
-#ifndef RESTORES
-#define RESTORES 0         /* the desk goes on with a copy of its farm, older than the job's Start */
+#ifndef WIPES
+#define WIPES 0            /* somebody removes /run/farm-jobs, while its units run */
 #endif
 #ifndef CHILDREN
-#define CHILDREN 0         /* a command leaves a child: 1 one that keeps the folder's lock, 2 or not */
+#define CHILDREN 0         /* processes outlive their unit, as in a call of the kernel's that doesn't end */
+#endif
+#ifndef RESTORES
+#define RESTORES 0         /* the desk goes on with an older copy of its farm, or with the next farm */
+#endif
+#ifndef OLDER_FOLDERS
+#define OLDER_FOLDERS 0    /* the dispatcher goes on with an older copy of its folder */
+#endif
+#ifndef LOST_RECORDS
+#define LOST_RECORDS 0     /* a record is lost */
+#endif
+#ifndef PERSONS
+#define PERSONS 0          /* an admin finishes a job that runs, or one board's of a group */
+#endif
+#ifndef COPIES
+#define COPIES 0           /* a second dispatcher begins on a copy of the first one's folder */
+#endif
+#ifndef GHOSTS
+#define GHOSTS 0           /* the worker names a unit of the dispatcher's that there isn't, for ever: somebody else has it */
+#endif
+#ifndef HANG
+#define HANG 3             /* the boards that hang at the worker whose units are looked at; others hang at another */
+#endif
+#ifdef ENDS                /* fairness asks for an end of what disturbs: then kills are counted, too */
+#ifndef KILLS
+#define KILLS 1
+#endif
+#define GIVE_UP(left) left > 0 -> left = 0
+#else
+#define GIVE_UP(left) false
+#endif
+#ifdef KILLS
+#define KILL if :: atomic { kills > 0 -> kills--; goto next } :: skip fi
+#else
+#define KILL if :: goto next :: skip fi
 #endif
 
-/* The dispatchers, the jobs, and which boards a job wants, as a set of bits. */
+/* The dispatchers (each with a folder of its own, unless it is a copy), the jobs, and which boards a job
+   wants, as a set of bits. */
 #ifndef DISPATCHERS
 #define DISPATCHERS 1
 #endif
 #define TWO_JOBS 0         /* for one board */
 #define GROUP 1            /* of two boards */
 #define JOB_AND_GROUP 2    /* the group may have to wait for the job's board */
-#define GROUP_AND_JOB 3    /* the job wants the group's second board */
+#define GROUP_AND_JOB 3    /* the job's is the group's second board */
+#define SECOND_BOARD 4     /* a job alone */
 #ifndef SHAPE
-#define SHAPE TWO_JOBS
+#define SHAPE GROUP
 #endif
 #if SHAPE == GROUP
 #define JOBS 1
@@ -62,6 +85,9 @@
 #elif SHAPE == JOB_AND_GROUP
 #define JOBS 2
 #define WANTS want[0] = 1; want[1] = 3
+#elif SHAPE == SECOND_BOARD
+#define JOBS 1
+#define WANTS want[0] = 2
 #elif SHAPE == GROUP_AND_JOB
 #define JOBS 2
 #define WANTS want[0] = 3; want[1] = 2
@@ -69,145 +95,134 @@
 #define JOBS 2
 #define WANTS want[0] = 1; want[1] = 1
 #endif
-#define FIRST_BOARD (want[job] & -want[job])
-#ifdef PARTS               /* a dispatcher begins the jobs whose first board it serves */
-#define SERVES (FIRST_BOARD == (1 << me))
-#else                      /* it serves all boards, and so do the others */
-#define SERVES true
+#ifndef UNITS              /* names of units that can be needed; a search that needs more fails */
+#define UNITS (JOBS * (1 + RESTORES + OLDER_FOLDERS + LOST_RECORDS) + DISPATCHERS - 1)
 #endif
 
 /* The promises. A search goes on behind what breaks one, and names each that is broken; with
-   -DTRACE=OWN_JOBS it stops at that one, so that spin can tell the way to it. That all jobs end is
-   a search of its own (-DENDS). */
+   -DTRACE=BEGUN_ONCE it stops at that one, so that spin can tell the way to it. That all jobs end, and
+   that no record stays, is a search of its own (-DENDS). */
 #define BEGUN_ONCE 1       /* a job's command is begun once at most */
-#define NOTHING_LIVES 2    /* nothing of a job lives when its boards are given on, or when it begins */
+#define NOTHING_LIVES 2    /* nothing of a job lives, or begins, when its boards are given on */
 #define TOLD_TRUE 3        /* what the desk is told is what happened */
-#define ENDED_ONCE 4       /* how a job ended is written once, and told by one dispatcher once */
-#define OWN_JOBS 5         /* who finishes a job started it, or was told to adopt it */
-#define WHOLE_GROUPS 6     /* a command gets all boards of its group */
+#define OWN_JOBS 4         /* who finishes a job started it */
+#define WHOLE_GROUPS 5     /* a command gets all boards of its group */
+#define ENOUGH 6           /* (of the model: there were names enough) */
 #ifdef TRACE
 #define CHECK(promise, holds) assert(promise != TRACE || (holds))
 #else
 c_decl {
-  static const char *promises[] = { "", "begun_once", "nothing_lives", "told_true", "ended_once",
-                                    "own_jobs", "whole_groups" };
+  static const char *promises[] = { "", "begun_once", "nothing_lives", "told_true", "own_jobs", "whole_groups",
+                                    "enough" };
   static int is_broken[7];
 }
 #define CHECK(promise, holds) if :: holds :: else -> c_code { \
     if (!is_broken[promise]) { is_broken[promise] = 1; printf("broken: %s\n", promises[promise]); } } fi
 #endif
-#ifdef ENDS                /* what may go wrong doesn't have to: at some time it can't any more */
-#define GIVE_UP(left) left > 0 -> left = 0
-#else
-#define GIVE_UP(left) false
-#endif
 
 mtype = { Submitted, Scheduled, Running, Canceling, Finished };  /* a job, at the desk */
-mtype = { Nothing, Ended, NotStarted, NotBegun, Lost };          /* what a folder's `ended` says */
-mtype = { Yes, No, NoAnswer };                                   /* what a call brings */
+mtype = { NoRecord, Made, Started, Ended, Written };             /* a record */
+mtype = { Nothing, Done, Never, Lost };                          /* how a command ended */
+mtype = { NoUnit, Pre, Claimed, Runs, Stopped, Failed };         /* a unit */
+mtype = { Begin, Close, Forget, Start };                         /* calls */
 
 /* ---- what there is: the desk */
 
-#define KEYS (2 * DISPATCHERS)
 mtype state[JOBS] = Submitted;
 byte want[JOBS], held[JOBS], taken;         /* sets of boards */
-byte kept[KEYS];                            /* jobs whose Start is kept, under each id */
-
-/* ---- the folders, of dispatcher `me` and `job` */
-
-#define FOLDERS (DISPATCHERS * JOBS)
-#define FOLDER (me * JOBS + job)
-byte boards[FOLDERS];                       /* which it names for the command */
-bit whole[FOLDERS], unkeyed[FOLDERS], began[FOLDERS], finished[FOLDERS];
-mtype ended[FOLDERS] = Nothing;
-bit lock[FOLDERS], taking[FOLDERS];         /* held by a runner; by a dispatcher that takes back */
-#define LOCKED (lock[FOLDER] || taking[FOLDER] || command[FOLDER] || child[FOLDER] == 1)
-#if LOST_PLACES || defined(UPGRADE)
-byte id[DISPATCHERS], key[FOLDERS];         /* of the place; under which a folder's job is started */
-#define ID id[me]
+byte starter[JOBS];                         /* 1 + the unit under whose key it was started */
+byte kept;                                  /* units whose Start's reply is kept, as a set */
+#ifdef KEY_BY_NUMBER                        /* `start-N`, whoever asks */
+#define KEPT(u) (kept & (1 << job_of[u]))
+#define KEEP(u) kept = kept | (1 << job_of[u])
 #else
-#define ID me
+#define KEPT(u) (kept & (1 << (u)))
+#define KEEP(u) kept = kept | (1 << (u))
 #endif
-#if defined(SHARED_KEY)                     /* `start-N`, whoever asks */
-#define KEY 0
-#elif (LOST_PLACES || defined(UPGRADE)) && !defined(KEY_NOT_IN_FOLDER)
-#define KEY (whole[FOLDER] -> key[FOLDER] : ID)
-#define NOTE_KEY key[FOLDER] = ID
+byte farm;                                  /* which of the farm's copies goes on */
+#define RUNS_AT_DESK(j) (state[j] == Running || state[j] == Canceling)
+
+/* ---- a dispatcher's folder: records, and the last line of history of each number */
+
+#define RECORDS (DISPATCHERS * JOBS)
+#define R (me * JOBS + job)
+#define OF(u) (me * JOBS + job_of[u])
+#define HAS_RECORD(u) (record[OF(u)] != NoRecord && record[OF(u)] != Made && unit_of[OF(u)] == u)
+mtype record[RECORDS] = NoRecord, how[RECORDS] = Nothing, line_how[RECORDS] = Nothing;
+byte unit_of[RECORDS], life_of[RECORDS], line[RECORDS];  /* (of a line: 1 + its unit) */
+byte fresh;                                 /* names of units that were made */
+byte job_of[UNITS], id_of[UNITS];           /* as a unit's name says */
+#if COPIES
+#define IS_OURS(u) true
+bit copied;
 #else
-#define KEY ID
+#define IS_OURS(u) (id_of[u] == me)
 #endif
-#ifndef NOTE_KEY
-#define NOTE_KEY skip
+#if OLDER_FOLDERS
+byte made_in[UNITS];
+#define NOTE_REACHED(it) came_to[u] = it; made_in[u] = life_of[R]
+#else
+#define NOTE_REACHED(it) came_to[u] = it
+#endif
+#ifdef NO_MARK
+#define MARK_OF_POST true
+#else
+#define MARK_OF_POST mark[u]
 #endif
 
-/* ---- a job's processes, by machine */
+/* ---- the worker: systemd's units, their cgroups, and /run/farm-jobs */
 
-bit command[FOLDERS], told_to_die[FOLDERS]; /* told_to_die: its child got SIGKILL, and dies some time */
-byte child[FOLDERS];
-#ifdef NO_CGROUP
-/* A dispatcher knows the runners that it started since it was started, and who has the lock. */
-bit own[FOLDERS];
-#define LIVES (own[FOLDER] || (whole[FOLDER] && LOCKED))
-#define RUNS (own[FOLDER] || lock[FOLDER])
-#else
-/* The job's cgroup, which has the job's number, so that it can be found without the folder. */
-byte runners[FOLDERS];
-bit joined[FOLDERS];
-#define LIVES (runners[FOLDER] || command[FOLDER] || child[FOLDER])
-#define RUNS runners[FOLDER]
-#endif
-#ifdef WAITS_WITHOUT_KILLING
-#define KILL_CHILD skip
-#else
-#define KILL_CHILD if :: child[FOLDER] -> told_to_die[FOLDER] = 1 :: else fi
-#endif
+byte life;
+mtype unit[UNITS] = NoUnit, ended[UNITS] = Nothing;
+bit stopping[UNITS], lives[UNITS], told_to_die[UNITS];
+bit mark[UNITS], begun[UNITS], old[UNITS];  /* marks/UNIT, its `begun`, old/UNIT */
+byte gets[UNITS];                           /* in/UNIT: the boards that it names for the command */
 
 /* ---- the world, and what only the promises look at */
 
-byte kills = KILLS, lost_answers = LOST_ANSWERS, cancels = CANCELS, runner_kills = RUNNER_KILLS;
-byte power_cuts = POWER_CUTS, failed_starts = FAILED_STARTS, removed_folders = REMOVED_FOLDERS;
-byte lost_places = LOST_PLACES, restores = RESTORES;
-bit kill_it[DISPATCHERS], gone[DISPATCHERS], kill_runner[FOLDERS];
-bit abandoned[DISPATCHERS], adopted[JOBS];  /* a person says --adopt of such a dispatcher's jobs */
-byte late[DISPATCHERS], life[DISPATCHERS], boot[DISPATCHERS];
-byte starter[JOBS];
-bit begun[JOBS], done[FOLDERS], harmed[JOBS], told[JOBS], earlier[FOLDERS];
-#define QUIET_AT(m) (!command[(m) * JOBS + job] && !child[(m) * JOBS + job] && !earlier[(m) * JOBS + job])
-#if DISPATCHERS == 1
-#define QUIET QUIET_AT(0)
-#elif DISPATCHERS == 2
-#define QUIET (QUIET_AT(0) && QUIET_AT(1))
-#else
-#define QUIET (QUIET_AT(0) && QUIET_AT(1) && QUIET_AT(2))
+byte late = LATE, cancels = CANCELS, restarts = RESTARTS, hands = HANDS, wipes = WIPES, children = CHILDREN;
+byte restores = RESTORES, older_folders = OLDER_FOLDERS, lost_records = LOST_RECORDS, persons = PERSONS, copies = COPIES;
+#ifdef KILLS
+byte kills = KILLS;
 #endif
-
-/* ---- calls to the desk */
-
-#define RUNS_AT_DESK (state[job] == Running || state[job] == Canceling)
-#ifdef FULL                /* the desk has no room for one more reply: Start goes without a key */
-#define KEEP_REPLY skip
-#define NOTE_UNKEYED unkeyed[FOLDER] = 1
+bit was_begun[UNITS], done[UNITS], harmed[UNITS], over[UNITS];
+bit job_begun[JOBS];
+#if RESTORES               /* an earlier farm's units count for themselves */
+byte farm_of[UNITS];
+#define IS_OF_FARM(u) (farm_of[u] == farm)
+#define NOTE_FARM farm_of[u] = farm
 #else
-#define KEEP_REPLY kept[KEY] = kept[KEY] | (1 << job)
-#define NOTE_UNKEYED skip
+#define IS_OF_FARM(u) true
+#define NOTE_FARM skip
 #endif
-inline desk_start() {
+byte came_to[UNITS];                        /* 1 its record was made, 2 it was started */
+inline nothing_lives(these, spared) {       /* that has one of these boards */
+  is_quiet = true;
+  for (other : 0 .. UNITS - 1) {
+    if :: other != spared && other < fresh && lives[other] && (want[job_of[other]] & (these)) -> is_quiet = false :: else fi
+  }
+  other = 0
+}
+
+/* ---- the desk's calls */
+
+inline desk_start(it) {
   if
-  :: kept[KEY] & (1 << job) -> answer = Yes
-  :: else ->
-     if
-     :: state[job] == Scheduled -> state[job] = Running; starter[job] = me; answer = Yes; KEEP_REPLY
-     :: else -> answer = No
-     fi
+  :: KEPT(it) -> answer = true
+  :: !KEPT(it) && state[job_of[it]] == Scheduled ->
+     state[job_of[it]] = Running; starter[job_of[it]] = it + 1; KEEP(it); answer = true
+  :: else -> answer = false
   fi
 }
-inline desk_finish() {     /* of the least board that the job holds still; the key changes nothing: */
-  if                       /* whoever finishes twice is refused, and that acknowledges it as well */
-  :: held[job] && RUNS_AT_DESK ->
-     CHECK(OWN_JOBS, starter[job] == me || adopted[job]);
-     CHECK(NOTHING_LIVES, QUIET);
-     CHECK(TOLD_TRUE, (how == Ended && done[FOLDER]) || (how == NotBegun && !begun[job])
-           || (how == Lost && harmed[job]));
+inline desk_finish(it) {    /* of the least board that the job holds still; a second one is refused */
+  if
+  :: RUNS_AT_DESK(job) && held[job] ->
+     nothing_lives(held[job] & -held[job], UNITS);
+     CHECK(OWN_JOBS, starter[job] == it + 1);
+     CHECK(NOTHING_LIVES, is_quiet);
+     CHECK(TOLD_TRUE, (how[R] == Done && done[it] && job_begun[job]) || (how[R] == Never && !was_begun[it]) || (how[R] == Lost && harmed[it]));
+     is_quiet = 0;
+     over[it] = 1;
      taken = taken & ~(held[job] & -held[job]);
      held[job] = held[job] & (held[job] - 1);
      if :: held[job] == 0 -> state[job] = Finished :: else fi
@@ -215,330 +230,443 @@ inline desk_finish() {     /* of the least board that the job holds still; the k
   fi
 }
 
+/* ---- farm-worker's words. `boot` is the life in which a script runs, and ends with it */
+
+inline worker_begin(it, its_life, boards) {
+  if
+#ifdef NO_LIFE
+  :: d_step { !mark[it] && !old[it] -> boot = life + 1 }
+#elif defined(NO_MARK)
+  :: d_step { its_life == life && !old[it] -> boot = life + 1 }
+#else
+  :: d_step { its_life == life && !mark[it] && !old[it] -> boot = life + 1 }
+#endif
+  :: else
+  fi;
+  d_step {                 /* systemd-run */
+    if :: boot == life + 1 && unit[it] == NoUnit -> unit[it] = Pre; gets[it] = boards :: else fi;
+    boot = 0
+  }
+}
+inline worker_close(it) {   /* a mark as the unit's own would be, so that it never begins */
+#if !defined(NO_MARK) && !defined(CLOSES_WITHOUT_MARK)
+  d_step { if :: !mark[it] -> mark[it] = 1; boot = life + 1 :: else fi };
+  d_step {
+    if
+    :: boot == life + 1 && old[it] -> mark[it] = 0
+    :: boot == life + 1 && !old[it] && mark[it] -> ended[it] = Never
+    :: else
+    fi;
+    boot = 0
+  };
+#endif
+  d_step {
+    if
+    :: unit[it] == Pre || unit[it] == Claimed || unit[it] == Runs -> stopping[it] = 1
+    :: unit[it] == NoUnit && lives[it] -> told_to_die[it] = 1
+    :: else
+    fi
+  }
+}
+inline worker_forget(it) {
+  d_step { boot = (unit[it] == NoUnit && !lives[it] -> life + 1 : 0) };
+  d_step {                 /* marks/UNIT is renamed to old/UNIT, with what it says */
+    if
+    :: boot == life + 1 ->
+#ifndef NO_OLD
+       old[it] = 1;
+#endif
+       mark[it] = 0;
+#if defined(OLD_WITHOUT_END) || defined(NO_OLD)
+       begun[it] = 0; ended[it] = Nothing;
+#endif
+       answer = true
+    :: else -> answer = false
+    fi;
+    boot = 0
+  }
+}
+proctype Late(mtype call; byte u; byte its_life; byte boards) {
+  byte boot;
+  bit answer;
+  if
+  :: call == Begin -> worker_begin(u, its_life, boards)
+#ifdef BEGINS_WHAT_WAS_CUT
+  :: call == Begin -> worker_begin(u, its_life, (boards & 1))
+#endif
+  :: call == Close -> worker_close(u)
+  :: call == Forget -> worker_forget(u)
+  :: d_step { call == Start && its_life == farm -> desk_start(u) }
+  :: true                  /* never */
+  fi
+}
+#define MAY_COME_LATE(call) if :: atomic { late > 0 -> late--; run Late(call, u, (call == Start -> farm : life_of[R]), boards); goto next } :: skip fi
+
 /* ---- the dispatcher */
 
-inline is_started() {      /* starts a job, or asks whether this dispatcher started it */
-  if
-  :: unkeyed[FOLDER] && seen != Scheduled -> answer = Yes
-  :: d_step { !(unkeyed[FOLDER] && seen != Scheduled) -> desk_start() }
-  :: d_step { lost_answers > 0 -> lost_answers--; answer = NoAnswer }
-  :: d_step { lost_answers > 0 -> lost_answers--; desk_start(); answer = NoAnswer }
-  :: d_step { lost_answers > 0 && late[me] == 0 -> lost_answers--; late[me] = job + 1; answer = NoAnswer }
-  fi
-}
-inline make_folder() {     /* aside, and then renamed */
-  d_step { whole[FOLDER] = 1; boards[FOLDER] = seen_boards; NOTE_UNKEYED; NOTE_KEY }
-}
-inline drop() {
+#define IN(set, u) (set & (1 << (u)))
+#ifdef OLD_WITHOUT_END
+#define MARKED(u) mark[u]
+#else
+#define MARKED(u) (mark[u] || old[u])
+#endif
+#ifdef EMPTY_IS_NONE       /* systemctl gave no units, by a fault */
+#define TAKE_NONE :: true
+#else
+#define TAKE_NONE
+#endif
+inline take_marks() {
   d_step {
-    whole[FOLDER] = 0; boards[FOLDER] = 0; unkeyed[FOLDER] = 0; began[FOLDER] = 0;
-    ended[FOLDER] = Nothing
+    marks = 0;
+    for (u : 0 .. UNITS - 1) { if :: IS_OURS(u) && MARKED(u) -> marks = marks | (1 << u) :: else fi }
+    u = 0
   }
 }
-inline refused() {         /* somebody else's, or it was canceled */
-#if defined(KEEPS_UNKEYED_MARK) && defined(FULL)
+inline take_units() {
+  if
+  :: d_step { true ->
+       for (u : 0 .. UNITS - 1) { if :: IS_OURS(u) && unit[u] != NoUnit -> units = units | (1 << u) :: else fi }
+       u = 0 }
+  TAKE_NONE
+  fi
+}
+inline look() {            /* at marks and old, then units, then cgroups, then ends; all in one life */
+  seen_life = life;
+#ifdef UNITS_FIRST
+  take_units(); take_marks();
+#else
+  take_marks(); take_units();
+#endif
+#ifndef FINISHES_BEFORE_EMPTY
+  d_step {
+    for (u : 0 .. UNITS - 1) { if :: IS_OURS(u) && lives[u] -> processes = processes | (1 << u) :: else fi }
+    u = 0
+  };
+#endif
+  if
+  :: d_step { seen_life == life ->
+       asked = starter[job];
+       if
+       :: record[R] != NoRecord -> end = ended[unit_of[R]]; seen_begun = begun[unit_of[R]]
+       :: record[R] == NoRecord && asked -> end = ended[asked - 1]; seen_begun = begun[asked - 1]
+       :: else
+       fi }
+  :: else -> goto next
+  fi
+}
+inline end_strays() {      /* units of the dispatcher's own that no record names, and whose job doesn't run */
+#ifdef LEAVES_STRAYS
   skip
 #else
-#ifdef CLAIMS_BEFORE_IT_DROPS
-  began[FOLDER] = 1;
-#endif
-  drop()
-#endif
-}
-inline launch() {          /* the runner joins the job's cgroup before the dispatcher goes on */
-#ifdef NO_CGROUP
-  d_step { own[FOLDER] = 1; born = life[me] }
-  run Runner(me, job, born, boot[me]);
-  born = 0
-#else
-  joined[FOLDER] = 0;
-  run Runner(me, job, 0, boot[me]);
-  joined[FOLDER];
-  joined[FOLDER] = 0
-#endif
-}
-inline mark_finished() {   /* its history has a line of it */
   d_step {
-    if
-    :: !finished[FOLDER] -> CHECK(ENDED_ONCE, !told[job]); told[job] = 1; finished[FOLDER] = 1
-    :: else
-    fi
-  }
-}
-
-inline look() {            /* a view, which grows old from here on */
-#ifdef BOARDS_LOOKED_AT_FIRST
-  seen_boards = held[job];
-#endif
-  atomic {
-    seen = state[job];
-    if
-#ifdef BOARDS_LOOKED_AT_FIRST
-    :: seen_boards == 0 && seen != Finished -> goto next
-#endif
-    :: seen == Submitted || (seen == Scheduled && !SERVES) -> goto next
-    :: seen == Finished && (!whole[FOLDER] || finished[FOLDER]) -> goto next
-    :: else
-    fi
-  }
-}
-
-inline begin() {           /* its folder is whole before the desk is told */
-#ifndef BOARDS_LOOKED_AT_FIRST
-  seen_boards = held[job];
-  if :: seen_boards != want[job] -> goto next :: else fi;  /* it goes on without this one, or ended */
-#endif
-#if RESTORES
-  put_aside();
-#endif
-#ifdef START_TOLD_FIRST
-  is_started();
+    do
+    :: (u < UNITS && IN((units | processes), u) && job_of[u] == job &&
+        !(record[R] != NoRecord && unit_of[R] == u) && (ours || !(seen == Running || seen == Canceling))) -> break
+    :: u == UNITS -> break
+    :: else -> u++
+    od
+  };
   if
-  :: answer == Yes -> make_folder(); launch()
-  :: else
-  fi
-#else
-#ifdef FOLDER_MADE_ANEW
-  if :: whole[FOLDER] -> drop() :: else fi;
-#endif
-  if :: !whole[FOLDER] -> make_folder() :: else fi;    /* one that wasn't begun stays */
-  is_started();
-  if
-  :: answer == Yes -> launch()
-  :: answer == No -> refused()
-  :: else
+  :: u < UNITS -> MAY_COME_LATE(Close); worker_close(u); goto next
+  :: else -> u = 0
   fi
 #endif
 }
-
-inline put_aside() {       /* what ran under its number before the desk's farm became an older one */
-#ifdef PUT_ASIDE_BLINDLY
-  d_step {
-    if
-    :: began[FOLDER] ->
-       if :: command[FOLDER] || child[FOLDER] -> earlier[FOLDER] = 1 :: else fi;
-       command[FOLDER] = 0; child[FOLDER] = 0; told_to_die[FOLDER] = 0; lock[FOLDER] = 0
-    :: else
-    fi
-  }
+#ifdef STRAYS_SHUT_ALL     /* whatever machine they are of */
+#define SHUT 3
 #else
-  if :: d_step { LIVES -> KILL_CHILD } goto next :: else fi;
+#define SHUT HANG
 #endif
-  if :: d_step { began[FOLDER] -> finished[FOLDER] = 0; told[job] = 0 } drop() :: else fi
+inline wait_for_others() { /* on one of its boards: another record's, or a unit of the dispatcher's own that has no record */
+#ifdef OTHERS_BOARDS
+  skip
+#else
+  d_step {
+    boards = 0;
+    for (other : 0 .. JOBS - 1) {
+      if
+      :: other != job && record[me * JOBS + other] == Started && (want[other] & want[job]) -> boards = 1
+      :: else
+      fi
+    }
+#ifndef LEAVES_STRAYS        /* (of a unit without a record it isn't known which of the worker's boards it has) */
+    for (other : 0 .. UNITS - 1) {
+      if
+      :: (IN((units | processes), other) && (SHUT & want[job]) && !HAS_RECORD(other)) -> boards = 1
+      :: else
+      fi
+    }
+    if :: GHOSTS && (SHUT & want[job]) -> boards = 1 :: else fi;
+#endif
+    other = 0
+  };
+  if :: boards -> goto next :: else fi
+#endif
 }
-
-inline go_on() {           /* whether it began, then whether it lives, then how it ended */
-#ifndef LOOKS_LAST_WHETHER_IT_BEGAN
-  has_begun = began[FOLDER];
+inline may_begin() {
+  boards = held[job];
+  if :: boards != want[job] -> goto next :: else fi;
+  wait_for_others()
+}
+inline new_record(what) {
+#ifdef UNIT_BY_NUMBER
+  u = R;
+#else
+  if :: fresh == UNITS -> CHECK(ENOUGH, false); goto next :: else fi;
 #endif
-#ifdef FINISHES_BEFORE_EMPTY
-  how = ended[FOLDER];
-  if :: how != Nothing -> goto known :: else fi;
+  d_step {
+#ifndef UNIT_BY_NUMBER
+    u = fresh; fresh++;
 #endif
+    record[R] = what; unit_of[R] = u; life_of[R] = seen_life; how[R] = Nothing;
+    job_of[u] = job; id_of[u] = me; harmed[u] = (life != seen_life); NOTE_FARM; NOTE_REACHED(1)
+  }
+}
+inline drop() {
+  d_step { record[R] = NoRecord; how[R] = Nothing; unit_of[R] = 0; life_of[R] = 0 }
+}
+inline find_again() {      /* a job that runs and has no record: its key is asked where a worker has a mark of it, or the history a line */
+#ifdef TAKES_WHAT_RUNS
+  new_record(Ended); how[R] = Lost; ours = true
+#else
   if
-  :: d_step { LIVES ->     /* where nobody waits for its end any more, it is killed */
-       if :: ended[FOLDER] != Nothing || !RUNS -> KILL_CHILD :: else fi }
-     goto next
-  :: else
+  :: d_step { asked && IS_OURS(asked - 1) && IN(marks, asked - 1) ->
+       record[R] = Made; unit_of[R] = asked - 1; life_of[R] = seen_life }
+  :: d_step { asked && !(IS_OURS(asked - 1) && IN(marks, asked - 1)) && line[R] == asked ->
+       record[R] = Made; unit_of[R] = asked - 1; how[R] = line_how[R] }
+  :: else -> goto next     /* it is left alone */
+  fi
+#endif
+}
+inline start() {           /* starts a job, or asks whether it was started with this record */
+#ifdef BEGIN_BEFORE_START
+  if :: seen == Scheduled -> boards = held[job]; worker_begin(u, life_of[R], boards); KILL :: else fi;
+#endif
+  MAY_COME_LATE(Start);
+  d_step { desk_start(u) };
+  KILL;
+  if
+  :: answer -> d_step { record[R] = (how[R] == Nothing -> Started : Ended); ours = true; NOTE_FARM; NOTE_REACHED(2) }
+  :: else -> drop(); goto next
   fi;
-  how = ended[FOLDER];
-#ifdef LOOKS_LAST_WHETHER_IT_BEGAN
-  has_begun = began[FOLDER];
-#endif
-known:
+  KILL
+}
+inline become() {          /* how it ended, where nothing of it lives and nothing of it can begin */
   if
-  :: how == NotStarted -> take_back()
-  :: how == Nothing && !has_begun -> not_begun()
-  :: how != NotStarted && (how != Nothing || has_begun) ->
-     if :: how == Nothing -> how = Lost :: else fi;    /* so it is told, and not written */
-finish:
-#ifndef FINISHES_BEFORE_EMPTY
-     if :: d_step { LIVES -> KILL_CHILD } goto next :: else fi;
-#endif
-     do                    /* each board that it holds; of one that it holds no more it is refused */
-     :: held[job] && RUNS_AT_DESK ->
-        if
-        :: d_step { desk_finish() }
-        :: atomic { lost_answers > 0 -> lost_answers--; goto next }
-        :: atomic { lost_answers > 0 -> lost_answers--; desk_finish(); goto next }
-        fi
-     :: else -> break
-     od;
-     mark_finished()
-  fi
-}
-
-inline take_lock() {
-  if :: d_step { whole[FOLDER] && !LOCKED -> taking[FOLDER] = 1 } :: else -> goto next fi
-}
-inline take_back() {       /* under the lock */
-  take_lock();
-#ifndef TAKES_BACK_BLINDLY
-  if :: ended[FOLDER] != NotStarted -> taking[FOLDER] = 0; goto next :: else fi;
-#endif
-  began[FOLDER] = 0;
-  ended[FOLDER] = Nothing;
-  taking[FOLDER] = 0
-}
-
-inline not_begun() {       /* a job that was started, perhaps, and whose command wasn't begun */
-  if :: began[FOLDER] -> goto next :: else fi;         /* it began after that was looked at */
-  is_started();
-  if
-  :: answer == No -> refused()
-  :: answer == Yes && seen == Running -> launch()
-  :: answer == Yes && seen == Canceling ->             /* under the lock, so that nobody begins it */
-     take_lock();
-     if :: began[FOLDER] || ended[FOLDER] != Nothing -> taking[FOLDER] = 0; goto next :: else fi;
+  :: IN((units | processes), u) ->
      if
-     :: d_step { whole[FOLDER] -> ended[FOLDER] = NotBegun; how = NotBegun }
-     :: else -> taking[FOLDER] = 0; goto next          /* it can't be written: the folder was removed */
+     :: !ours || seen == Canceling || is_part || !IN(units, u) || seen_life != life_of[R] -> MAY_COME_LATE(Close); worker_close(u)
+     :: else
      fi;
-     taking[FOLDER] = 0;
-     goto finish
-  :: else
-  fi
-}
-
-inline without_folder() {  /* a job that runs: somebody else's, or its folder was removed */
-#ifdef NO_FOLDER_IS_LOST
-  answer = Yes;
+     goto next
+  :: !IN((units | processes), u) && seen_life != life_of[R] -> end = Lost
+#if defined(ENDED_WITHOUT_MARK) || defined(NO_MARK)
+  :: !IN((units | processes), u) && seen_life == life_of[R] && end != Nothing
+  :: !IN((units | processes), u) && seen_life == life_of[R] && end == Nothing && IN(marks, u) -> end = Lost
+  :: !IN((units | processes), u) && seen_life == life_of[R] && end == Nothing && !IN(marks, u) -> not_begun()
 #else
-  if
-  :: !SERVES -> skip       /* the question would start it, were the desk's farm an older one by now */
-  :: else -> is_started()
+  :: !IN((units | processes), u) && seen_life == life_of[R] && IN(marks, u) ->
+#ifdef UNNOTED_IS_LOST
+     seen_begun = true;
+#endif
+     if :: end == Nothing -> end = (seen_begun -> Lost : Never) :: else fi
+  :: !IN((units | processes), u) && seen_life == life_of[R] && !IN(marks, u) -> not_begun()
+#endif
   fi;
-#endif
-#ifndef FINISHES_BEFORE_EMPTY
-  if :: d_step { LIVES -> if :: !RUNS -> KILL_CHILD :: else fi } goto next :: else fi;
-#endif
-  if
-  :: answer == Yes || (answer == No && adopted[job]) ->
-     d_step {
-       whole[FOLDER] = 1; boards[FOLDER] = held[job]; began[FOLDER] = 1; ended[FOLDER] = Lost; NOTE_KEY;
-       how = Lost
-     }
-     goto finish
-  :: else                  /* it is left alone */
-  fi
+  d_step { record[R] = Ended; how[R] = end }
 }
-
-inline close_folder() {    /* the job holds no board any more */
-  has_begun = began[FOLDER];
-  if :: d_step { LIVES -> KILL_CHILD } goto next :: else fi;
+inline not_begun() {
   if
-  :: has_begun || ended[FOLDER] == NotBegun -> mark_finished()
+  :: !ours || seen == Canceling || is_part ->
+#if defined(NO_MARK) || defined(CLOSES_WITHOUT_MARK)
+     end = Never
+#else
+     MAY_COME_LATE(Close); worker_close(u); goto next
+#endif
   :: else ->
-     take_lock();
-     if :: !began[FOLDER] -> drop() :: else fi;
-     taking[FOLDER] = 0
+     boards = held[job];
+     if :: boards != want[job] -> goto next :: else fi;
+     MAY_COME_LATE(Begin); worker_begin(u, life_of[R], boards); goto next
   fi
 }
 
+inline restore() {
+  for (job : 0 .. JOBS - 1) { state[job] = Submitted; held[job] = 0; starter[job] = 0; job_begun[job] = 0 }
+  job = 0; taken = 0; kept = 0; restores--; farm++
+}
+inline forget_record() {
+  record[R] = NoRecord; how[R] = Nothing; unit_of[R] = 0; life_of[R] = 0;
+#if OLDER_FOLDERS
+  line[R] = 0; line_how[R] = Nothing
+#else
+  skip
+#endif
+}
 proctype Dispatcher(byte me) {
-  byte job, seen_boards, born;
-  mtype seen, how = Nothing, answer = No;
-  bit has_begun;
-again:
-  {
+  byte job, u, other, boards, boot, seen_life, asked, marks, units, processes;
+  mtype seen, end = Nothing;
+  bit answer, is_quiet, ours, is_part, seen_begun;
+#if COPIES
+  if :: me == 0 :: copied fi;
+#endif
   do
   :: look();
+     d_step {              /* the desk's view, after the worker's */
+       seen = state[job];
+#ifdef LOOKS_AT_FIRST      /* a group is Finished with the job of its first board */
+       if :: RUNS_AT_DESK(job) && !(held[job] & want[job] & -want[job]) -> seen = Finished :: else fi;
+#endif
+       is_part = RUNS_AT_DESK(job) && held[job] != want[job];
+       ours = (record[R] != NoRecord && (seen == Running || seen == Canceling) && starter[job] == unit_of[R] + 1)
+     };
+     end_strays();
+#ifdef TAKES_OLD_RECORD
      if
-     :: seen == Scheduled -> begin()
-     :: (seen == Running || seen == Canceling) && !whole[FOLDER] -> without_folder()
-     :: (seen == Running || seen == Canceling) && whole[FOLDER] -> go_on()
-     :: seen == Finished -> close_folder()
+     :: d_step { seen == Scheduled && record[R] != NoRecord && record[R] != Made -> record[R] = Made; how[R] = Nothing }
+     :: else
      fi;
+#else                      /* a unit that was begun, or closed: the record is of an older folder */
+     if
+     :: d_step { seen == Scheduled && record[R] == Made && IN((marks | units | processes), unit_of[R]) ->
+          record[R] = Started }
+     :: else
+     fi;
+#endif
+     if
+     :: seen == Scheduled && (record[R] == NoRecord || record[R] == Made) -> may_begin()
+     :: else
+     fi;
+     if
+     :: record[R] == NoRecord && seen == Scheduled -> new_record(Made)
+     :: record[R] == NoRecord && (seen == Running || seen == Canceling) -> find_again()
+     :: record[R] == NoRecord && (seen == Submitted || seen == Finished) -> goto next
+     :: else
+     fi;
+#ifdef RECORD_AFTER_START  /* as where it isn't synced, and the desk's machine is cut */
+     if :: record[R] == Made -> u = unit_of[R]; d_step { desk_start(u) }; if :: atomic { kills > 0 -> kills--; drop() } goto next :: skip fi :: else fi;
+#else
+     KILL;
+#endif
+     u = unit_of[R];
+     if
+     :: record[R] == Made && (seen == Submitted || seen == Finished) -> drop(); goto next
+     :: record[R] == Made && seen != Submitted && seen != Finished -> start()
+     :: else
+     fi;
+     if :: record[R] == Started -> become() :: else fi;
+     if :: record[R] == Ended && ours -> wait_for_others() :: else fi;
+     d_step { marks = 0; units = 0; processes = 0; seen_life = 0; end = Nothing; boards = 0; asked = 0; seen_begun = 0; answer = 0 };
+     KILL;
+     if
+     :: record[R] == Ended && ours ->
+        do                 /* each board that it holds */
+        :: held[job] && RUNS_AT_DESK(job) -> d_step { desk_finish(u) }; KILL
+        :: else -> break
+        od
+     :: else
+     fi;
+     if
+     :: record[R] == Ended -> d_step { line[R] = u + 1; line_how[R] = how[R] }; KILL; record[R] = Written; KILL
+     :: else
+     fi;
+     MAY_COME_LATE(Forget);
+     worker_forget(u);
+     KILL;
+     if :: answer -> drop() :: else fi;
+     goto next
+#if RESTORES               /* the farm goes on as it was before a Start, or behind one; calls to the desk that stopped are lost */
+  :: d_step { restores > 0 && fresh > 0 -> restore() }
+  :: atomic { restores > 0 && fresh > 0 ->
+       select (u : 0 .. UNITS - 1);
+       if
+       :: d_step { came_to[u] == 2 ->
+            restore();
+            job = job_of[u];
+            state[job] = Running; starter[job] = u + 1; held[job] = want[job]; taken = want[job]; KEEP(u);
+            job_begun[job] = was_begun[u]; over[u] = 0; NOTE_FARM; job = 0 }
+       :: else
+       fi;
+       goto next }
+#endif
+#if LOST_RECORDS           /* while it is down */
+  :: d_step { lost_records > 0 && record[R] != NoRecord -> lost_records--; harmed[unit_of[R]] = 1; forget_record() }
+#endif
+#if OLDER_FOLDERS
+  :: atomic { older_folders > 0 ->
+       select (u : 0 .. UNITS - 1);
+       if
+       :: d_step { came_to[u] && job_of[u] == job && IS_OURS(u) ->
+            older_folders--; forget_record(); record[R] = Made; unit_of[R] = u; life_of[R] = made_in[u] }
+       :: d_step { came_to[u] == 2 && job_of[u] == job && IS_OURS(u) ->
+            older_folders--; forget_record(); record[R] = Started; unit_of[R] = u; life_of[R] = made_in[u] }
+       :: d_step { true -> older_folders--; forget_record() }
+       fi;
+       goto next }
+#endif
+  :: false ->
 next:
      atomic {
        job = (job + 1) % JOBS;
-       seen = 0; seen_boards = 0; how = Nothing; answer = No; has_begun = 0; born = 0
+       u = 0; other = 0; boards = 0; boot = 0; seen_life = 0; asked = 0; marks = 0; units = 0; processes = 0; seen = 0;
+       end = Nothing; answer = 0; is_quiet = 0; ours = 0; is_part = 0; seen_begun = 0
      }
   od
-  } unless { kill_it[me] };
-  atomic {                 /* what it remembered is gone, and its locks are free */
-    for (job : 0 .. JOBS - 1) {
-      taking[FOLDER] = 0;
-#ifdef NO_CGROUP
-      own[FOLDER] = 0
-#else
-      joined[FOLDER] = 0
-#endif
-    }
-    job = 0; seen = 0; seen_boards = 0; how = Nothing; answer = No; has_begun = 0; born = 0;
-#ifdef NO_CGROUP
-    life[me]++;
-#endif
-#ifdef UPGRADE
-    id[me] = me;           /* a newer program takes over */
-#endif
-    kill_it[me] = 0
-  }
-#if POWER_CUTS             /* it comes back, or never */
-  atomic { !gone[me] -> abandoned[me] = 0 }
-#endif
-  goto again
 }
 
-/* ---- the runner: in a session of its own, with nothing of the dispatcher's but the folder */
+/* ---- systemd */
 
-proctype Runner(byte me; byte job; byte mine; byte booted) {
-  bit has, is_in;
-  {
-#ifndef NO_CGROUP
-  d_step { runners[FOLDER]++; joined[FOLDER] = 1; is_in = 1 }
-#endif
-  if                       /* the lock is taken while nobody began */
-  :: d_step { whole[FOLDER] && !LOCKED -> lock[FOLDER] = 1; has = 1 }
-  :: !whole[FOLDER] || began[FOLDER] || LOCKED -> goto out
-  fi;
-#ifndef TAKES_BACK_BLINDLY
-  if :: ended[FOLDER] == NotStarted && !began[FOLDER] -> ended[FOLDER] = Nothing :: else fi;
-#endif
-  if :: ended[FOLDER] == NotBegun -> goto out :: else fi;
-#ifdef BEGAN_WRITTEN_LATE
-  if :: began[FOLDER] -> goto out :: else fi;
+proctype Unit(byte u) {
+  byte other;
+  bit is_quiet;
+  do
+  :: d_step { unit[u] == Pre ->                  /* ExecStartPre: a mark, then a look at old, then `begun` */
+       if
+#ifdef NO_MARK
+       :: !stopping[u] && gets[u] -> unit[u] = Claimed
 #else
-  if :: d_step { whole[FOLDER] && !began[FOLDER] -> began[FOLDER] = 1 } :: else -> goto out fi;
+       :: !stopping[u] && gets[u] && !mark[u] -> mark[u] = 1; unit[u] = Claimed
 #endif
-  if
-  :: !whole[FOLDER] -> goto out
-  :: d_step { whole[FOLDER] ->
-       CHECK(BEGUN_ONCE, !begun[job]);
-       CHECK(NOTHING_LIVES, held[job] == want[job] && RUNS_AT_DESK && QUIET);
-       CHECK(WHOLE_GROUPS, boards[FOLDER] == want[job]);
-       command[FOLDER] = 1; begun[job] = 1; done[FOLDER] = 0
-     }
-#ifdef BEGAN_WRITTEN_LATE
-     began[FOLDER] = 1;
-#endif
-     !command[FOLDER];     /* it ended, by itself or by SIGTERM and SIGKILL: canceled, or its limit over */
+       :: else -> unit[u] = Failed
+       fi }
+  :: d_step { unit[u] == Claimed && old[u] -> mark[u] = 0; unit[u] = Failed }
+  :: d_step { unit[u] == Claimed && !old[u] && (stopping[u] || !gets[u]) -> unit[u] = Failed }
+  :: d_step { unit[u] == Claimed && !old[u] && !stopping[u] && gets[u] ->
+       begun[u] = 1; unit[u] = Runs; lives[u] = 1;
+       nothing_lives(want[job_of[u]], u);
+       CHECK(BEGUN_ONCE, !was_begun[u] && !(IS_OF_FARM(u) && job_begun[job_of[u]]));
+       CHECK(NOTHING_LIVES, is_quiet && !over[u]);
+       CHECK(WHOLE_GROUPS, gets[u] == want[job_of[u]]);
+       is_quiet = 0;
+       was_begun[u] = 1;
+       if :: IS_OF_FARM(u) -> job_begun[job_of[u]] = 1 :: else fi }
+  :: d_step { unit[u] == Runs ->                 /* its command ends, by itself or stopped; the rest is killed */
+       unit[u] = Stopped; lives[u] = 0; done[u] = 1; stopping[u] = 0 }
+  :: d_step { children > 0 && unit[u] == Runs ->
+       children--; unit[u] = Stopped; done[u] = 1; stopping[u] = 0 }
+  :: d_step { unit[u] == Stopped ->              /* ExecStopPost: `ended`, before the unit is gone */
+       if :: MARK_OF_POST && ended[u] == Nothing -> ended[u] = Done :: else fi;
+       unit[u] = NoUnit }
+  :: d_step { unit[u] == Failed ->               /* ExecStopPost, of a unit whose command wasn't begun */
+       if :: MARK_OF_POST && ended[u] == Nothing && !begun[u] -> ended[u] = Never :: else fi;
+       stopping[u] = 0; unit[u] = NoUnit }
 #if CHILDREN
-     d_step { KILL_CHILD };
+  :: d_step { lives[u] && unit[u] == NoUnit -> lives[u] = 0; told_to_die[u] = 0 }
 #endif
-     if
-     :: d_step { whole[FOLDER] -> CHECK(ENDED_ONCE, ended[FOLDER] == Nothing); ended[FOLDER] = Ended }
-     :: else
-     fi
-  :: d_step { failed_starts > 0 -> failed_starts--; ended[FOLDER] = NotStarted }
-  fi;
-out: skip
-  } unless { (kill_runner[FOLDER] && has) || boot[me] != booted };
-  atomic {
-    if :: has -> lock[FOLDER] = 0; kill_runner[FOLDER] = 0; has = 0 :: else fi;
-#ifdef NO_CGROUP
-    if :: life[me] == mine -> own[FOLDER] = 0 :: else fi;
-#else
-    if :: is_in -> runners[FOLDER]--; is_in = 0 :: else fi;
-#endif
-    mine = 0; booted = 0
-  }
+  :: d_step { hands > 0 && (unit[u] == Runs || unit[u] == Stopped) ->
+       hands--; unit[u] = NoUnit; lives[u] = 0; stopping[u] = 0; harmed[u] = 1 }
+  od
 }
 
 /* ---- the world; what it may leave undone it gives up at some time, so that fairness asks nothing */
 
+inline person_finishes(board) {
+  d_step { persons > 0 && RUNS_AT_DESK(job) && (held[job] & board) ->
+    persons--; taken = taken & ~board; held[job] = held[job] & ~board;
+    if :: held[job] == 0 -> state[job] = Finished :: else fi }
+}
 proctype Queue(byte job) {
-  byte me;
+  byte other;
+  bit is_quiet;
   do
   :: d_step { state[job] == Submitted && !(taken & want[job] & ~held[job]) ->  /* a pass gives boards */
        taken = taken | want[job]; held[job] = want[job]; state[job] = Scheduled }
@@ -547,84 +675,50 @@ proctype Queue(byte job) {
        held[job] = want[job] & ~taken; taken = taken | held[job] }
 #endif
   :: d_step { cancels > 0 && (state[job] == Submitted || state[job] == Scheduled) ->
+#if !RESTORES              /* (where an older farm gives boards on, what runs is ended before the next begins) */
+       nothing_lives(held[job], UNITS); CHECK(NOTHING_LIVES, is_quiet); is_quiet = 0;
+#endif
        cancels--; taken = taken & ~held[job]; held[job] = 0; state[job] = Finished }
   :: d_step { cancels > 0 && state[job] == Running -> cancels--; state[job] = Canceling }
   :: GIVE_UP(cancels)
-#ifdef ADOPTS
-  :: d_step { RUNS_AT_DESK && !adopted[job] && abandoned[starter[job]] ->
-       me = starter[job];
-       if :: !(kept[ID] & (1 << job)) || gone[me] || !LOST_PLACES -> adopted[job] = 1 :: else fi;
-       me = 0 }
-#endif
-#ifdef ADOPTS_THE_LIVING
-  :: d_step { RUNS_AT_DESK && !adopted[job] -> adopted[job] = 1; harmed[job] = 1 }
-#endif
-#if RESTORES               /* with one job alone, that was begun: its Start, and what came after, never was */
-  :: d_step { restores > 0 && begun[job] ->
-       restores--; state[job] = Scheduled; held[job] = want[job]; taken = want[job];
-       for (me : 0 .. DISPATCHERS - 1) { late[me] = 0; kept[ID] = 0 }
-       begun[job] = 0; harmed[job] = 0; told[job] = 0; starter[job] = 0; me = 0 }
-  :: GIVE_UP(restores)
-#endif
+  :: person_finishes(1)
+  :: person_finishes(2)
+  :: GIVE_UP(persons)
   od
 }
-proctype Machine(byte me) {
-  byte job;
-  mtype answer;
+inline end_life() {
+  life++;
+  for (u : 0 .. UNITS - 1) {
+    mark[u] = 0; begun[u] = 0; old[u] = 0; ended[u] = Nothing; gets[u] = 0;
+    if :: u < fresh -> harmed[u] = 1 :: else fi
+  }
+  u = 0
+}
+proctype World() {
+  byte job, u;
   do
-  :: d_step { late[me] -> job = late[me] - 1; desk_start(); late[me] = 0; job = 0; answer = 0 }
-  :: d_step { kills > 0 && !kill_it[me] -> kills--; kill_it[me] = 1 }
+  :: d_step { restarts > 0 -> restarts--;
+       for (u : 0 .. UNITS - 1) { unit[u] = NoUnit; lives[u] = 0; stopping[u] = 0; told_to_die[u] = 0 }
+       end_life() }
+  :: GIVE_UP(restarts)
+  :: d_step { wipes > 0 -> wipes--; end_life() }
+  :: GIVE_UP(wipes)
+  :: GIVE_UP(hands)
+  :: GIVE_UP(children)
+  :: GIVE_UP(late)
+#ifdef KILLS
   :: GIVE_UP(kills)
-#if POWER_CUTS
-  :: d_step { power_cuts > 0 && !kill_it[me] ->
-       power_cuts--; kill_it[me] = 1; boot[me]++; abandoned[me] = 1;
-#ifdef FOR_GOOD
-       gone[me] = 1;
 #endif
+  :: GIVE_UP(restores)
+  :: GIVE_UP(lost_records)
+  :: GIVE_UP(older_folders)
+#if COPIES
+  :: d_step { copies > 0 ->
+       copies--; copied = 1;
        for (job : 0 .. JOBS - 1) {
-         if :: whole[FOLDER] && !finished[FOLDER] -> harmed[job] = 1 :: else fi;
-         command[FOLDER] = 0; child[FOLDER] = 0; told_to_die[FOLDER] = 0 }
+         record[JOBS + job] = record[job]; how[JOBS + job] = how[job]; unit_of[JOBS + job] = unit_of[job];
+         life_of[JOBS + job] = life_of[job]; line[JOBS + job] = line[job]; line_how[JOBS + job] = line_how[job] }
        job = 0 }
-  :: GIVE_UP(power_cuts)
-#endif
-#if LOST_PLACES
-  :: d_step { lost_places > 0 && !kill_it[me] ->
-       lost_places--; kill_it[me] = 1; abandoned[me] = 1; id[me] = DISPATCHERS + me;
-       for (job : 0 .. JOBS - 1) {
-         if :: whole[FOLDER] && !finished[FOLDER] -> harmed[job] = 1 :: else fi;
-         whole[FOLDER] = 0; boards[FOLDER] = 0; unkeyed[FOLDER] = 0; began[FOLDER] = 0;
-         finished[FOLDER] = 0; ended[FOLDER] = Nothing; key[FOLDER] = 0 }
-       job = 0 }
-  :: GIVE_UP(lost_places)
-#endif
-  od
-}
-proctype Processes(byte me; byte job) {
-  do
-  :: d_step { command[FOLDER] -> command[FOLDER] = 0; done[FOLDER] = 1 }
-#if CHILDREN
-  :: d_step { command[FOLDER] && child[FOLDER] == 0 -> command[FOLDER] = 0; done[FOLDER] = 1; child[FOLDER] = 1 }
-  :: d_step { told_to_die[FOLDER] -> child[FOLDER] = 0; told_to_die[FOLDER] = 0 }
-#endif
-#if CHILDREN > 1
-  :: d_step { command[FOLDER] && child[FOLDER] == 0 -> command[FOLDER] = 0; done[FOLDER] = 1; child[FOLDER] = 2 }
-#endif
-#if RUNNER_KILLS
-  :: d_step { runner_kills > 0 && lock[FOLDER] && !kill_runner[FOLDER] ->
-       runner_kills--; kill_runner[FOLDER] = 1; harmed[job] = 1 }
-  :: d_step { runner_kills > 0 && lock[FOLDER] && !kill_runner[FOLDER] ->  /* cgroup.kill */
-       runner_kills--; kill_runner[FOLDER] = 1; harmed[job] = 1;
-       command[FOLDER] = 0; child[FOLDER] = 0; told_to_die[FOLDER] = 0 }
-  :: GIVE_UP(runner_kills)
-#endif
-#if REMOVED_FOLDERS
-  :: d_step { removed_folders > 0 && whole[FOLDER] && !finished[FOLDER] ->
-       removed_folders--; whole[FOLDER] = 0; boards[FOLDER] = 0; began[FOLDER] = 0;
-       ended[FOLDER] = Nothing; harmed[job] = 1 }
-  :: GIVE_UP(removed_folders)
-#endif
-#if RESTORES
-  :: d_step { earlier[FOLDER] -> earlier[FOLDER] = 0 }
 #endif
   od
 }
@@ -632,23 +726,26 @@ init {
   byte me, job;
   atomic {
     WANTS;
-    for (job : 0 .. JOBS - 1) { run Queue(job) }
-    for (me : 0 .. DISPATCHERS - 1) {
-#ifdef UPGRADE
-      id[me] = DISPATCHERS;
-#elif LOST_PLACES
-      id[me] = me;
+#ifdef UNIT_BY_NUMBER
+    for (me : 0 .. DISPATCHERS - 1) { for (job : 0 .. JOBS - 1) { job_of[R] = job; id_of[R] = me } }
+    fresh = RECORDS;
 #endif
-      run Machine(me); run Dispatcher(me);
-      for (job : 0 .. JOBS - 1) { run Processes(me, job) }
-    }
+    for (job : 0 .. JOBS - 1) { run Queue(job) }
+    for (me : 0 .. DISPATCHERS - 1) { run Dispatcher(me) }
+    for (job : 0 .. UNITS - 1) { run Unit(job) }
+    run World();
     me = 0; job = 0
   }
 }
 #ifdef ENDS
-#if JOBS == 1
-ltl all_end { <> (state[0] == Finished) }
+#if DISPATCHERS == 2 && !defined(ONE_RECORD)
+#define OPEN2 && record[JOBS] == NoRecord
 #else
-ltl all_end { <> (state[0] == Finished && state[1] == Finished) }
+#define OPEN2
+#endif
+#if JOBS == 1
+ltl all_end { <> [] (state[0] == Finished && record[0] == NoRecord OPEN2) }
+#else
+ltl all_end { <> [] (state[0] == Finished && state[1] == Finished && record[0] == NoRecord && record[1] == NoRecord) }
 #endif
 #endif

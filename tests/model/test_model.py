@@ -20,111 +20,84 @@ MODEL = pathlib.Path(__file__).resolve().parent / "dispatch.pml"
 DEPTH = 200_000  # steps of one way; a search that would go deeper fails
 MEMORY = 4_000  # MB
 TABLE = ("-w22",)  # what finds states has room for so many, by powers of two; more are found, too, but later
-CALM = "-DKILLS=0 -DLOST_ANSWERS=0 -DCANCELS=0"
-TWO = "-DDISPATCHERS=2 -DSHAPE=GROUP"
+CALM = "-DLATE=0 -DCANCELS=0"
+TWO = f"-DDISPATCHERS=2 {CALM}"
+ENDS = f"-DENDS -DKILLS=0 {CALM}"
+GHOST = f"-DENDS -DGHOSTS=1 -DHANG=1 -DSHAPE=SECOND_BOARD {CALM}"
 
-# Where nothing is said, once each: a dispatcher is killed, an answer is lost, a user cancels; two jobs
-# want one board of one dispatcher.
+# Where nothing is said, a group of two boards and one dispatcher, which is killed at each step as often as one likes; a
+# user cancels, and one call is given up and comes late, in part or never.
 HOLDS = {
-    "two_jobs_for_a_board": "",
-    "a_group_that_collects_its_boards": "-DSHAPE=JOB_AND_GROUP -DCOLLECTS -DLOST_ANSWERS=0",
-    "a_start_fails": "-DSHAPE=GROUP -DFAILED_STARTS=1 -DKILLS=2 -DLOST_ANSWERS=0",
-    "a_start_fails_and_a_runner_is_killed": "-DSHAPE=GROUP -DFAILED_STARTS=1 -DRUNNER_KILLS=1 -DLOST_ANSWERS=0",
-    "a_runner_is_killed": "-DSHAPE=GROUP -DRUNNER_KILLS=1 -DCHILDREN=2",
-    "the_power_is_cut": "-DSHAPE=GROUP -DPOWER_CUTS=1 -DCHILDREN=2",
-    "a_folder_is_removed": "-DSHAPE=GROUP -DREMOVED_FOLDERS=1 -DCHILDREN=2",
-    "the_place_is_lost": "-DSHAPE=GROUP -DLOST_PLACES=1 -DADOPTS",
-    "an_upgrade": "-DSHAPE=GROUP -DUPGRADE",
-    "an_older_farm_is_restored": "-DSHAPE=GROUP -DRESTORES=1 -DCHILDREN=2 -DKILLS=0 -DRUNNER_KILLS=1",
-    "no_cgroup": "-DSHAPE=GROUP -DNO_CGROUP -DCHILDREN=1 -DRUNNER_KILLS=1",
-    "two_dispatchers": f"{TWO} -DLOST_ANSWERS=0",
-    "two_dispatchers_an_answer_lost": f"{TWO} -DKILLS=0",
-    "two_dispatchers_two_jobs": "-DDISPATCHERS=2 -DKILLS=0 -DLOST_ANSWERS=0",
-    "two_dispatchers_a_runner_is_killed": f"{TWO} -DRUNNER_KILLS=1 -DCHILDREN=2 {CALM}",
-    "two_parts_no_room_for_replies": f"{TWO} -DPARTS -DFULL -DLOST_ANSWERS=2 -DKILLS=0",
-    "two_parts_an_older_farm_is_restored": f"{TWO} -DPARTS -DRESTORES=1 -DKILLS=0",
-    "two_one_is_gone_for_good_and_adopted": f"{TWO} -DPOWER_CUTS=1 -DADOPTS -DFOR_GOOD -DKILLS=0 -DLOST_ANSWERS=0",
-    "three_parts_a_group_over_two": "-DDISPATCHERS=3 -DPARTS -DSHAPE=GROUP -DCANCELS=0 -DLOST_ANSWERS=0",
-    "three_parts_a_group_and_a_job": "-DDISPATCHERS=3 -DPARTS -DSHAPE=GROUP_AND_JOB -DKILLS=0 -DCANCELS=0",
-    "all_end_two_jobs": "-DENDS -DLOST_ANSWERS=0 -DCANCELS=0",
-    "all_end_a_kill_a_lost_answer_a_cancel": "-DENDS -DSHAPE=GROUP",
-    "all_end_a_folder_is_removed": f"-DENDS -DSHAPE=GROUP -DREMOVED_FOLDERS=1 -DCHILDREN=2 {CALM}",
-    "all_end_a_runner_is_killed": f"-DENDS -DSHAPE=GROUP -DRUNNER_KILLS=1 -DCHILDREN=2 {CALM}",
-    "all_end_an_upgrade": "-DENDS -DSHAPE=GROUP -DUPGRADE -DCANCELS=0",
-    "all_end_the_place_is_lost": f"-DENDS -DSHAPE=GROUP -DLOST_PLACES=1 -DADOPTS {CALM}",
-    "all_end_two_dispatchers": f"-DENDS {TWO} {CALM}",
-    "all_end_two_one_is_gone_for_good_and_adopted": f"-DENDS {TWO} -DPOWER_CUTS=1 -DADOPTS -DFOR_GOOD {CALM}",
+    "a_call_comes_late": "",
+    "two_jobs_for_a_board": "-DSHAPE=TWO_JOBS -DLATE=0",
+    "a_group_that_collects_its_boards": "-DSHAPE=JOB_AND_GROUP -DCOLLECTS -DLATE=0",
+    "a_worker_is_restarted": "-DRESTARTS=1",
+    "a_unit_is_gone_without_an_end": "-DHANDS=1",
+    "the_workers_state_is_removed": "-DWIPES=1",
+    "processes_outlive_their_unit": "-DCHILDREN=1 -DHANDS=1",
+    "a_record_is_lost": "-DLOST_RECORDS=1",
+    "an_older_folder": "-DOLDER_FOLDERS=1 -DCANCELS=0",
+    "an_older_farm": "-DRESTORES=1 -DCANCELS=0",
+    "an_older_farm_and_two_jobs": f"-DRESTORES=1 -DSHAPE=TWO_JOBS {CALM}",
+    "an_older_farm_and_a_lost_record": f"-DRESTORES=1 -DLOST_RECORDS=1 {CALM}",
+    "an_admin_finishes_a_job": f"-DPERSONS=1 -DSHAPE=TWO_JOBS {CALM}",
+    "an_admin_finishes_one_job_of_a_group": f"-DPERSONS=1 -DSHAPE=JOB_AND_GROUP {CALM}",
+    "a_group_over_two_machines_and_a_lost_record": f"-DLOST_RECORDS=1 -DHANG=1 -DSHAPE=GROUP_AND_JOB {CALM}",
+    "two_dispatchers": TWO,
+    "all_end_a_cancel": "-DENDS -DKILLS=0 -DLATE=0",
+    "all_end_a_kill": f"-DENDS {CALM}",
+    "all_end_a_worker_is_restarted": f"{ENDS} -DRESTARTS=1",
+    "all_end_a_unit_is_gone_and_processes_outlive_it": f"{ENDS} -DHANDS=1 -DCHILDREN=1",
+    "all_end_an_older_farm": f"{ENDS} -DRESTORES=1",
+    "all_end_a_board_elsewhere_and_a_unit_that_nobody_knows": f"{GHOST} -DKILLS=1",
+    "all_end_an_admin_finishes_a_job": f"{ENDS} -DPERSONS=1",
+    "all_end_a_kill_and_an_admin_finishes_one_job_of_a_group": f"-DENDS -DPERSONS=1 {CALM}",
 }
-# Of these the ones whose search takes longer than the compiler that makes it quick.
-LONG = ("three_parts_a_group_and_a_job", "three_parts_a_group_over_two", "all_end_two_one_is_gone_for_good_and_adopted")
 LARGE = {
-    "a_group_that_collects_and_an_answer_lost": "-DSHAPE=JOB_AND_GROUP -DCOLLECTS",
-    "two_kills_a_start_fails_a_runner_is_killed": "-DSHAPE=GROUP -DFAILED_STARTS=1 -DKILLS=2 -DRUNNER_KILLS=1",
-    "two_jobs_a_runner_is_killed": "-DRUNNER_KILLS=1 -DCHILDREN=2 -DLOST_ANSWERS=0",
-    "no_cgroup_the_power_is_cut": "-DSHAPE=GROUP -DNO_CGROUP -DCHILDREN=1 -DPOWER_CUTS=1",
-    "two_upgrades": "-DSHAPE=GROUP -DUPGRADE -DKILLS=2",
-    "two_dispatchers_all": TWO,
-    "two_dispatchers_two_jobs_a_kill": "-DDISPATCHERS=2 -DLOST_ANSWERS=0 -DCANCELS=0",
-    "two_dispatchers_a_kill_and_a_runner_is_killed": f"{TWO} -DRUNNER_KILLS=1 -DCHILDREN=2 -DLOST_ANSWERS=0 -DCANCELS=0",
-    "two_parts_no_room_for_replies_a_kill": f"{TWO} -DPARTS -DFULL -DLOST_ANSWERS=2",
-    "two_one_is_gone_for_good_an_answer_lost": f"{TWO} -DPOWER_CUTS=1 -DADOPTS -DFOR_GOOD -DKILLS=0",
-    "three_parts_a_group_over_two_an_answer_lost": "-DDISPATCHERS=3 -DPARTS -DSHAPE=GROUP -DCANCELS=0",
-    "all_end_a_start_fails": "-DENDS -DSHAPE=GROUP -DFAILED_STARTS=1 -DLOST_ANSWERS=0",
-    "all_end_a_runner_and_a_dispatcher_are_killed": "-DENDS -DSHAPE=GROUP -DRUNNER_KILLS=1 -DCHILDREN=2 -DLOST_ANSWERS=0",
-    "all_end_two_dispatchers_a_kill": f"-DENDS {TWO} -DLOST_ANSWERS=0 -DCANCELS=0",
+    "two_calls_come_late": "-DLATE=2",
+    "two_restarts_two_calls_come_late": "-DRESTARTS=2 -DLATE=2",
+    "two_jobs_for_a_board_a_call_comes_late": "-DSHAPE=TWO_JOBS",
+    "an_older_farm_a_cancel": "-DRESTORES=1",
+    "an_admin_finishes_a_job_a_call_comes_late": "-DPERSONS=1 -DSHAPE=TWO_JOBS -DCANCELS=0",
+    "two_dispatchers_a_cancel": "-DDISPATCHERS=2 -DLATE=0",
+    "two_dispatchers_one_on_a_copy": f"{TWO} -DCOPIES=1",
+    "all_end_a_call_comes_late": "-DENDS -DKILLS=0 -DCANCELS=0",
+    "all_end_an_older_farm_and_folder": f"{ENDS} -DRESTORES=1 -DOLDER_FOLDERS=1",
+    "all_end_two_jobs": f"{ENDS} -DSHAPE=TWO_JOBS",
+    "all_end_two_dispatchers": f"{ENDS} -DDISPATCHERS=2",
 }
-# Wrong variants of the protocol.
+# Wrong variants of the protocol. With a TRACE that promise alone is looked at, until it breaks.
 BREAKS = {
-    "shared_key": ("begun_once nothing_lives told_true ended_once own_jobs", f"-DSHARED_KEY {TWO} {CALM}"),
-    "key_not_in_folder": ("all_end", "-DENDS -DKEY_NOT_IN_FOLDER -DSHAPE=GROUP -DUPGRADE -DCANCELS=0"),
-    "start_told_before_the_folder_is_whole": ("told_true", "-DSTART_TOLD_FIRST -DSHAPE=GROUP -DLOST_ANSWERS=0"),
-    "folder_made_anew": ("told_true", "-DFOLDER_MADE_ANEW -DSHAPE=GROUP -DCANCELS=0"),
-    "boards_looked_at_before_the_job": ("whole_groups", f"-DBOARDS_LOOKED_AT_FIRST -DCOLLECTS -DSHAPE=JOB_AND_GROUP {CALM}"),
-    "began_written_late": ("begun_once told_true", "-DBEGAN_WRITTEN_LATE -DSHAPE=GROUP -DRUNNER_KILLS=1 -DLOST_ANSWERS=0"),
-    "claims_before_it_drops": (
-        "nothing_lives told_true ended_once own_jobs",
-        f"-DCLAIMS_BEFORE_IT_DROPS {TWO} -DLOST_ANSWERS=0 -DCANCELS=0",
-    ),
-    "looks_last_whether_it_began": ("told_true", "-DLOOKS_LAST_WHETHER_IT_BEGAN -DSHAPE=GROUP -DCANCELS=0"),
-    "takes_back_blindly": (
-        "begun_once ended_once",
-        "-DTAKES_BACK_BLINDLY -DSHAPE=GROUP -DFAILED_STARTS=1 -DKILLS=2 -DLOST_ANSWERS=0 -DCANCELS=0",
-    ),
-    "finishes_before_the_cgroup_is_empty": ("nothing_lives", f"-DFINISHES_BEFORE_EMPTY -DSHAPE=GROUP -DCHILDREN=1 {CALM}"),
-    "waits_without_killing": ("all_end", f"-DENDS -DWAITS_WITHOUT_KILLING -DSHAPE=GROUP -DCHILDREN=1 {CALM}"),
-    "no_folder_is_taken_for_lost": (
-        "nothing_lives told_true ended_once own_jobs",
-        f"-DNO_FOLDER_IS_LOST {TWO} {CALM}",
-    ),
-    "unkeyed_mark_kept": (
-        "begun_once nothing_lives ended_once own_jobs",
-        f"-DKEEPS_UNKEYED_MARK -DFULL {TWO} {CALM}",
-    ),
-    "put_aside_blindly": ("nothing_lives ended_once", f"-DPUT_ASIDE_BLINDLY -DSHAPE=GROUP -DRESTORES=1 {CALM}"),
-    "adopt_while_its_dispatcher_lives": ("nothing_lives ended_once", f"-DADOPTS_THE_LIVING {TWO} {CALM}"),
+    "no_mark": ("begun_once nothing_lives", "-DNO_MARK -DLATE=2 -DCANCELS=0"),
+    "no_life": ("begun_once nothing_lives", "-DNO_LIFE -DRESTARTS=1 -DCANCELS=0"),
+    "no_old": ("begun_once nothing_lives", "-DNO_OLD -DLATE=2 -DCANCELS=0"),
+    "old_without_its_end": ("all_end", f"-DOLD_WITHOUT_END {ENDS} -DOLDER_FOLDERS=1 -DRESTORES=1"),
+    "units_looked_at_before_marks": ("nothing_lives told_true", "-DUNITS_FIRST -DCANCELS=0"),
+    "older_record_taken_over": ("told_true", f"-DTAKES_OLD_RECORD -DRESTORES=1 {CALM}"),
+    "an_empty_answer_is_no_units": ("nothing_lives told_true", f"-DEMPTY_IS_NONE {CALM}"),
+    "finishes_before_the_cgroup_is_empty": ("nothing_lives", f"-DFINISHES_BEFORE_EMPTY -DCHILDREN=1 {CALM}"),
+    "key_by_number": ("begun_once", f"-DTRACE=BEGUN_ONCE -DKEY_BY_NUMBER {TWO}"),
+    "record_after_start": ("all_end", f"-DRECORD_AFTER_START -DENDS {CALM}"),
+    "begin_before_start": ("nothing_lives", "-DTRACE=NOTHING_LIVES -DBEGIN_BEFORE_START -DLATE=0"),
+    "unit_by_number": ("told_true", f"-DUNIT_BY_NUMBER -DRESTORES=1 {CALM}"),
+    "close_makes_no_mark": ("nothing_lives told_true", "-DCLOSES_WITHOUT_MARK"),
+    "an_end_counts_without_its_mark": ("nothing_lives", "-DENDED_WITHOUT_MARK -DCHILDREN=1 -DCANCELS=0"),
+    "a_mark_without_begun_is_lost": ("told_true", "-DUNNOTED_IS_LOST"),
+    "what_was_cut_is_begun": ("whole_groups", "-DBEGINS_WHAT_WAS_CUT -DCANCELS=0"),
+    "the_first_of_a_group_alone": ("all_end", f"-DLOOKS_AT_FIRST -DENDS {CALM}"),
+    "others_on_its_boards": ("nothing_lives", f"-DOTHERS_BOARDS -DPERSONS=1 -DSHAPE=TWO_JOBS {CALM}"),
+    "strays_are_left": ("nothing_lives", f"-DLEAVES_STRAYS -DLOST_RECORDS=1 -DRESTORES=1 {CALM}"),
+    "strays_shut_all_boards": ("all_end", f"-DSTRAYS_SHUT_ALL -DKILLS=0 {GHOST}"),
+    "what_runs_is_taken": ("own_jobs", f"-DTRACE=OWN_JOBS -DTAKES_WHAT_RUNS -DUNITS=4 {TWO}"),
 }
 # What the protocol itself doesn't withstand; the documents say so.
 LIMITS = {
-    "adopt_of_a_machine_that_comes_back": ("nothing_lives ended_once", f"-DADOPTS -DPOWER_CUTS=1 {TWO} {CALM}"),
-    "no_adopt_of_a_machine_gone_for_good": ("all_end", f"-DENDS -DFOR_GOOD -DPOWER_CUTS=1 {TWO} {CALM}"),
-    "no_adopt_of_a_lost_place": ("all_end", f"-DENDS -DLOST_PLACES=1 -DSHAPE=GROUP {CALM}"),
-    "no_room_for_replies_and_parts_overlap": (
-        "begun_once nothing_lives ended_once own_jobs",
-        f"-DFULL {TWO} -DLOST_ANSWERS=1 -DKILLS=0 -DCANCELS=0",
+    "a_record_is_lost_before_its_unit_is_begun": ("all_end", f"-DENDS -DLOST_RECORDS=1 {CALM}"),
+    "an_older_farm_and_folder_while_a_unit_begins": ("told_true", f"-DRESTORES=1 -DOLDER_FOLDERS=1 {CALM}"),
+    "a_group_over_two_machines_a_lost_record_and_an_older_farm": (
+        "nothing_lives", f"-DLOST_RECORDS=1 -DRESTORES=1 -DHANG=1 -DSHAPE=GROUP_AND_JOB {CALM}",
     ),
-    "older_farm_and_parts_overlap": ("nothing_lives told_true ended_once own_jobs", f"{TWO} -DRESTORES=1 {CALM}"),
-    "older_farm_while_a_runner_starts_and_its_dispatcher_ends": (
-        "nothing_lives",
-        "-DSHAPE=GROUP -DRESTORES=1 -DLOST_ANSWERS=0 -DCANCELS=0",
-    ),
-    "no_cgroup_and_a_child_without_the_lock": (
-        "nothing_lives",
-        f"-DNO_CGROUP -DSHAPE=GROUP -DCHILDREN=2 -DRUNNER_KILLS=1 {CALM}",
-    ),
-    "no_cgroup_and_a_folder_is_removed": (
-        "nothing_lives ended_once",
-        "-DNO_CGROUP -DSHAPE=GROUP -DREMOVED_FOLDERS=1 -DLOST_ANSWERS=0 -DCANCELS=0",
-    ),
+    "two_dispatchers_and_an_older_farm": ("nothing_lives", f"-DTRACE=NOTHING_LIVES -DRESTORES=1 -DUNITS=3 {TWO}"),
 }
 WRONG = {**BREAKS, **LIMITS}
 SEARCHED = {**HOLDS, **LARGE} if os.environ.get("FARM_MODEL") == "whole" else HOLDS
@@ -145,8 +118,8 @@ def compiling(switches: str) -> Sequence[str]:
     is_large = switches in LARGE.values()
     kind = "-DNFAIR=8" if "-DENDS" in switches.split() else "-DSAFETY"
     packs = ["-DCOLLAPSE"] if is_large or kind != "-DSAFETY" else []
-    compiler = ["gcc", "-O1"] if is_large or switches in map(HOLDS.get, LONG) else ["tcc"]
-    return [*compiler, "-w", f"-DMEMLIM={MEMORY}", kind, *packs, "-o", "pan", "pan.c"]
+    compiler = ["gcc", "-O1"] if is_large else ["tcc"]
+    return [*compiler, "-w", f"-DMEMLIM={MEMORY}", "-DVECTORSZ=2048", kind, *packs, "-o", "pan", "pan.c"]
 
 
 def broken(switches: str, folder: pathlib.Path) -> FrozenSet[str]:
@@ -163,6 +136,9 @@ def broken(switches: str, folder: pathlib.Path) -> FrozenSet[str]:
     if ends and errors[1] != "0":
         assert "acceptance cycle" in said, said
         return frozenset(["all_end"])
+    trace = re.search(r"-DTRACE=(\w+)", switches)
+    if trace and "assertion violated" in said:  # it stops there
+        return frozenset([trace[1].lower()])
     assert errors[1] == "0" and not stopped, said
     return frozenset(re.findall(r"^broken: (\w+)$", said, re.MULTILINE))
 

@@ -27,7 +27,7 @@ for deb in $built; do
         [ ! -e "$folder/$name/$script" ] || sh -n "$folder/$name/$script" || fail "$name's $script is no script"
     done
 done
-[ "$(echo "$built" | wc -l)" = 5 ] || fail "it builds $built"
+[ "$(echo "$built" | wc -l)" = 6 ] || fail "it builds $built"
 
 # ---- what each package has and needs
 field() { dpkg-deb -f "$folder"/"$1"_*.deb "$2"; }
@@ -38,17 +38,25 @@ for file in lib/systemd/system/farm.service lib/systemd/system/farm-dispatch.ser
     lib/systemd/system/farm-watch.service usr/bin/farm-watch \
     lib/systemd/system/farm-port.service usr/share/fizgruk/farm-port.nft etc/logrotate.d/fizgruk-farm \
     lib/systemd/system/farm-door.service usr/bin/farm-door etc/nginx/farm-door.conf \
-    lib/systemd/system/farm-job.socket lib/systemd/system/farm-job@.service usr/share/fizgruk/job-in-account \
+    lib/systemd/system/farm-worker.socket lib/systemd/system/farm-worker@.service \
     lib/systemd/system/farm-backup.timer lib/systemd/system/farm-metrics.timer \
-    usr/share/fizgruk/page/farm.html usr/share/fizgruk/page/farm.js usr/bin/farm-page etc/nginx/sites-available/farm etc/farm/run-job etc/farm/check-board \
-    etc/farm/run-job-labgrid etc/farm/run-job-lava; do
+    usr/share/fizgruk/page/farm.html usr/share/fizgruk/page/farm.js usr/bin/farm-page etc/nginx/sites-available/farm; do
     grep -qx "./$file" "$folder/fizgruk-farm/files" || fail "fizgruk-farm has no $file"
+done
+for file in usr/share/fizgruk/farm-worker lib/systemd/system/farm-worker.service lib/systemd/system/farm-job-.service.d/farm.conf \
+    etc/farm/run-job etc/farm/check-board etc/farm/run-job-labgrid etc/farm/run-job-lava; do
+    grep -qx "./$file" "$folder/fizgruk-worker/files" || fail "fizgruk-worker has no $file"
 done
 for name in fizgruk-desk fizgruk-farm; do
     field fizgruk Depends | grep -q "$name (>= " || fail "2.0 isn't upgraded to $name"
-    [ "$(field $name Breaks)$(field $name Replaces)" = 'fizgruk (<< 2.0-1~)fizgruk (<< 2.0-1~)' ] ||
+    [ "$(field $name Breaks | grep -o '^fizgruk ([^)]*)')$(field $name Replaces)" = 'fizgruk (<< 2.0-1~)fizgruk (<< 2.0-1~)' ] ||
         fail "$name doesn't take the files of 2.0"
 done
+# (the commands of jobs were fizgruk-farm's until 2.0-1)
+taken='fizgruk (<< 2.0-1~), fizgruk-farm (<< 2.0-2~)'
+[ "$(field fizgruk-worker Breaks)$(field fizgruk-worker Replaces)" = "$taken$taken" ] || fail "fizgruk-worker doesn't take the files of 2.0-1"
+! field fizgruk-worker Depends | grep 'python\|fizgruk' || fail "a machine that runs jobs needs more than its package"
+field fizgruk-farm Depends | grep -q 'fizgruk-worker (= ' || fail "the desk's own machine runs no jobs"
 for name in 'fizgruk-desk (= ' 'python3-fizgruk (= ' 'python3:any' nftables; do
     field fizgruk-farm Depends | grep -q "$name" || fail "fizgruk-farm doesn't depend on $name"
 done
@@ -56,11 +64,14 @@ field fizgruk-desk Depends | grep -q 'python3-fizgruk (= ' || fail "the client d
 
 # ---- the way to boards is a package of its own, which enables nothing, and whose configuration sshd takes
 for file in usr/bin/farm-access usr/share/fizgruk/farm_access/main.py etc/farm/access.toml etc/farm/farm-access-sshd.conf \
-    lib/systemd/system/farm-access-sshd.service lib/systemd/system/farm-access-guard.service usr/share/man/man8/farm-access.8.gz; do
+    etc/farm/port.d/access.nft lib/systemd/system/farm-access-sshd.service lib/systemd/system/farm-access-guard.service \
+    lib/systemd/system/farm-access.service lib/systemd/system/farm-access-opener.service lib/systemd/system/farm-access-opener.socket \
+    lib/systemd/system/farm-access-ssh.socket lib/systemd/system/farm-access-jobs.socket lib/systemd/system/farm-hold.slice \
+    usr/share/man/man8/farm-access.8.gz; do
     grep -qx "./$file" "$folder/fizgruk-access/files" || fail "fizgruk-access has no $file"
 done
 ! grep farm-access "$folder/fizgruk-farm/files" || fail "fizgruk-farm has the way to boards"
-for name in 'fizgruk-farm (>= ' openssh-server; do
+for name in 'fizgruk-farm (>= ' openssh-server dbus nftables; do
     field fizgruk-access Depends | grep -q "$name" || fail "fizgruk-access doesn't depend on $name"
 done
 for unit in farm-access-sshd farm-access-guard; do
@@ -68,7 +79,7 @@ for unit in farm-access-sshd farm-access-guard; do
 done
 if command -v sshd > /dev/null || [ -x /usr/sbin/sshd ]; then
     ssh-keygen -q -t ed25519 -N '' -f "$folder/ssh_host_ed25519_key"
-    sed "s,/var/lib/farm-access,$folder," "$tree/etc/farm/farm-access-sshd.conf" > "$folder/sshd.conf"
+    sed "s,/var/lib/farm-access-sshd,$folder," "$tree/etc/farm/farm-access-sshd.conf" > "$folder/sshd.conf"
     as=
     if [ "$(id -u)" = 0 ]; then
         chmod 755 "$folder"
@@ -100,7 +111,7 @@ for file in tools/farm_*/*.py; do
     cmp -s "$file" "$tree/usr/share/fizgruk/${file#tools/}" || fail "fizgruk-farm has no $file"
 done
 said=$(PYTHONPATH=$modules /usr/bin/python3 -c 'import importlib.metadata as it; print(it.version("fizgruk"))')
-[ "$said-1" = "$(field python3-fizgruk Version)" ] || fail "the Python package's version $said"
+[ "$said" = "$(field python3-fizgruk Version | sed 's,-.*,,')" ] || fail "the Python package's version $said"
 if /usr/bin/python3 -c 'import pytest' 2> /dev/null; then
     (cd "$folder" && PYTHONPATH=$modules /usr/bin/python3 -m pytest --help) > "$folder/help"
     grep -q '^  --farm=TAGS' "$folder/help" || fail "pytest doesn't find the plugin"
@@ -113,8 +124,8 @@ done
 cmp -s docs/PYTHON.md "$tree/usr/share/doc/python3-fizgruk/PYTHON.md" || fail "python3-fizgruk has no PYTHON.md"
 
 architecture=$(dpkg --print-architecture)
-for name in $(grep -oh 'bin/[a-z3-]*fizgruk[^ ]*[.]deb' docs/USING.md docs/PYTHON.md | sed "s,bin/,,; s,amd64,$architecture," | sort -u); do
-    [ -e "$folder/$name" ] || fail "docs/USING.md or docs/PYTHON.md names $name"
+for name in $(grep -oh 'bin/[a-z3-]*fizgruk[^ ]*[.]deb' docs/setting-up.md docs/PYTHON.md | sed "s,bin/,,; s,amd64,$architecture," | sort -u); do
+    [ -e "$folder/$name" ] || fail "docs/setting-up.md or docs/PYTHON.md names $name"
 done
 
 # ---- its units: enabled at the first installation alone, by what keeps an admin's choice
@@ -135,14 +146,16 @@ for line in StartLimitIntervalSec=0 Restart=on-failure LimitNOFILE=2048; do
 done
 grep -q -- '--port 880 ' "$tree/lib/systemd/system/farm.service" && grep -q '127.0.0.1:880;' "$tree/etc/nginx/sites-available/farm" ||
     fail "the desk's port"
-# (nginx's user goes through the dispatcher's folder to the history and the logs)
-grep -qx StateDirectoryMode=0711 "$tree/lib/systemd/system/farm-dispatch.service" || fail "who gets to the history"
-grep -q '0711 /var/lib/farm-dispatch$' "$folder/fizgruk-farm/postinst" || fail "who gets to the history at first"
+# (nginx's user goes through the dispatcher's folder to the history and the logs, and no login does)
+dispatch=$tree/lib/systemd/system/farm-dispatch.service
+grep -qx StateDirectoryMode=0710 "$dispatch" && grep -q '^ExecStartPre=+.*setfacl .*u:www-data:x' "$dispatch" ||
+    fail "who gets to the history"
+grep -q '^d /var/lib/farm-dispatch 0710 ' "$tree/usr/lib/tmpfiles.d/fizgruk-farm.conf" || fail "who gets to the history at first"
 grep -q 'root /var/lib/farm-dispatch;' "$tree/etc/nginx/sites-available/farm" || fail "nginx serves no history"
 if grep -rn /usr/local "$tree/lib" "$tree/etc"; then fail "names of an installation by hand"; fi
 if command -v systemd-analyze > /dev/null; then
     cp "$tree"/lib/systemd/system/*.timer "$folder"
-    for unit in farm farm-port farm-dispatch farm-watch farm-backup farm-metrics farm-access-sshd farm-access-guard; do
+    for unit in farm farm-port farm-dispatch farm-watch farm-backup farm-metrics farm-access-sshd farm-access-guard farm-access farm-access-opener; do
         sed "s,/usr/bin/,$tree/usr/bin/,; s,/etc/farm,$tree/etc/farm,g" "$tree/lib/systemd/system/$unit.service" > "$folder/$unit.service"
     done
     systemd-analyze --man=no verify "$folder"/*.service "$folder"/*.timer > "$folder/said" 2>&1 || :
@@ -153,7 +166,8 @@ fi
 
 # ---- programs and documents
 export PYTHONPATH="$modules" PYTHONDONTWRITEBYTECODE=1
-for name in farm $(cd tools && ls -d desk farm-*); do
+for name in farm $(cd tools && echo desk farm-*); do
+    [ "$name" != farm-worker ] || continue # (a script, which has no --help)
     "$tree/usr/bin/$name" --help > "$folder/help" || fail "$name --help"
     grep -qi "^usage: $name" "$folder/help" || fail "$name --help prints '$(cat "$folder/help")'"
 done
@@ -170,10 +184,11 @@ for page in "$tree"/usr/share/man/man?/*.gz; do
     gunzip -c "$page" > "$folder/pages/$(basename "$page" .gz)"
 done
 for page in "$tree$docs"/*.md "$folder"/pages/* "$tree"/etc/farm/* "$tree/etc/nginx/sites-available/farm" "$tree"/lib/systemd/system/*; do
+    [ -f "$page" ] || continue
     named=$(sed 's,[a-z/]*[A-Z]*[.]md of the source,,g' "$page" |
         grep -Eo '[a-z/-]*[A-Z]+[.]md|docs/[a-z-]+[.]md|docs/[a-z.-]+[0-9]|docs/[a-z]+[.]png|openapi[.]json' | sort -u)
     for name in $named; do
-        name=$(basename "$name")
+        name=$(basename -- "$name")
         [ -e "$tree$docs/$name" ] || [ -e "$tree/usr/share/man/man${name##*.}/$name.gz" ] ||
             fail "$(basename "$page") names $name, which isn't in it"
     done

@@ -1,6 +1,6 @@
 #!/bin/sh
 # Runs the program over files: each exit status, each line of a fault but want of memory, which
-# tests/faults/refused_memory.sh shows, and what the files hold afterwards. tests/program/words.sh has its words.
+# tests/faults/test_refused_memory.py shows, and what the files hold afterwards. tests/program/test_words.py has its words.
 #     sh tests/program/statuses.sh bin/farm
 set -eu
 . "$(dirname "$0")/../shared/folder.sh"
@@ -255,6 +255,13 @@ runs_without_room() {
     )
 }
 expect 0 ready '' init --db small.db
+# An opening that can't copy the log into the file ends the order.
+first_type
+: > wanted
+echo "$store_fault" > wanted_errors
+runs_without_room 4 once --db small.db --at 10
+# Once the log is in the file it is the command that can't be written.
+expect 0 '' '' report --db small.db boards
 first_type
 answer '503 Service Unavailable' '{"code":60,"text":"store fault"}' > wanted
 echo "$store_fault" > wanted_errors

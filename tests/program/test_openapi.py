@@ -152,10 +152,13 @@ def test_operation(route: str) -> None:
 Told = Tuple[str, Dict[str, str], Any]
 
 
+ROOM = 64  # bytes of a file: the head of a log, and no page
+
+
 def fill() -> None:
-    """Lets a process write nothing more, as on a full disk."""
+    """Lets a process write no page more, as on a full disk."""
     signal.signal(signal.SIGXFSZ, signal.SIG_IGN)
-    resource.setrlimit(resource.RLIMIT_FSIZE, (0, 0))
+    resource.setrlimit(resource.RLIMIT_FSIZE, (ROOM, ROOM))
 
 
 class Lab(Orders):
@@ -171,7 +174,7 @@ class Lab(Orders):
         self, method: str, path: str, fields: Dict[str, Any], body: bytes = b"", at: Optional[int] = None,
         db: str = "", is_full: bool = False,
     ) -> Told:
-        """The status, the fields and the body of an answer. Where the disk is full nothing can be written."""
+        """The status, the fields and the body of an answer. Where the disk is full no page can be written."""
         words = [self.program, "once", "--db", db or self.db, "--at", str(at or self.now)]
         ran = subprocess.run(
             words, input=request(method, path, fields, body), capture_output=True, check=False, cwd=self.folder,
@@ -223,9 +226,11 @@ class Lab(Orders):
         return answer[2]
 
     def demand_fault(self, route: str, asked: str, fields: Dict[str, str], sent: bytes) -> None:
-        """Gives a command that would be accepted to a copy of the farm on a disk that is full."""
+        """Gives a command that would be accepted to a copy of the farm on a disk that is full. (Its log is in its file
+        before, which an order does as it opens them, or there would be no farm to give it to.)"""
         for end in ("", "-wal"):
             shutil.copyfile(self.path(self.db + end), self.path("copy.db" + end))
+        assert self.run("report", "--db", "copy.db", "boards").status == 0
         method, path = asked.split(" ")
         answer = self.exchange(method, path, fields, sent, db="copy.db", is_full=True)
         assert self.demand_told(asked, answer, route) == 60, f"{asked} on a full disk"

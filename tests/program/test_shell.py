@@ -74,7 +74,7 @@ def test_rows(lab: Orders) -> None:
 
 
 def test_longer_pages(lab: Orders) -> None:
-    """With other pages, as docs/USING.md gives them, the farm is the same, and takes commands."""
+    """With other pages, as docs/daily-work.md gives them, the farm is the same, and takes commands."""
     before = lab.run("report", "--db", "lab.db", "boards")
     shell(lab, "lab.db", LONGER)
     assert shell(lab, "lab.db", "pragma page_size;") == "4096\n"

@@ -56,6 +56,17 @@ def test_each_accepted_command_has_a_line_and_nothing_else_has(site: Site) -> No
     assert began - 2 <= at <= time.time() + 2
 
 
+def test_a_path_is_in_its_line_as_it_was_asked(farm: Farm, site: Site) -> None:
+    """A desk takes a board that is named `..`, which nginx takes for another address."""
+    farm.tell("admin", "/boards", {"name": "..", "type": "bbb", "tags": []})
+    told(site, "--path-as-is", "-d", '{"health":"Good"}', "/boards/../health", user="admin")
+    assert told(site, "-d", RESERVE, "/reservations?x=1") in (200, 404)
+    commands = [it["command"] for it in lines_of(site)]
+    assert all(it in ("POST /boards/../health", "POST /reservations?x=1") for it in commands)
+    audit = site.desk("--json", "audit", "..", "--file", f"{site.folder}/audit.log")
+    assert len(json.loads(audit[1])["audit"]) == commands.count("POST /boards/../health") == 1
+
+
 @pytest.mark.parametrize("body", [
     '{"tags":["name=b1"],\n"x":"\\u0022"}', '{"tags":["name=b1"]}\r\n\t', '{"tags":["name=b1"],"é":"\\u0000"}',
 ])
@@ -65,10 +76,30 @@ def test_a_body_is_one_line_whatever_is_in_it(site: Site, body: str) -> None:
     assert [it["body"].encode() for it in rows] == [body.encode()] * (status == 200)
 
 
-def test_a_long_body_is_in_its_line(site: Site) -> None:
-    body = '{"tags":["name=b1"],"x":"' + "y" * 60_000 + '"}'
-    assert told(site, "--data-binary", body, "/reservations") == 200
+def test_the_longest_body_is_in_its_line(site: Site) -> None:
+    """That of a board of sixteen tags, but for a job's text (docs/API.md)."""
+    tags = [f"{number:032}={'v' * 64}" for number in range(16)]
+    body = json.dumps({"name": "b" * 48, "type": "bbb", "tags": tags}, indent=4)
+    assert told(site, "--data-binary", body, "/boards", user="admin") == 200
     assert [it["body"] for it in lines_of(site)] == [body]
+
+
+FRAMINGS = [
+    ("--http1.1",), ("--http1.1", "-H", "transfer-encoding: chunked"), ("--http2",), ("--http2", "-H", "content-length:"),
+]
+
+
+@pytest.mark.parametrize("framing", FRAMINGS, ids=" ".join)
+def test_the_audit_grows_by_no_long_body(farm: Farm, site: Site, framing: List[str]) -> None:
+    """However a client says its length; a job's text, which isn't in the audit, may be long."""
+    write(site.folder, "long", RESERVE + " " * 5000, 0o644)
+    write(site.folder, "job", "job_name = 'x'\ndevice_type = 'bbb'\n#" + "x" * 60_000, 0o644)
+    sent = ["--data-binary", f"@{site.folder}/long"]
+    for path in ("/reservations", "/jobs/1/cancel", "/reservations/../reservations", "/jobs/"):
+        assert told(site, *framing, "--path-as-is", *sent, path) == 413, path
+    assert farm.look("/reservations")["reservations"] == [] and lines_of(site) == []
+    assert told(site, *framing, "--data-binary", f"@{site.folder}/job", "/jobs") == 200
+    assert len(lines_of(site)) == 1 and len(site.logged()) < 1000
 
 
 def test_who_doesnt_wait_for_an_answer_has_a_line(farm: Farm, site: Site) -> None:

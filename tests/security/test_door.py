@@ -5,6 +5,7 @@ from __future__ import annotations
 import http.server
 import json
 import os
+import re
 import socketserver
 import sqlite3
 import threading
@@ -37,11 +38,53 @@ def test_a_user_has_so_many_jobs_open_and_so_many_an_hour(door: Door) -> None:
         assert door.told("-X", "POST", f"/jobs/{number}/cancel")[0] == 200
     for _ in range(2):
         wait_until("they are seen to have ended", lambda: door.told(*JOB, "/jobs")[0] == 200)
-    assert door.told(*JOB, "/jobs") == limit("the limit of ann is 6 jobs an hour")
+    assert is_of_an_hour(door.told(*JOB, "/jobs"), "6 jobs")
     door.kill()
     door.start()
-    assert door.told(*JOB, "/jobs") == limit("the limit of ann is 6 jobs an hour"), "a kill loses nothing"
+    assert is_of_an_hour(door.told(*JOB, "/jobs"), "6 jobs"), "a kill loses nothing"
     assert door.told(*RESERVE, "/reservations")[0] == 200
+
+
+def is_of_an_hour(said: Tuple[int, Any], what: str) -> bool:
+    """Whether a limit of an hour is told with the time at which one more is let through, which is within an hour."""
+    found = re.fullmatch(rf"the limit of ann is {what} an hour; again at ([0-9]{{2}}):([0-9]{{2}}):([0-9]{{2}}) \S+", said[1]["text"])
+    assert said[0] == 429 and found, said
+    now, (hour, minute, second) = time.localtime(), map(int, found.groups())
+    waits = (hour * 3600 + minute * 60 + second) - (now.tm_hour * 3600 + now.tm_min * 60 + now.tm_sec)
+    return 3600 - 600 < waits % 86400 <= 3601
+
+
+def test_a_user_leaves_so_many_rows_and_kept_replies_an_hour_under_any_key(make_door: Callable[..., Door]) -> None:
+    """Reserving and canceling again and again, and keys of commands that are no jobs, would fill a farm for good."""
+    door = make_door(RULES.replace("[limits]", "[limits]\ncommands_an_hour = 6", 1))
+
+    def keyed(key: str, *words: str) -> Tuple[int, Any]:
+        return door.told("-H", f"x-key: {key}", *words)
+
+    assert door.told(*RESERVE, "/reservations")[0] == 200
+    assert keyed("a", "-X", "POST", "/reservations/1/cancel")[0] == 200
+    assert keyed("b", *RESERVE, "/reservations")[0] == 200
+    assert [keyed("b", *RESERVE, "/reservations") for _ in range(9)] == [(200, {"number": 2})] * 9, "a repetition counts once"
+    assert keyed("c", "-X", "POST", "/reservations/9/cancel")[0] == 404, "what is refused doesn't count"
+    assert door.told("-X", "POST", "/reservations/2/refresh")[0] == 200, "what leaves nothing doesn't either"
+    assert [keyed(it, "-X", "POST", "/reservations/2/refresh")[0] for it in "def"] == [200] * 3
+    for words in (("-H", "x-key: g", "-X", "POST", "/reservations/2/refresh"), (*RESERVE, "/reservations"), (*JOB, "/jobs")):
+        assert is_of_an_hour(door.told(*words), "6 commands")
+    assert door.told("-X", "POST", "/reservations/2/cancel")[0] == 200, "what is one's own may always be given back"
+    assert door.told(*RESERVE, "/reservations", user="bob")[0] == 200, "another user"
+
+
+def test_an_owner_has_a_hundred_tokens_at_most(door: Door) -> None:
+    from farm_door import counts
+
+    tokens = counts.Ledger(f"{door.folder}/kept.db")
+    for it in range(99):
+        tokens.make("ann", f"t{it}")
+    assert door.told("-d", '{"name":"hundredth"}', "/tokens")[0] == 200
+    assert door.told("-d", '{"name":"more"}', "/tokens") == (
+        403, {"code": 403, "text": "the limit is 100 tokens that haven't ended"})
+    assert door.told("-X", "POST", "/tokens/1/end")[0] == 200
+    assert door.told("-d", '{"name":"more"}', "/tokens")[0] == 200
 
 
 def test_the_members_of_a_team_share_its_limit(door: Door) -> None:
@@ -109,7 +152,7 @@ def test_a_token_stands_for_its_owner_until_it_is_ended(door: Door) -> None:
 def test_the_client_takes_a_token_for_a_password(door: Door) -> None:
     token = door.told("-d", '{"name":"ci"}', "/tokens")[1]["token"]
     file = write(door.folder, "token", f"{token}\n", 0o600)
-    assert door.site.desk("reserve", DESK_PASSWORD_FILE=file) == (0, "1\n", "")
+    assert door.site.desk("reserve", "--any", DESK_PASSWORD_FILE=file) == (0, "1\n", "")
     assert door.owners() == ["ann"]
 
 
@@ -126,10 +169,10 @@ def test_the_client_makes_shows_and_ends_tokens(door: Door) -> None:
     file = write(door.folder, "token", token, 0o600)
     said = door.site.desk("tokens", DESK_PASSWORD_FILE=file)
     assert said[0] == 3 and "a token makes, shows and ends none" in said[2]
-    assert door.site.desk("reserve", DESK_PASSWORD_FILE=file)[0] == 0
+    assert door.site.desk("reserve", "--any", DESK_PASSWORD_FILE=file)[0] == 0
     assert door.site.desk("end-token", "nightly") == (0, "", "")
     assert door.site.desk("end-token", "nightly") == (3, "", "desk: you have no token nightly\n")
-    assert door.site.desk("reserve", DESK_PASSWORD_FILE=file)[0] == 3
+    assert door.site.desk("reserve", "--any", DESK_PASSWORD_FILE=file)[0] == 3
     assert [it["name"] for it in json.loads(door.site.desk("tokens", "--json")[1])["tokens"]] == ["other"]
     status, output, errors = door.site.desk("add-token", "x", DESK_SERVER=door.farm.server, DESK_PASSWORD_FILE="", DESK_USER="ann")
     assert (status, output) == (3, "") and "tokens are a site's that has farm-door(8)" in errors, errors
@@ -175,25 +218,25 @@ def test_where_it_gives_no_answer_no_command_is_let_through_and_looks_go_on(door
 def test_where_the_desk_gives_it_no_answer_what_has_a_limit_isnt_let_through(
     door: Door, monkeypatch: pytest.MonkeyPatch
 ) -> None:
-    from farm_door import commands, counts, door as doors, kept, rules
+    from farm_door import counts, door as doors, rules
 
     monkeypatch.setattr(counts, "TOO_OLD", 0.0)
     monkeypatch.setattr(counts, "FIRST_LOOK", 0.0)
     known = counts.Counts(None)  # type: ignore[arg-type]
-    asked = doors.Door(rules.rules_in("/nowhere/door.toml"), kept.Kept(":memory:"), known, commands.Desk(door.farm.server))
+    asked = doors.Door(rules.rules_in("/nowhere/door.toml"), counts.Ledger(":memory:"), known, doors.DeskPort(door.farm.server))
 
     def gives(user: str, path: str, body: bytes) -> int:
-        return asked.command(commands.Command(user, "POST", path, (), body)).status
+        return asked.command(doors.UserCommand(user, "POST", path, (), body)).status
 
     job = b"job_name = 'x'\ndevice_type = 'bbb'"
-    with pytest.raises(commands.Refused, match="your limits can't be told") as refused:
+    with pytest.raises(counts.Denied, match="your limits can't be told") as refused:
         gives("ann", "/jobs", job)
     assert refused.value.status == 503
     assert gives("ann", "/jobs/1/cancel", b"") == 404 and gives("admin", "/jobs", job) == 200
 
 
 def test_another_proxy_may_say_who_asks(make_door: Callable[..., Door]) -> None:
-    """As one for OIDC or LDAP in front of the site, by its field (docs/USING.md, Limits of users)."""
+    """As one for OIDC or LDAP in front of the site, by its field (docs/setting-up.md, Limits of users)."""
     door = make_door(RULES, "$http_x_forwarded_user")
 
     def by(name: str, *words: str) -> Tuple[int, str, Any]:
@@ -211,7 +254,9 @@ def test_a_foreign_page_makes_no_token(door: Door) -> None:
     assert door.told("/tokens")[1] == {"tokens": []}
 
 
-@pytest.mark.parametrize("body", ["", "[]", "{}", '{"name":1}', '{"name":"a b"}', '{"name":"' + "x" * 49 + '"}', "[" * 5000])
+@pytest.mark.parametrize("body", [
+    "", "[]", "{}", '{"name":1}', '{"name":"a b"}', '{"name":"' + "x" * 49 + '"}', "[" * 5000, '{"name":"a"}' + " " * 5000,
+])
 def test_what_is_no_name_of_a_token_makes_none(door: Door, body: str) -> None:
     assert door.told("--data-binary", body, "/tokens")[0] in (400, 413)
     assert sqlite3.connect(f"{door.folder}/kept.db").execute("select count(*) from tokens").fetchone() == (0,)

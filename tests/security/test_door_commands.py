@@ -42,9 +42,9 @@ def reserve(door: Door, body: str, *words: str, user: str = "ann") -> Tuple[int,
 @pytest.fixture(scope="module")
 def says_all() -> Callable[[bytes, str], int]:
     """The priority that farm-door reads in a body."""
-    from farm_door import wishes
+    from farm_door import rules
 
-    return lambda body, kind: wishes.READERS[kind](body).priority
+    return lambda body, kind: rules.WISHES[kind](body).priority
 
 
 def test_a_user_has_a_highest_priority(make_door: Callable[..., Door]) -> None:
@@ -91,6 +91,15 @@ def test_no_writing_of_a_reservations_priority_hides_it(says_all: Callable[[byte
 ], ids=range(7))
 def test_what_cant_be_read_counts_as_the_highest(says_all: Callable[[bytes, str], int], body: bytes) -> None:
     assert says_all(body, "job") == says_all(body, "reservation") == 100
+
+
+@pytest.mark.parametrize("line", ["x = 23:59:60", "x = 0000-01-01", "x = 1979-05-27T00:00:60Z"])
+def test_what_the_desk_reads_and_the_door_doesnt_counts_as_four_boards(make_door: Callable[..., Door], line: str) -> None:
+    """The most that a job can want, or a job of four boards would count as one."""
+    door = make_door("[limits]\nopen_jobs = 3\n")
+    said = door.told("--data-binary", f"{JOB_OF}{line}\n", "/jobs")
+    assert said == (429, {"code": 429, "text": "the limit of ann is 3 open jobs"})
+    assert door.told("--data-binary", f"{JOB_OF}x = 23:59:59\n", "/jobs")[0] == 200
 
 
 def test_a_key_has_as_many_parts_as_the_desk_takes(make_door: Callable[..., Door]) -> None:

@@ -126,3 +126,28 @@ def test_an_address_that_guesses_is_shut_out_and_others_work_on(machine: Machine
     assert "192.0.2.2" in machine.run("fail2ban-client", "status", "farm-site").stdout
     machine.run("fail2ban-client", "set", "farm-site", "unbanip", "192.0.2.2")
     assert asks(2) == "200"
+
+
+# What a login's process that is named sshd says, and what the machine's sshd does.
+FORGE = """cp /usr/bin/logger /tmp/sshd
+(for it in 1 2 3 4 5 6 7 8; do echo "Failed password for root from 192.0.2.9 port 5000$it ssh2"; done; sleep 1) | /tmp/sshd -t sshd
+"""
+SSHD = """[Service]
+Type=oneshot
+SyslogIdentifier=sshd
+ExecStart=/bin/sh -c 'for it in 1 2 3 4 5 6 7 8; do echo "Failed password for root from 192.0.2.8 port 5000$it ssh2"; done; sleep 1'
+"""
+
+
+@pytest.mark.xdist_group("machine")
+@pytest.mark.slow(40)
+def test_a_login_that_calls_itself_sshd_shuts_nobody_out(machine: Machine) -> None:
+    wants("fail2ban-server", "logger")
+    machine.run("install", "-D", "-m", "644", "/tmp/source/examples/fail2ban.conf", "/etc/fail2ban/jail.d/farm.conf")
+    machine.run("sh", "-c", "mkdir -p /var/log/nginx && touch /var/log/nginx/farm-guesses.log && systemctl restart fail2ban")
+    machine.wait("fail2ban", "sh", "-c", "fail2ban-client status sshd 2> /dev/null")
+    machine.run("sh", "-c", FORGE, user="ann")
+    machine.write("/etc/systemd/system/ssh.service", SSHD)
+    machine.run("sh", "-c", "systemctl daemon-reload && systemctl start ssh.service")
+    told = machine.wait("its guesses", "sh", "-c", "fail2ban-client status sshd | grep 'Banned IP list:.*192'")
+    assert told.split()[-1] == "192.0.2.8" and "192.0.2.9" not in told

@@ -1,8 +1,9 @@
-"""What a hostile job can't do on a machine that is set up as docs/USING.md says: each job is a service with an account of
+"""What a hostile job can't do on a machine that is set up as docs/setting-up.md says: each job is a service with an account of
 its own, which neither reaches the desk's port nor the files and processes of the dispatcher and of other jobs."""
 from __future__ import annotations
 
 import json
+import os
 import re
 import time
 from typing import Iterator
@@ -10,7 +11,7 @@ from typing import Iterator
 import pytest
 
 from machine import Machine
-from machine_lab import PASSWORD, PLACE, MachineLab
+from machine_lab import MORE, PASSWORD, PLACE, MachineLab
 from wants import wants
 
 pytestmark = [pytest.mark.xdist_group("machine"), pytest.mark.slow(60)]
@@ -37,6 +38,7 @@ BITS = """cc -m32 -nostdlib -static -x c -o /usr/local/bin/bits - << 'END'
 void _start(void) { __asm__("mov $1, %eax; mov $42, %ebx; int $0x80"); }
 END
 :"""
+OWN = "/etc/systemd/system/farm-job-.service.d/lab.conf"  # what a lab adds
 # What jobs do at boards and on their machine: each of these tests fails where their unit shuts that out.
 WORK = """cat > test_work.py << 'END'
 import concurrent.futures, mmap, os, socket, subprocess, termios, tty
@@ -110,7 +112,7 @@ def lab(booted: MachineLab) -> Iterator[MachineLab]:
             booted.tell("admin", f"/boards/{view['name']}/health", {"health": "Good"})
 
 
-def test_each_job_has_a_number_of_its_own_and_the_serial_ports_groups(lab: MachineLab) -> None:
+def test_each_job_has_a_number_of_its_own_and_no_devices_group(lab: MachineLab) -> None:
     numbers = [lab.submit("id -u; id -Gn; sleep 2") for _ in range(2)]
     logs = []
     for number in numbers:
@@ -119,22 +121,26 @@ def test_each_job_has_a_number_of_its_own_and_the_serial_ports_groups(lab: Machi
     uids = [int(it.split()[0]) for it in logs]
     own = {int(lab.machine.run("id", "-u", it).stdout) for it in ("root", "farm", "farm-dispatch", "www-data")}
     assert len(set(uids)) == 2 and not set(uids) & own
-    assert all("dialout" in it and "plugdev" in it for it in logs)
+    assert not any(group in it for it in logs for group in ("dialout", "plugdev"))
 
 
 def test_a_job_does_what_jobs_do(lab: MachineLab) -> None:
-    """By pytest: a serial port, a board's port, threads, processes, compilers, programs of 32 bits as far as this machine
-    runs them, and code that is written and run, as QEMU's."""
+    """By pytest: a serial port whose group the lab gives to jobs, a board's port, threads, processes, compilers, programs
+    of 32 bits as far as this machine runs them, and code that is written and run, as QEMU's."""
     wants("cc")
     lab.machine.run("ip", "addr", "add", "192.0.2.7/32", "dev", "lo")
     lab.machine.write("/tmp/board.py", BOARD)
     lab.machine.run("systemd-run", "--unit=board", "python3", "/tmp/board.py")
     lab.machine.wait("the board", "sh", "-c", "ss -ltn | grep 192.0.2.7:23 && ls /dev/ttyBoard")
     lab.machine.run("sh", "-c", BITS)
+    lab.machine.write(OWN, "[Service]\nSupplementaryGroups=dialout\n")
+    lab.machine.run("systemctl", "daemon-reload")
     status = lab.machine.run("sh", "-c", "bits", user="nobody", check=False).returncode
     said = lab.ran(WORK.replace("STATUS", str(status)))
     assert re.search("^10 passed in ", said, re.MULTILINE), said
     lab.machine.run("systemctl", "stop", "board")
+    lab.machine.run("rm", OWN)
+    lab.machine.run("systemctl", "daemon-reload")
 
 
 def test_a_job_has_nothing_that_an_account_has_no_use_for(lab: MachineLab) -> None:
@@ -142,7 +148,8 @@ def test_a_job_has_nothing_that_an_account_has_no_use_for(lab: MachineLab) -> No
     assert lab.ran(SHUT).splitlines() == ["no namespace", *shut, "EAFNOSUPPORT", "-1"]
     with lab.jobs_with("gdb, strace", "LAVA", "CAN and Bluetooth"):
         assert lab.ran(SHUT).splitlines() == [*shut, "EAFNOSUPPORT", "0"]
-        families = lab.machine.run("systemctl", "show", "-P", "RestrictAddressFamilies", "farm-job@x").stdout.split()
+        lab.said(lab.submit("echo began; sleep 5"), "began")
+        families = lab.machine.run("systemctl", "show", "-P", "RestrictAddressFamilies", "farm-job-*.service").stdout.split()
         assert sorted(families) == ["AF_BLUETOOTH", "AF_CAN", "AF_INET", "AF_INET6", "AF_NETLINK", "AF_UNIX"]
 
 
@@ -161,13 +168,16 @@ def test_a_job_retires_no_board_and_reserves_as_nobody_at_the_desks_port(lab: Ma
 def test_a_job_changes_no_other_jobs_log_and_no_history(lab: MachineLab) -> None:
     other = lab.submit("echo mine")
     assert lab.finished(other) == "Complete"
-    lab.machine.wait("it is marked", "cat", f"{PLACE}/groups/{other}/finished")
-    files = [f"logs/{other}", "history.json", "history.jsonl", "passes.json", f"groups/{other}/finished", f"jobs/{other}/log"]
-    before = lab.machine.run("sh", "-c", f"cd {PLACE} && cat logs/{other} groups/{other}/finished").stdout
-    forge = "echo forged > {0}/{1} || echo refused\nrm -f {0}/{1}\n"
-    said = lab.ran("".join(forge.format(PLACE, it) for it in files) + "true")
+    running = lab.submit("echo mine; sleep 8")
+    lab.said(running, "mine")
+    files = [f"{PLACE}/{it}" for it in (f"logs/{other}", "history.json", "history.jsonl", "passes.json", f"open/{running}", "id")]
+    unit = os.path.basename(lab.folder(running).rstrip("/"))
+    files += [f"/var/lib/farm-worker/log/{unit}", f"/run/farm-jobs/marks/{unit}/ended", f"/run/farm-jobs/in/{unit}/env"]
+    before = lab.machine.run("cat", f"{PLACE}/logs/{other}").stdout
+    said = lab.ran("".join(f"(echo forged > {it}) 2> /dev/null || echo refused\nrm -f {it} 2> /dev/null\n" for it in files) + "true")
     assert said.count("refused\n") == len(files), said
-    assert lab.machine.run("sh", "-c", f"cd {PLACE} && cat logs/{other} groups/{other}/finished").stdout == before
+    assert lab.machine.run("cat", f"{PLACE}/logs/{other}").stdout == before
+    assert lab.finished(running) == "Complete"
     history = lab.machine.run("sh", "-c", f"cat {PLACE}/history.json {PLACE}/history.jsonl {PLACE}/passes.json").stdout
     assert "forged" not in history and f'"job":{other}' in history.replace(" ", "")
 
@@ -176,6 +186,13 @@ def test_a_job_forges_not_even_its_own_served_log(lab: MachineLab) -> None:
     number = lab.submit("echo first; echo forged > log; rm -f log; ln -s /etc/passwd log; echo last")
     assert lab.finished(number) == "Complete"
     assert re.sub("sh: .*\n", "", lab.log(number)) == "first\nlast\n"
+
+
+def test_a_job_takes_nothing_of_its_served_log_back(lab: MachineLab) -> None:
+    number = lab.submit("echo did; while [ ! -e go ]; do sleep 0.1; done; python3 -c 'import os; os.ftruncate(1, 0)'")
+    lab.said(number, "did")
+    lab.machine.run("touch", lab.folder(number, "go"))
+    assert lab.finished(number) == "Complete" and lab.log(number) == "did\n"
 
 
 def test_a_job_ends_neither_the_dispatcher_nor_another_job(lab: MachineLab) -> None:
@@ -190,36 +207,35 @@ def test_a_job_ends_neither_the_dispatcher_nor_another_job(lab: MachineLab) -> N
 
 def test_a_job_reads_no_password_no_farm_and_no_other_jobs_folder(lab: MachineLab) -> None:
     other = lab.submit("echo secret > kept; sleep 8")
-    lab.machine.wait("its file", "cat", f"{PLACE}/jobs/{other}/kept")
+    kept = lab.folder(other, "kept")
+    lab.machine.wait("its file", "cat", kept)
     pid = lab.machine.run("systemctl", "show", "-p", "MainPID", "--value", "farm-dispatch").stdout.strip()
-    files = [PASSWORD, "/var/lib/farm/lab.db", f"{PLACE}/jobs/{other}/kept", f"/proc/{pid}/environ", f"{PLACE}/groups/{other}/key"]
+    files = [PASSWORD, "/var/lib/farm/lab.db", kept, kept.replace("/private", ""), f"/proc/{pid}/environ",
+             f"{PLACE}/open/{other}", f"/run/farm-jobs/in/{kept.split('/')[-2]}/env"]
     said = lab.ran("".join(f"cat {it} 2> /dev/null || echo refused\n" for it in files))
     assert said == "refused\n" * len(files)
     assert lab.finished(other) == "Complete"
-    after = lab.ran(f"cat {PLACE}/jobs/{other}/kept 2> /dev/null || echo refused")
-    assert after == "refused\n", "and when it has ended"
+
+
+@pytest.mark.parametrize("by", ["a login", "a job"])
+def test_nobody_reads_a_jobs_text_or_log_on_its_machine(lab: MachineLab, by: str) -> None:
+    """Who knows the name of its unit, which the kernel tells everybody."""
+    other = lab.submit("echo secret; sleep 8")
+    lab.said(other, "secret")
+    tries = """for it in /sys/fs/cgroup/farm.slice/farm-job.slice/farm-job-*.service; do
+it=$(basename $it .service); echo $it; cat /run/farm-jobs/in/$it/job.toml /var/lib/farm-worker/log/$it 2> /dev/null; done; true"""
+    said = lab.machine.run("sh", "-c", tries, user="ann").stdout if by == "a login" else lab.ran(tries)
+    assert f"-{other}-" in said
+    assert "echo secret" not in said and "secret\n" not in said, said
+    assert lab.finished(other) == "Complete"
 
 
 def test_what_a_job_leaves_behind_is_dead_before_its_board_is_given_on(lab: MachineLab) -> None:
     number = lab.submit(f"{AWAY}\nwhile [ ! -e go ]; do sleep 0.2; done; echo left; exit 3")
     lab.machine.wait("it is away", "pgrep", "-f", GONE_AWAY)
-    lab.machine.run("touch", f"{PLACE}/jobs/{number}/go")
+    lab.machine.run("touch", lab.folder(number, "go"))
     assert lab.finished(number) == "Incomplete"
     assert lab.processes(GONE_AWAY) == [] and "left" in lab.log(number)
-
-
-@pytest.mark.parametrize("signal", ["KILL", "STOP"])
-def test_a_job_that_ends_or_stops_what_runs_it_ends(lab: MachineLab, signal: str) -> None:
-    """Stopped it answers systemd's watchdog no more."""
-    number = lab.submit(f"{AWAY}\nwhile [ ! -e go ]; do sleep 0.2; done; echo began; kill -{signal} $PPID; sleep 300")
-    lab.machine.wait("it is away", "pgrep", "-f", GONE_AWAY)
-    lab.machine.run("touch", f"{PLACE}/jobs/{number}/go")
-    lab.said(number, "began")
-    until = time.monotonic() + 90
-    while lab.processes(GONE_AWAY):
-        assert time.monotonic() < until
-        time.sleep(0.5)
-    assert lab.finished(number) in ("Infra", "Incomplete")
 
 
 def test_what_runs_a_job_cant_be_read_or_traced_by_it(lab: MachineLab) -> None:
@@ -228,16 +244,6 @@ def test_what_runs_a_job_cant_be_read_or_traced_by_it(lab: MachineLab) -> None:
 ls /proc/$PPID/fd > /dev/null 2>&1 || echo closed
 ABOVE=$PPID python3 -c "{trace}" """)
     assert said == "unread\nclosed\n-1\n"
-
-
-def test_a_jobs_files_are_the_dispatchers_when_it_has_ended(lab: MachineLab) -> None:
-    """Also those that it let nobody see; what its links name stays whose it is."""
-    number = lab.submit("mkdir -m 700 own; mkdir own/in; echo x > own/in/x; chmod 0 own/in own; ln -s /etc/passwd own.link")
-    assert lab.finished(number) == "Complete"
-    listed = lab.machine.run("find", f"{PLACE}/jobs/{number}", "-printf", "%u %P\n").stdout.splitlines()
-    assert {it.split()[0] for it in listed} == {"farm-dispatch"} and len(listed) >= 8
-    assert lab.machine.run("stat", "-c", "%U", "/etc/passwd").stdout == "root\n"
-    lab.machine.run("sh", "-c", f"cd / && chmod -R u+rwX {PLACE}/jobs/{number} && rm -r {PLACE}/jobs/{number}/own", user="farm-dispatch")
 
 
 def test_what_a_job_left_is_kept_within_what_it_may_read(lab: MachineLab) -> None:
@@ -249,38 +255,46 @@ ln -s /etc/shadow out/link; ln {PLACE}/history.jsonl out/hard; ln -s {PLACE}/id 
     index = json.loads(lab.machine.run("cat", f"{place}/index.json", user="www-data").stdout)
     assert [it["name"] for it in index["files"]] == ["log"]
     assert {it["name"]: it["why"] for it in index["left_out"]} == {
-        "closed": "Permission denied", "id": "a link", "link": "a link", "pipe": "no file", "shut": "Permission denied",
+        "closed": "it can't be read", "id": "a link", "link": "a link", "pipe": "no file", "shut": "it can't be read",
     }
     assert lab.machine.run("cat", f"{place}/1", user="www-data").stdout == "said\n"
     assert lab.machine.run("stat", "-c", "%U %a", f"{place}/1").stdout == "farm-dispatch 644\n"
-    listed = f"import os; print(os.listxattr('{place}/1'))"
-    assert lab.machine.run("/usr/bin/python3", "-c", listed).stdout == "[]\n", "no access list of the job's account"
     lab.machine.wait("its line", "grep", f'"job":{number},.*"artifacts"', f"{PLACE}/history.jsonl")
 
 
-def test_a_jobs_account_is_taken_back_where_the_machine_stopped(lab: MachineLab) -> None:
-    """The service's own end didn't come, and nothing of the job lives."""
-    number = lab.submit("mkdir -m 700 own; echo x > own/x")
-    assert lab.finished(number) == "Complete"
-    script = f"chown -R 61999 own; setfacl -m u:61999:rwx {PLACE}/jobs/{number}"
-    if lab.machine.run("which", "setfacl", check=False).returncode:
-        pytest.skip("there is no setfacl")
-    lab.machine.run("sh", "-c", f"cd {PLACE}/jobs/{number} && {script}")
-    lab.machine.run("systemctl", "restart", "farm-job.socket")
-    owners = lab.machine.run("find", f"{PLACE}/jobs/{number}", "-printf", "%u\n").stdout.split()
-    assert set(owners) == {"farm-dispatch"}
-    assert "61999" not in lab.machine.run("getfacl", "-n", f"{PLACE}/jobs/{number}").stdout
-
-
-def test_a_folder_that_grows_unseen_ends_its_job(lab: MachineLab) -> None:
+@pytest.mark.parametrize("grows", [
+    "mkdir -m 700 own; head -c 5000000 /dev/zero > own/x",
+    "for it in 1 2 3 4 5; do head -c 900000 /dev/zero > /tmp/$it; done",
+    "head -c 5000000 /dev/zero > /var/tmp/x",
+    "seq 1000 | xargs touch",
+    "mkdir -p out; seq 1000 | (cd out; xargs mkdir)",
+])
+def test_a_folder_that_grows_unseen_ends_its_job(lab: MachineLab, grows: str) -> None:
+    """By bytes or by files, as a disk is full without a free one, and in what is its own of /tmp."""
     lab.machine.write("/etc/farm/desk.ini", "[dispatch]\nfolder_limit = 1 MB\n")
     lab.machine.run("systemctl", "restart", "farm-dispatch")
     try:
-        number = lab.submit("mkdir -m 700 own; head -c 5000000 /dev/zero > own/x; sleep 600")
+        number = lab.submit(f"{grows}; sleep 600")
         assert lab.finished(number) == "Incomplete"
-        assert "the folder limit of 1 MB is over: SIGTERM" in lab.log(number)
+        assert "farm-dispatch: folder limit, signal" in lab.log(number)
     finally:
         lab.machine.run("rm", "/etc/farm/desk.ini")
+        lab.machine.run("systemctl", "restart", "farm-dispatch")
+
+
+def test_nobody_else_makes_a_jobs_folder_too_large(lab: MachineLab) -> None:
+    """A login that knows the name of its unit, in /tmp and /var/tmp, where systemd makes a folder of a job's."""
+    lab.machine.write("/etc/farm/desk.ini", "[dispatch]\nfolder_limit = 1 MB\n")
+    lab.machine.run("systemctl", "restart", "farm-dispatch")
+    fills = """for it in /sys/fs/cgroup/farm.slice/farm-job.slice/farm-job-*.service; do
+for place in /tmp /var/tmp; do own=$place/systemd-private-x-$(basename $it)-x; mkdir $own; head -c 5000000 /dev/zero > $own/x; done; done"""
+    try:
+        number = lab.submit("echo began; sleep 10")
+        lab.said(number, "began")
+        lab.machine.run("sh", "-c", fills, user="ann")
+        assert lab.finished(number) == "Complete", lab.log(number)
+    finally:
+        lab.machine.run("sh", "-c", "rm -r /tmp/systemd-private-x-* /var/tmp/systemd-private-x-* /etc/farm/desk.ini")
         lab.machine.run("systemctl", "restart", "farm-dispatch")
 
 
@@ -298,34 +312,31 @@ def test_a_job_goes_on_where_the_dispatcher_is_killed(lab: MachineLab) -> None:
     assert lab.finished(number) == "Complete" and lab.log(number) == "began\nwhole\n"
 
 
-def test_a_job_ends_where_its_runner_is_killed(lab: MachineLab) -> None:
+def test_a_job_that_an_admin_ends_by_its_unit_is_infra(lab: MachineLab) -> None:
     number = lab.submit(f"{AWAY}\necho began; sleep 300")
     lab.said(number, "began")
     lab.machine.wait("it is away", "pgrep", "-f", GONE_AWAY)
-    lab.machine.run("pkill", "-KILL", "-f", f"farm_dispatch.runner {PLACE}/groups/{number} ")
+    lab.machine.run("sh", "-c", f"systemctl kill -s KILL 'farm-job-*-{number}-*.service'")
     assert lab.finished(number) == "Infra"
     assert lab.processes(GONE_AWAY) == []
 
 
 def test_nobody_else_asks_for_a_job(lab: MachineLab) -> None:
-    connect = "import socket; socket.socket(socket.AF_UNIX).connect('/run/farm-job.socket')"
+    connect = "import socket; socket.socket(socket.AF_UNIX).connect('/run/farm-worker.socket')"
     for account in ("ann", "www-data", "farm", "farm-watch"):
         assert "PermissionError" in lab.machine.run("python3", "-c", connect, user=account, check=False).stderr, account
 
 
-def test_without_accounts_for_jobs_nothing_is_run(lab: MachineLab) -> None:
-    lab.machine.run("systemctl", "stop", "farm-dispatch")
-    unit = "/etc/systemd/system/farm-job@.service"
+def test_without_the_file_that_says_what_jobs_are_nothing_is_run(lab: MachineLab) -> None:
+    unit = f"{MORE}/farm.conf"
     lab.machine.run("mv", unit, f"{unit}.away")
     lab.machine.run("systemctl", "daemon-reload")
     try:
+        lab.machine.wait("it is told", "grep", "farm.conf: no such file", f"{PLACE}/workers.json")
         number = lab.submit("echo ran")
-        lab.machine.run("systemctl", "start", "farm-dispatch", check=False)
         time.sleep(3)
-        assert lab.look(f"/jobs/{number}")["state"] != "Finished"
-        assert "ran" not in lab.machine.run("sh", "-c", f"cat {PLACE}/logs/{number} || :").stdout.replace("wasn't", "")
+        assert lab.look(f"/jobs/{number}")["state"] == "Submitted"
     finally:
         lab.machine.run("mv", f"{unit}.away", unit)
         lab.machine.run("systemctl", "daemon-reload")
-        lab.machine.run("systemctl", "restart", "farm-dispatch")
-    assert lab.finished(number) == "Complete", "and it is run when they are there"
+    assert lab.finished(number) == "Complete", "and it is run when it is there"

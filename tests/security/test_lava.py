@@ -1,5 +1,5 @@
 """What drives boards does so under a job's account: labgrid, and LAVA's dispatcher, which works as root alone, with what
-docs/USING.md adds to the unit. The board is emulated, by translated code."""
+docs/setting-up.md adds to the unit. The board is emulated, by translated code."""
 from __future__ import annotations
 
 import os
@@ -36,10 +36,16 @@ def lab(machine: Machine) -> MachineLab:
 
 
 def put(machine: Machine, board: Board) -> None:
-    """Brings what the board boots there."""
-    with subprocess.Popen(["cat", board.initramfs], stdout=subprocess.PIPE) as read:
-        machine.run("sh", "-c", f"mkdir -p {IMAGES} && cat > {IMAGES}/initramfs.gz", stdin=read.stdout)
-    board.initramfs = f"{IMAGES}/initramfs.gz"
+    """Brings what the board boots to where a job's account reads it."""
+    board.kernel = put_file(machine, board.kernel, "vmlinuz")
+    board.initramfs = put_file(machine, board.initramfs, "initramfs.gz")
+
+
+def put_file(machine: Machine, file: str, name: str) -> str:
+    place = f"{IMAGES}/{name}"
+    with subprocess.Popen(["cat", file], stdout=subprocess.PIPE) as read:
+        machine.run("sh", "-c", f"mkdir -p {IMAGES} && cat > {place}", stdin=read.stdout)
+    return place
 
 
 def boots(lab: MachineLab, way: str, job: str) -> None:
@@ -49,7 +55,10 @@ def boots(lab: MachineLab, way: str, job: str) -> None:
     number = int(lab.tell("ann", "/jobs", text)["number"])
     assert lab.finished(number, 500) == "Complete", lab.log(number)
     assert "the board is up" in lab.log(number)
-    owners = lab.machine.run("find", f"{PLACE}/jobs/{number}", "-printf", "%u\n").stdout.split()
+    lab.machine.wait("it is settled", "sh", "-c", f"[ ! -e {PLACE}/open/{number} ] && echo settled")
+    places = ("/var/lib/private/farm-job", "/var/lib/farm-worker/log", "/run/farm-jobs/in")
+    assert lab.machine.run("find", *places, "-mindepth", "1").stdout == "", "nothing of its account's is left"
+    owners = lab.machine.run("find", PLACE, "-printf", "%u\n").stdout.split()
     assert set(owners) == {"farm-dispatch"}
 
 

@@ -36,10 +36,11 @@ def test_no_login_can_listen_in_the_desks_place(desk: Machine) -> None:
 
 
 def test_whom_a_file_of_the_lab_adds_is_let_in_too(desk: Machine) -> None:
-    """As the package of the way to boards adds its account; also when Debian's firewall flushed all."""
-    desk.run("sh", "-c", "getent passwd board || adduser --system --group --quiet --no-create-home board")
+    """Beside the table of the way to boards, which is loaded with it."""
+    desk.run("sh", "-c", "getent passwd board || adduser --system --group --quiet --no-create-home board; addgroup --system farm-hold")
     assert desk.asked("board", "admin", "/status") == CONNECTS_NOT
     desk.run("install", "-D", "-m", "644", "/tmp/source/examples/farm-port-access.nft", "/etc/farm/port.d/access.nft")
+    desk.write("/etc/farm/port.d/lab.nft", "add element inet farm may_connect { board }\n")
     desk.run("systemctl", "reload", "farm-port")
     desk.run("systemctl", "restart", "farm")
     desk.wait("the desk", *desk.curl("root", "/status"))

@@ -109,7 +109,8 @@ def test_each_answer_forbids_frames_and_foreign_scripts_and_says_no_version(kept
     del kept_files
     for path, user, status in (
         ("/", "ann", 200), ("/page/farm.js", "ann", 200), ("/queue", "ann", 200), ("/whoami", "ann", 200),
-        ("/logs/1", "ann", 200), ("/history.json", "ann", 200), ("/queue", "", 401), ("/no/such", "ann", 404),
+        ("/logs/1", "ann", 200), ("/history.json", "ann", 200),
+        ("/workers.json", "ann", 200), ("/queue", "", 401), ("/no/such", "ann", 404),
         ("/logs/2", "ann", 404),
     ):
         got, fields, _ = site.got(path, user=user)
@@ -126,7 +127,7 @@ def test_each_answer_forbids_frames_and_foreign_scripts_and_says_no_version(kept
 def kept_files(site: Site) -> None:
     """A log and a history, as the dispatcher keeps them."""
     os.makedirs(f"{site.folder}/dispatch/logs")
-    for name in ("logs/1", "history.json"):
+    for name in ("logs/1", "history.json", "workers.json"):
         with open(f"{site.folder}/dispatch/{name}", "w", encoding="utf-8") as file:
             file.write("{}")
 
@@ -201,6 +202,19 @@ def test_a_lab_that_shuts_its_logs_serves_none(farm: Farm, make_site: Callable[.
 def origin(site: Site, text: str) -> List[str]:
     text = text.replace("PORT", str(site.port))
     return [word for it in text.split("|") for word in ("-H", it)]
+
+
+def test_what_is_refused_by_the_site_alone_fills_no_log(site: Site) -> None:
+    """Who has no password has a short line where it is a guess, and none else."""
+    long = "x" * 4000
+    refused = (
+        ("-X", "POST", "-H", "origin: https://else.example", f"/reservations?{long}"), ("-H", f"referer: {long}", "/boards"),
+        ("-u", f"ann:{long}", "/boards"), ("-X", "BREW", f"/{long}"),
+    )
+    sizes = [len(site.logged(name)) for name in ("asked.log", "audit.log", "guesses.log")]
+    assert [site.got(words[-1], *words[:-1], user="")[0] for words in refused] == [403, 401, 401, 401]
+    grown = [len(site.logged(name)) - it for name, it in zip(("asked.log", "audit.log", "guesses.log"), sizes)]
+    assert (grown[0] < 200 and grown[1] == 0 and 0 < grown[2] < 100), "of `settle` there are the lines of those who are let in"
 
 
 def test_a_foreign_name_that_leads_to_the_site_is_a_foreign_origin(farm: Farm, site: Site) -> None:

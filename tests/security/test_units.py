@@ -1,9 +1,9 @@
 """The units: how much systemd-analyze(1) finds open in each, and that each does its work so, under a systemd."""
 from __future__ import annotations
 
-import concurrent.futures
 import glob
 import os
+import pathlib
 import re
 import subprocess
 
@@ -21,8 +21,8 @@ server = "http://127.0.0.1:880"
 user = "admin"
 [webhook]
 url = "http://127.0.0.1:8901/"
-[board]
-bad = true
+[job]
+ended = true
 """
 # Answers a post, and keeps its body.
 HOOK = """import http.server
@@ -46,6 +46,14 @@ def test_a_unit_is_open_by_no_more_than(unit: str) -> None:
     assert float(found.group(1)) <= MOST, said
 
 
+def test_a_job_is_open_by_no_more_than(tmp_path: pathlib.Path) -> None:
+    """What farm-job-.service.d makes of each unit of a job."""
+    wants("systemd-analyze")
+    with open(os.path.join(TOP, "examples", "farm-job-.service.d", "farm.conf"), encoding="utf-8") as text:
+        (tmp_path / "farm-job-x.service").write_text(f"{text.read()}ExecStart=/bin/true\n")
+    test_a_unit_is_open_by_no_more_than(str(tmp_path / "farm-job-x.service"))
+
+
 @pytest.fixture(scope="module")
 def lab(machine: Machine) -> MachineLab:
     """A lab whose dispatcher has a history."""
@@ -61,6 +69,25 @@ def test_the_desk_the_dispatcher_and_a_job_work(lab: MachineLab) -> None:
     lab.machine.run("systemctl", "restart", "farm", "farm-dispatch")
     lab.machine.wait("the desk", *lab.machine.curl("root", "/status"))
     assert lab.ran("echo again") == "again\n"
+
+
+@pytest.mark.xdist_group("machine")
+@pytest.mark.parametrize(
+    "user, may", [("nobody", False), ("ann", False), ("farm-watch", False), ("www-data", True), ("farm-metrics", True)]
+)
+def test_who_reads_a_job_s_log_beside_the_site_s_password(lab: MachineLab, user: str, may: bool) -> None:
+    wants("setfacl")
+    lab.machine.run("systemctl", "restart", "farm-dispatch")
+    assert (lab.machine.run("cat", "/var/lib/farm-dispatch/logs/1", user=user, check=False).returncode == 0) == may
+
+
+@pytest.mark.xdist_group("machine")
+def test_a_job_leaves_room_for_the_desk(lab: MachineLab) -> None:
+    """However many processes it begins, and however much they take."""
+    unit = os.path.basename(lab.folder(lab.submit("sleep 5")).rstrip("/"))
+    processes, memory = (lab.machine.run("systemctl", "show", "-P", it, unit).stdout.strip() for it in ("TasksMax", "MemoryMax"))
+    assert processes.isdigit() and memory.isdigit(), "no number is no limit"
+    assert int(processes) <= 2000 and int(memory) < os.sysconf("SC_PAGE_SIZE") * os.sysconf("SC_PHYS_PAGES")
 
 
 @pytest.mark.xdist_group("machine")
@@ -120,93 +147,7 @@ def test_the_watcher_tells_by_a_webhook(lab: MachineLab) -> None:
     lab.machine.run("systemd-run", "--unit=hook", "python3", "/tmp/hook.py")
     lab.machine.run("systemctl", "start", "farm-watch")
     lab.machine.wait("it looks", "sh", "-c", "journalctl -q -o cat -u farm-watch | grep '^sees 3 boards'")
-    lab.tell("admin", "/boards/b3/health", {"health": "Bad"})
-    assert "b3" in lab.machine.wait("the post", "cat", "/tmp/hook")
+    number = lab.submit("true")
+    assert f"job {number} " in lab.machine.wait("the post", "cat", "/tmp/hook")
     assert lab.machine.status("farm-watch") == "active"
-    lab.tell("admin", "/boards/b3/health", {"health": "Good"})
     lab.machine.run("systemctl", "stop", "farm-watch", "hook")
-
-
-# As the package fizgruk-access does it; the desk's port lets `board` in.
-WAYS = """set -e
-getent passwd board > /dev/null || \\
-    adduser --system --group --quiet --no-create-home --home /var/lib/farm-access --shell /bin/sh board
-install -d -o board -g board -m 0711 /var/lib/farm-access
-install -d -o board -g board -m 0750 /var/lib/farm-access/consoles
-install -d -o board -g board -m 0755 /var/lib/farm-access/shown
-install -d -m 0755 /etc/farm/keys
-key=/var/lib/farm-access/ssh_host_ed25519_key
-[ -e $key ] || runuser -u board -- ssh-keygen -q -t ed25519 -N '' -C '' -f $key
-sed 's,/usr/bin/farm-access,/usr/local/bin/farm-access,' /tmp/source/examples/farm-access-sshd.conf \\
-    > /etc/farm/farm-access-sshd.conf
-install -D -m 644 /tmp/source/examples/farm-port-access.nft /etc/farm/port.d/access.nft
-systemctl reload farm-port
-for name in ann bob; do
-    ssh-keygen -q -t ed25519 -N '' -C '' -f /root/$name
-    install -m 644 /root/$name.pub /etc/farm/keys/$name
-done
-systemctl start farm-access-sshd farm-access-guard
-"""
-# A console that says what it hears, a line that says what it may do, and power that is noted.
-ACCESS = """[[ways]]
-boards = "*"
-console = { unix = "/run/echo" }
-power = { on = ["/bin/sh", "-c", "echo {board} >> /var/lib/farm-access/on"] }
-say = ["/bin/echo"]
-sleep = ["/bin/sh", "-c", "sleep 600 & sleep 600"]
-may = ["/bin/sh", "-c", "grep -E 'NoNewPrivs|CapBnd|Seccomp:' /proc/self/status; unshare -U true || echo no namespace; touch /etc/x"]
-"""
-ECHO = """import os, socket, threading
-def answer(line):
-    while (said := line.recv(4096)):
-        line.sendall(said)
-server = socket.socket(socket.AF_UNIX)
-server.bind("/run/echo")
-os.chmod("/run/echo", 0o666)
-server.listen()
-while True:
-    threading.Thread(target=answer, args=(server.accept()[0],), daemon=True).start()
-"""
-
-
-@pytest.mark.xdist_group("machine")
-@pytest.mark.slow(25)
-def test_sessions_at_boards_work(lab: MachineLab) -> None:
-    """By ssh, with a console, power and a lab's own ways, until the hold ends; and no more than that."""
-    wants("ssh", "sshd", "ssh-keygen")
-    machine = lab.machine
-    machine.write("/etc/farm/access.toml", ACCESS)
-    machine.write("/tmp/echo.py", ECHO)
-    machine.run("sh", "-c", WAYS)
-    machine.run("systemd-run", "--unit=echo", "python3", "/tmp/echo.py")
-    number = lab.tell("ann", "/reservations", {"tags": ["name=b2"]})["number"]
-    machine.wait("b2", "sh", "-c", f"curl -sS http://127.0.0.1:880/boards | grep -o '\"holder\":\"reservation {number}\"'")
-    lab.tell("ann", f"/reservations/{number}/acquire")
-
-    def goes(person: str, *words: str, said: str = "") -> "subprocess.CompletedProcess[str]":
-        ssh = ["ssh", "-F", "none", "-p", "2222", "-i", f"/root/{person}", "-o", "BatchMode=yes", "-o", "LogLevel=ERROR"]
-        line = " ".join([*ssh, "-o", "StrictHostKeyChecking=no", "board@127.0.0.1", *words])
-        for _ in range(5):
-            ran = machine.run("sh", "-c", f"printf '{said}' | timeout 100 {line}", check=False)
-            if ran.returncode != 4:  # (the desk gives no answer within a second, as beside a load)
-                break
-        return ran
-
-    machine.wait("sshd", "sh", "-c", "ss -ltn | grep :2222")
-    hello = goes("ann", "b2", "say", "hello")
-    assert (hello.returncode, hello.stdout) == (0, "hello\n"), (hello, machine.journal("farm-access-sshd"))
-    assert goes("bob", "b2", "say", "hello").returncode == 5, "not the holder"
-    assert goes("ann", "b2", "power", "on").returncode == 0
-    assert machine.run("cat", "/var/lib/farm-access/on").stdout == "b2\n"
-    assert "heard" in goes("ann", "b2", "console", said="heard\\n").stdout
-    may = goes("ann", "b2", "may")
-    assert "CapBnd:\t0000000000000000\n" in may.stdout and "NoNewPrivs:\t1\n" in may.stdout and "Seccomp:\t2\n" in may.stdout
-    assert "no namespace\n" in may.stdout and "Read-only file system" in may.stderr
-    with concurrent.futures.ThreadPoolExecutor() as pool:
-        session = pool.submit(goes, "ann", "b2", "sleep")
-        machine.wait("both of its processes", "sh", "-c", "[ $(pgrep -fxc 'sleep 600') = 2 ] && echo yes")
-        lab.tell("ann", f"/reservations/{number}/cancel")
-        assert session.result().returncode in (6, 255), "the hold ended; a session that is late the guard ends"
-    assert machine.run("pgrep", "-fx", "sleep 600", check=False).stdout == ""
-    assert machine.status("farm-access-guard") == "active"
-    machine.run("systemctl", "stop", "farm-access-sshd", "farm-access-guard", "echo")

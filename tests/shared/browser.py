@@ -14,7 +14,7 @@ from typing import Any, Iterable, Iterator, List, Optional, Set
 
 import pytest
 
-from served import LASTING, wait_until
+from served import LASTING, ends_with_us, wait_until
 
 CHROMIUM = next(
     filter(None, map(shutil.which, ("chromium", "chromium-browser", "google-chrome"))), None
@@ -43,7 +43,10 @@ class Browser:
         to_read, self.commands = high_pipe()
         self.answers, to_write = high_pipe()
 
+        tied = ends_with_us() or (lambda: None)
+
         def hand_over() -> None:
+            tied()
             os.dup2(to_read, 3)
             os.dup2(to_write, 4)
 

@@ -8,7 +8,7 @@ import tempfile
 from typing import Any, Callable, Dict, List, Sequence, Tuple
 
 from nginx_site import Site, write
-from served import STARTED, TOOLS, TOP, Farm, environment, read
+from served import STARTED, TOOLS, TOP, Farm, ends_with_us, environment, read
 
 WORDS = {
     "ann": "open sesame", "bob": "b", "ann.admin": "a", "dispatcher": "pass on", "dispatcher-2": "c", "dispatcher-3": "d",
@@ -56,7 +56,7 @@ class Door:
         with open(f"{self.folder}/door.log", "ab") as log:
             self.process = subprocess.Popen(
                 [sys.executable, os.path.join(TOOLS, "farm-door"), *words, "--server", self.farm.server, "--group", "root"],
-                stdout=subprocess.PIPE, stderr=log, env=environment(),
+                stdout=subprocess.PIPE, stderr=log, env=environment(), preexec_fn=ends_with_us(),
             )
         STARTED.append(self.process)
         assert self.process.stdout is not None and self.process.stdout.readline()

@@ -19,6 +19,7 @@ class Ending:
         self.failed: Set[str] = set()
         self.skipped: Dict[str, str] = {}
         self.rows: List[str] = []
+        self.is_interrupted = False
 
     def pytest_collectreport(self, report: pytest.CollectReport) -> None:
         if report.failed:
@@ -38,11 +39,19 @@ class Ending:
         if report.when == "teardown":
             self.rows += [str(text) for kind, text in report.user_properties if kind == ROW]
 
+    def pytest_sessionfinish(self, exitstatus: int) -> None:
+        self.is_interrupted = exitstatus == pytest.ExitCode.INTERRUPTED
+
     def lines(self) -> List[str]:
-        left = [f"{name.partition('::')[2] or name} ({why})" for name, why in sorted(self.skipped.items())]
-        left += sorted(self.rows)
-        told = [f"not tried: {', '.join(left)}"] if left else []
-        return [*told, f"{len(self.passed)} passed, {len(self.failed)} failed, {len(left)} skipped"]
+        """What was left out, a line a reason, and the counts. An interrupted run has no line that counts as a run's."""
+        reasons: Dict[str, List[str]] = {}
+        for name, why in sorted(self.skipped.items()):
+            reasons.setdefault(why, []).append(name.partition("::")[2] or name)
+        told = [f"not tried: {names[0] if len(names) == 1 else f'{len(names)} tests'} ({why})" for why, names in sorted(reasons.items())]
+        told += [f"not tried: {it}" for it in sorted(self.rows)]
+        skipped = len(self.skipped) + len(self.rows)
+        counts = f"{len(self.passed)} passed, {len(self.failed)} failed, {skipped} skipped"
+        return [*told, f"interrupted, with {counts} until then" if self.is_interrupted else counts]
 
     def pytest_unconfigure(self) -> None:
         if not self.is_worker and (self.passed or self.failed or self.skipped):

@@ -1,5 +1,5 @@
 """A machine with a systemd of its own: this one's files, over which it writes in memory alone, in new namespaces of
-everything, with the desk set up as docs/USING.md says from the source. It wants root, systemd, nft and overlays."""
+everything, with the desk set up as docs/setting-up.md says from the source. It wants root, systemd, nft and overlays."""
 from __future__ import annotations
 
 import atexit
@@ -14,7 +14,7 @@ from typing import IO, Iterator, List, Optional, Sequence
 import pytest
 
 import counting
-from served import PATIENCE, STARTED, TOP
+from served import PATIENCE, STARTED, TOP, ends_with_us
 from wants import lacks, wants
 
 ACCOUNTS = ("farm", "farm-dispatch", "farm-door", "farm-metrics", "farm-watch")
@@ -28,7 +28,7 @@ mount -t cgroup2 cgroup2 "$1/groups"
 mkdir "$1/groups/$2"
 echo $$ > "$1/groups/$2/cgroup.procs"
 mount -t overlay overlay -o "lowerdir=/,upperdir=$1/up,workdir=$1/work" "$1/root"
-exec unshare --mount --pid --fork --uts --ipc --net --cgroup --propagation private sh -c "$3" sh "$1/root" "$4" "$5"
+exec unshare --mount --pid --fork --kill-child --uts --ipc --net --cgroup --propagation private sh -c "$3" sh "$1/root" "$4" "$5"
 """
 INSIDE = """\
 set -e
@@ -54,16 +54,17 @@ pivot_root . mnt
 umount -l /mnt
 exec env -i container=lxc PATH=/usr/sbin:/usr/bin:/sbin:/bin /lib/systemd/systemd --system --unit=basic.target
 """
-# As docs/USING.md has it (As services, from the source), over files that stand in /tmp/source.
+# As docs/setting-up.md has it (As services, from the source), over files that stand in /tmp/source.
 SET_UP = """\
 set -e
 cd /tmp/source
 install farm /usr/local/bin
-install -Dt /usr/local/lib/farm-tools tools/desk tools/farm-* $(ls tools/job-in-account 2> /dev/null)
+install -Dt /usr/local/lib/farm-tools tools/desk tools/farm-*
 cp -rt /usr/local/lib/farm-tools tools/farm_* python/src/fizgruk tools/page
 install -m 644 -t /usr/local/lib/farm-tools examples/farm-port.nft
 install -Dt /etc/farm examples/run-job examples/check-board
-install -m 644 -t /etc/systemd/system examples/*.service examples/*.timer $(ls examples/*.socket 2> /dev/null)
+install -m 644 -t /etc/systemd/system examples/*.service examples/*.timer examples/*.socket
+cp -rt /etc/systemd/system examples/farm-job-.service.d
 for user in ACCOUNTS ann; do
     getent passwd $user > /dev/null || adduser --system --group --quiet --no-create-home --home /var/lib/$user $user
 done
@@ -81,13 +82,17 @@ class Machine:
         wants("systemctl", "nft", "unshare", "nsenter", "pivot_root", "adduser", "curl", "ip")
         if os.getuid() != 0:
             lacks("no right to boot a systemd in namespaces")
+        if not os.path.ismount("/"):
+            lacks("/ is no mount point, as in a chroot (`mount --bind DIR DIR` before `chroot DIR` makes it one)")
         self.room = os.path.join(folder, "machine")
         self.group = f"farm-test-{os.getpid()}-{time.monotonic_ns()}"
         os.mkdir(self.room)
         self.log = open(os.path.join(folder, "machine.log"), "wb")  # pylint: disable=consider-using-with
         words = ["unshare", "--mount", "--propagation", "private", "sh", "-c", OUTSIDE, "sh"]
         words += [self.room, self.group, INSIDE, counting.FOLDER, counting.THERE]
-        self.process = subprocess.Popen(words, stdin=subprocess.DEVNULL, stdout=self.log, stderr=self.log)
+        self.process = subprocess.Popen(
+            words, stdin=subprocess.DEVNULL, stdout=self.log, stderr=self.log, preexec_fn=ends_with_us()
+        )
         STARTED.append(self.process)
         atexit.register(self.end)
         try:

@@ -20,7 +20,7 @@ with open(os.environ["FARM_JOB_FILE"], "rb") as text:
     os.execv("/bin/sh", ["sh", "-c", tomllib.load(text).get("run", "true")])
 """
 PASSWORD = "/etc/farm/dispatch.password"
-MORE = "/etc/systemd/system/farm-job@.service.d"
+MORE = "/etc/systemd/system/farm-job-.service.d"
 
 
 class MachineLab:
@@ -59,6 +59,11 @@ class MachineLab:
             time.sleep(pause)
             pause = min(pause * 1.2, 0.5)
 
+    def folder(self, number: int, name: str = "") -> str:
+        """A file in a job's own folder, while it is there."""
+        found = self.machine.wait("its folder", "sh", "-c", f"ls -d /var/lib/private/farm-job/farm-job-*-{number}-*")
+        return os.path.join(found.strip(), name)
+
     def log(self, number: int) -> str:
         return self.machine.run("cat", f"{PLACE}/logs/{number}").stdout
 
@@ -76,19 +81,19 @@ class MachineLab:
 
     @contextlib.contextmanager
     def jobs_with(self, *needs: str) -> Iterator[None]:
-        """Gives jobs what docs/USING.md adds to their unit for these needs."""
+        """Gives jobs what docs/setting-up.md adds to their unit for these needs."""
         self.machine.write(f"{MORE}/test.conf", "".join(["[Service]\n", *map(lines_for, needs)]))
         self.machine.run("systemctl", "daemon-reload")
         try:
             yield
         finally:
-            self.machine.run("rm", "-r", MORE)
+            self.machine.run("rm", f"{MORE}/test.conf")
             self.machine.run("systemctl", "daemon-reload")
 
 
 def lines_for(need: str) -> str:
-    """The lines below a comment in docs/USING.md that names a need of jobs."""
-    with open(os.path.join(TOP, "docs/USING.md"), encoding="utf-8") as text:
+    """The lines below a comment in docs/setting-up.md that names a need of jobs."""
+    with open(os.path.join(TOP, "docs/setting-up.md"), encoding="utf-8") as text:
         found = re.findall(rf"^    # [^\n]*{need}[^\n]*\n((?:    \w+=[^\n]*\n)+)", text.read(), re.MULTILINE)
     assert len(found) == 1, found
     return re.sub("^    ", "", str(found[0]), flags=re.MULTILINE)

@@ -16,12 +16,12 @@ import pytest
 
 from desks import at_ease
 from ports import free_port
-from served import STARTED, TOOLS, TOP, Farm, environment, read, wait_until
+from served import STARTED, TOOLS, TOP, Farm, ends_with_us, environment, read, wait_until
 from wants import wants
 
 NEEDED = ("nginx", "openssl", "curl")
 NGINX = shutil.which("nginx") or shutil.which("nginx", path="/usr/sbin:/sbin")
-WORDS = {"ann": "open sesame", "dispatcher": "pass on"}
+WORDS = {"admin": "over all", "ann": "open sesame", "dispatcher": "pass on"}
 AROUND = """\
 user root;
 worker_processes 1;
@@ -64,7 +64,9 @@ class Site:
         write(folder, "farm.htpasswd", "".join(lines), 0o644)
         write(folder, "nginx.conf", AROUND.format(folder=folder, site=self.text(farm, changes)), 0o644)
         words = [str(NGINX), "-p", folder, "-c", f"{folder}/nginx.conf", "-g", "daemon off; master_process off;"]
-        self.process = subprocess.Popen(words, stdout=subprocess.DEVNULL, stderr=subprocess.DEVNULL)
+        self.process = subprocess.Popen(
+            words, stdout=subprocess.DEVNULL, stderr=subprocess.DEVNULL, preexec_fn=ends_with_us()
+        )
         STARTED.append(self.process)
         wait_until("nginx listens", lambda: self.curl("-o", "/dev/null", "/") != 7)
 

@@ -2,12 +2,14 @@
 from __future__ import annotations
 
 import atexit
+import ctypes
 import http.client
 import json
 import os
 import signal
 import subprocess
 import sys
+import threading
 import time
 from typing import Any, Callable, Dict, List, Optional, Sequence, Tuple
 
@@ -38,6 +40,16 @@ for more, words in calls:
 print(json.dumps(given))
 """
 Board = Tuple[str, str, Sequence[str]]
+LIBC = ctypes.CDLL(None)
+PR_SET_PDEATHSIG = 1
+
+
+def ends_with_us() -> Optional[Callable[[], object]]:
+    """What Popen calls in a child so that it ends with this process, also where that is killed. The kernel goes by the
+    thread that started the child, so only what the main thread starts is tied so."""
+    if threading.current_thread() is not threading.main_thread():
+        return None
+    return lambda: LIBC.prctl(PR_SET_PDEATHSIG, signal.SIGKILL)
 
 
 def end_all(processes: Optional[List["subprocess.Popen[Any]"]] = None) -> None:
@@ -145,7 +157,9 @@ class Farm(Asks):
             words = [
                 self.program, "serve", "--db", self.db, "--port", str(self.port), "--max", "100000000"
             ]
-            self.process = subprocess.Popen(words, stdout=subprocess.PIPE, stderr=subprocess.PIPE)
+            self.process = subprocess.Popen(
+                words, stdout=subprocess.PIPE, stderr=subprocess.PIPE, preexec_fn=ends_with_us()
+            )
             STARTED.append(self.process)
             assert self.process.stdout is not None
             if self.process.stdout.readline():
@@ -193,6 +207,7 @@ class Tool:
                 stdout=output,
                 stderr=errors,
                 env=environment(**more),
+                preexec_fn=ends_with_us(),
             )
         STARTED.append(self.process)
 

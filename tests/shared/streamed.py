@@ -2,7 +2,6 @@
 from __future__ import annotations
 
 import contextlib
-import datetime
 import http.client
 import random
 import shutil
@@ -13,7 +12,7 @@ import time
 from typing import Any, Dict, List, Set, Tuple
 
 from forks import ReadOnce
-from served import Farm, read, wait_until
+from served import Farm, wait_until
 
 FIRST = 3  # commands that make the farm: a type, a board, its health
 
@@ -145,14 +144,19 @@ def salts_of(log: str) -> bytes:
     return header[16:24] if header[:1] == b"\x37" else b""
 
 
-def still_farm(farm: Farm) -> int:
-    """Sends a farm thirty commands, so few that all stand in its log, and ends its serving. Returns how many
-    it has."""
+def quiet_farm(farm: Farm) -> int:
+    """Sends a farm thirty commands, so few that all stand in its log, and no more. Returns how many it has."""
     stream = Stream(farm, 30)
     wait_until("thirty commands", lambda: len(stream.answered) == 30)
     stream.end()
-    farm.kill()
     return len(stream.answered)
+
+
+def still_farm(farm: Farm) -> int:
+    """The same, and ends its serving."""
+    commands = quiet_farm(farm)
+    farm.kill()
+    return commands
 
 
 # ---- farm-backup
@@ -176,9 +180,3 @@ def backup(farm: Farm, *words: str) -> Tuple[int, str, str]:
     """What farm-backup comes to: its status, output and errors."""
     ran = farm_backup().run(*words_of(farm, *words)[1:])
     return ran.returncode, ran.stdout, ran.stderr
-
-
-def moment_of(to: str) -> float:
-    """The moment that a standby names: it has all that was answered before. 0 where there is none."""
-    text = read(f"{to}/as-of").strip()
-    return datetime.datetime.strptime(text, "%Y-%m-%dT%H:%M:%S.%f%z").timestamp() if text else 0.0

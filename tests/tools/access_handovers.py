@@ -1,26 +1,24 @@
-"""Handovers of two boards between two people and a job, under kills of everything:
+"""Handovers of three boards between two people and jobs, under kills of everything:
 
-    access_handovers.py [--farm PROGRAM] [--seed N] [--within SECONDS] [--cgroup FOLDER] [--kills WORDS]
-                        [--tcp] [--without lock] COUNT
+    access_handovers.py [--farm PROGRAM] [--seed N] [--within SECONDS] [--kills WORDS] [--without take] [--reach N] COUNT
 
-Each party writes marked bytes without pause, in letters of its own with the hold's number in them. b1 is behind
-ser2net, as slow as a serial line, and its sessions are consoles; b2's sessions are commands that go away from
-farm-access and write to the device. Meanwhile a session is killed or stopped, sshd's child, the client, the guard or
-the desk is, or the board is released and acquired again. It prints a line a board and a last one, and the status is 0
-where no byte of two parties is mixed, none comes later than --within after its hold's end, and no board stays locked.
-WORDS are what is killed or stopped, with commas between. With --tcp ser2net listens on a port.
-With --without farm-access lacks the lock, with what is cleaned up under it and by the guard, and the status has to be
-1. FOLDER is a cgroup
-(version 2) that the lab's account may write; without it sessions are namespaces.
+Each party writes marked bytes without pause, in letters of its own with the hold's number in them. b1 is behind ser2net, as
+slow as a serial line, and its sessions are consoles; those of b2 and b3 are commands that go away from their session and
+write to the device. Meanwhile one of what takes part is killed or stopped: the door's main process, its children, the
+guard, the opener, the unit, systemd-run, sshd's child, the client, ssh, the desk, or all at once; or the board is released
+and acquired again. It prints a line a board and a last one, and the status is 0 where no byte of two parties is mixed, none
+comes later than --within after its hold's end (of those whose guard was stopped it is said), and nothing is left.
+With --without take nobody cleans up behind others and the guard is stopped, and the status has to be 1.
+--reach has so many jobs reach for boards of others meanwhile.
 """
 from __future__ import annotations
 
 import argparse
 import json
 import os
+import pathlib
 import random
 import re
-import signal
 import subprocess
 import sys
 import tempfile
@@ -31,17 +29,19 @@ from typing import Any, Dict, List, Sequence, Tuple
 HERE = os.path.dirname(os.path.abspath(__file__))
 sys.path[:0] = [HERE, os.path.join(HERE, "../shared"), os.path.join(HERE, "../../tools")]
 import access_lab  # noqa: E402
-from access_lab import PYTHON, Lab, kill  # noqa: E402
-from farm_access import sessions as files  # noqa: E402
-from farm_dispatch import cages  # noqa: E402
-from served import STARTED, Farm  # noqa: E402
+from access_lab import Lab, kill  # noqa: E402
+from machine import Machine  # noqa: E402
+from served import STARTED  # noqa: E402
 
-LETTERS = {"ann": ("k", "abcdefghij"), "bob": ("K", "ABCDEFGHIJ"), "job": ("#", "0123456789")}
-KILLS = ("none", "access", "access", "tree", "sshd", "stop", "stop client", "desk", "guard", "flap")
-WITHOUT = {
-    "": "",
-    "lock": "from farm_access import boardlock; boardlock.BoardLock.take = lambda *_: True",
-}
+LETTERS = {"ann": ("k", "abcdefghij"), "bob": ("K", "ABCDEFGHIJ"), "job": ("Z", "0123456789")}
+KILLS = (
+    "none", "KILL unit", "STOP unit", "KILL systemd-run", "KILL door", "KILL doors", "STOP doors", "KILL guard", "STOP guard",
+    "KILL opener", "KILL sshd", "KILL client", "STOP client", "KILL ssh", "STOP ssh", "desk", "flap", "all",
+)
+# Without the look behind others, and what is done between.
+WITHOUT = "import farm_access.holds as it\nit.clean = lambda *_: None\n"
+AT_ONCE = 6  # jobs that reach for others' boards
+TEXT = "job_name = 'j'\ndevice_type = 'bbb'\ntags = ['name={}']\n"
 
 
 def mark_of(party: str, hold: int) -> str:
@@ -54,8 +54,7 @@ def meant(text: bytes) -> List[Tuple[int, int]]:
     found = []
     for head, digits in LETTERS.values():
         for it in re.finditer(f"{re.escape(head)}([{digits}]{{4}})".encode(), text):
-            number = "".join(str(digits.index(chr(x))) for x in it.group(1))
-            found.append((it.start(), int(number)))
+            found.append((it.start(), int("".join(str(digits.index(chr(x))) for x in it.group(1)))))
     return sorted(found)
 
 
@@ -71,6 +70,14 @@ class Trial:
 
     def down_after(self, moment: float) -> float:
         return sum(max(0.0, until - max(since, moment)) for since, until in self.down if until > moment)
+
+    def restart_desk(self, pause: float) -> None:
+        with self.turn:
+            since = time.time()
+            self.lab.machine.run("sh", "-c", f"systemctl kill --signal=KILL farm; sleep {pause}; systemctl restart farm")
+            ask = self.lab.machine.curl("ann", "/status")
+            access_lab.until(lambda: self.lab.machine.run(*ask, check=False).returncode == 0)
+            self.down.append((since, time.time()))
 
 
 class Board(threading.Thread):
@@ -88,109 +95,105 @@ class Board(threading.Thread):
         for hold in range(1, self.count + 1):
             party = self.random.choice(["ann", "bob", "job"])
             number = self.job() if party == "job" else self.lab.reserve(party, self.board)
-            name = f"job {number}" if party == "job" else f"reservation {number}"
             self.began[hold] = time.time()
-            begun = [self.session(party, name, mark_of(party, hold)) for _ in range(self.random.choice([1, 1, 2]))]
-            # (on a busy machine a session takes seconds to begin)
-            mark = mark_of(party, hold).encode()
-            access_lab.until(lambda it=mark: it in self.lab.text(self.board)[-100_000:], 15)  # type: ignore[misc]
-            time.sleep(self.random.uniform(0, 1.5))
+            mark = mark_of(party, hold)
+            begun = [self.session(party, number, mark) for _ in range(self.random.choice([1, 1, 2]))]
+            access_lab.until(lambda it=mark: self.writes(party, number, it, begun), 45)  # type: ignore[misc]
+            time.sleep(self.random.uniform(0, 1.0))
             what = self.random.choice(self.trial.words)
-            self.harm(what, party, name)
-            time.sleep(self.random.uniform(0, 1.2))
+            self.harm(what, party, number)
+            time.sleep(self.random.uniform(0, 1.0))
             if party == "job":
-                self.lab.tell("dispatcher", f"/jobs/{number}/finish", {"outcome": "Complete"})
+                self.lab.finish(number)
             else:
                 self.lab.cancel(party, number)
             self.ends[hold] = (time.time(), what, party)
-            self.waits.append(threading.Thread(target=self.later, args=(name, hold, begun)))
+            self.waits.append(threading.Thread(target=self.later, args=(party, number, hold, begun)))
             self.waits[-1].start()
         for it in self.waits:
             it.join()
 
+    def writes(self, party: str, number: int, mark: str, begun: List["subprocess.Popen[bytes]"]) -> bool:
+        """Whether a session's bytes came; one that a kill for another board hit begins again."""
+        if all(it.poll() is not None for it in begun):
+            begun.append(self.session(party, number, mark))
+        return mark.encode() in self.lab.text(self.board)[-100_000:]
+
     def job(self) -> int:
-        text = f'job_name = "j"\ndevice_type = "bbb"\ntags = ["name={self.board}"]\n'
-        number = int(self.lab.tell("carl", "/jobs", text.encode())["number"])
+        number = int(self.lab.tell("carl", "/jobs", TEXT.format(self.board))["number"])
         while "number" not in self.lab.tell("dispatcher", f"/jobs/{number}/start"):
             self.lab.tell("dispatcher", "/pass")
             time.sleep(0.05)
         return number
 
-    def session(self, party: str, hold: str, mark: str) -> "subprocess.Popen[bytes]":
-        nasty = [PYTHON, f"{HERE}/access_nasty.py", self.lab.path("b2.tty"), mark * 4, "0.03"]
-        writer = [PYTHON, f"{HERE}/access_writer.py", self.lab.console, mark * 4]
-        ways = {"b1": ["console"], "b2": ["nasty", mark * 4, "0.03"]}
-        runs = [*self.lab.access.split(), "run", hold, self.board, "--", *(writer if self.board == "b1" else nasty)]
-        words = runs if party == "job" else self.lab.ssh(party, self.board, *ways[self.board])
+    def session(self, party: str, number: int, mark: str) -> "subprocess.Popen[bytes]":
+        way = ["console"] if self.board == "b1" else ["nasty", mark * 4, "0.03"]
+        typed = f"while :; do printf %s {mark * 50}; done | " if self.board == "b1" else ""
+        of_job = self.lab.job(number, "/bin/sh", "-c", f"{typed}farm-access way {self.board} {' '.join(way)}")
+        words = of_job if party == "job" else self.lab.ssh(party, self.board, *way)
         begun = subprocess.Popen(
-            self.lab.as_board(*words), stdin=subprocess.PIPE, stdout=subprocess.DEVNULL, stderr=subprocess.DEVNULL,
-            preexec_fn=self.lab.enter_cgroup if self.lab.cgroup else None,
+            self.lab.within(*words), stdin=subprocess.PIPE, stdout=subprocess.DEVNULL, stderr=subprocess.DEVNULL
         )
         STARTED.append(begun)
         if self.board == "b1" and party != "job":
             threading.Thread(target=feed, args=(begun, mark.encode() * 50), daemon=True).start()
         return begun
 
-    def harm(self, what: str, party: str, hold: str) -> None:
+    def unit(self, party: str, number: int) -> str:
+        return f"farm-hold-{self.board}-{'j' if party == 'job' else 'r'}{number}.slice"
+
+    def left(self, party: str, number: int) -> List[int]:
+        """The processes of a hold."""
+        return [pid for it in self.lab.units(self.board) if f"/{self.unit(party, number)}/" in it for pid in self.lab.pids_of(it)]
+
+    def harm(self, what: str, party: str, number: int) -> None:
         trial, lab = self.trial, self.lab
         trial.kills[what] = trial.kills.get(what, 0) + 1
-        pids = [lab.pid_of(it) for it in lab.sessions() if hold in it["holds"].values()]
-        if what in ("access", "stop"):
-            for it in pids[:1]:
-                kill(it, signal.SIGKILL if what == "access" else signal.SIGSTOP)
-        elif what == "tree":  # farm-access, and the processes that it forked, at once
-            for it in below(pids):
-                kill(it)
-        elif what == "sshd":
-            for it in lab.sshd_children()[:1]:
-                kill(it)
-        elif what == "stop client":
-            for it in lab.pids_of("ssh -F", lab.path("people", party))[:1]:
-                kill(it, signal.SIGSTOP)
+        number_of, _, who = what.partition(" ")
+
+        def send(*words: str) -> None:
+            lab.machine.run(*words, check=False)
+
+        words = {
+            "systemd-run": ["pkill", f"-{number_of}", "-f", f"slice={self.unit(party, number)}"],
+            "door": ["systemctl", "kill", f"--signal={number_of}", "--kill-who=main", "farm-access"],
+            "doors": ["sh", "-c", f"pkill -{number_of} -P $(systemctl show -P MainPID farm-access) -f 'farm-access door'"],
+            "guard": ["systemctl", "kill", f"--signal={number_of}", "farm-access-guard"],
+            "opener": ["systemctl", "kill", f"--signal={number_of}", "farm-access-opener"],
+            "sshd": ["sh", "-c", f"kill -{number_of} $(pgrep -f 'sshd: board' | shuf -n 1)"],
+            "client": ["sh", "-c", f"kill -{number_of} $(pgrep -f 'farm-access (session|way)' | shuf -n 1)"],
+        }
+        if who == "unit":
+            for it in self.random.sample(self.left(party, number)[:3], 1) if self.left(party, number) else []:
+                send_to(it, number_of)
+        elif who == "ssh":
+            for process in [it for it in STARTED if it.poll() is None and f"people/{party}" in str(it.args)][-1:]:
+                send_to(process.pid, number_of)
+        elif who in words:
+            send(*words[who])
         elif what == "flap" and party != "job":
-            number = hold.split()[1]
             lab.tell(party, f"/reservations/{number}/release")
             lab.tell(party, f"/reservations/{number}/acquire")
         elif what == "desk":
-            with trial.turn:
-                since = time.time()
-                lab.restart_desk(self.random.uniform(0.2, 1.5))
-                trial.down.append((since, time.time()))
-        elif what == "guard" and "guard" in lab.parts:
-            with trial.turn:
-                lab.parts["guard"].kill()
-                lab.parts["guard"].wait()
-                lab.guard()
+            trial.restart_desk(self.random.uniform(0.2, 1.5))
+        elif what == "all":
+            units = "systemctl kill --signal=KILL farm-access farm-access-guard farm-access-opener"
+            kills = f"echo 1 > {access_lab.GROUPS}/farm-hold-{self.board}.slice/cgroup.kill"
+            send("sh", "-c", f"{units}; pkill -KILL -f 'farm-access |sshd: board'; {kills}")
 
-    def later(self, name: str, hold: int, begun: List["subprocess.Popen[bytes]"]) -> None:
-        """So many seconds of a running desk after a hold's end nothing of its sessions lives."""
+    def later(self, party: str, number: int, hold: int, begun: List["subprocess.Popen[bytes]"]) -> None:
+        """So many seconds of a running desk after a hold's end nothing of it lives."""
         end = self.ends[hold][0]
         while time.time() < end + self.trial.within + self.trial.down_after(end):
             time.sleep(0.02)
-        alive = [it for it in files.all_in(self.lab.path("run")) if name in it.holds.values() and stands(it)]
-        if alive:
-            self.trial.late.append(f"{self.board} {hold} {self.ends[hold]} {alive}")
+        if self.left(party, number):
+            self.trial.late.append(f"{self.board} {hold} {self.ends[hold][1:]}")
         for it in begun:
             it.kill()
 
 
-def stands(session: files.Session) -> bool:
-    return files.lives(session) or any(not cages.is_empty(it, session.cage()) for it in session.marks)
-
-
-def below(pids: List[int]) -> List[int]:
-    """These processes of farm-access, and those that it forked below them."""
-    found = list(pids)
-    for it in sorted(int(x) for x in os.listdir("/proc") if x.isdigit()):
-        try:
-            with open(f"/proc/{it}/stat", encoding="utf-8", errors="replace") as file:
-                parent = int(file.read().rpartition(")")[2].split()[1])
-            with open(f"/proc/{it}/cmdline", encoding="utf-8", errors="replace") as file:
-                if parent in found and "farm-access.py" in file.read():
-                    found.append(it)
-        except OSError:
-            continue
-    return found
+def send_to(pid: int, name: str) -> None:
+    kill(pid, 9 if name == "KILL" else 19)
 
 
 def feed(process: "subprocess.Popen[bytes]", text: bytes) -> None:
@@ -228,29 +231,37 @@ def judged(board: Board) -> Dict[str, Any]:
         if any(board.ends[it][2] != board.ends[hold][2] for it in range(hold + 1, last + 1)):
             mixes.append((hold, last))
         last = max(last, hold)
-    ends = {it: board.ends[last_of_row(board, it)][0] for it in seen}
-    over = {it: seen[it] - ends[it] - board.trial.down_after(ends[it]) for it in seen}
-    waits = [first[it] - board.began[it] for it in first]
+    ends = {it: board.ends[last_of_row(board, it)] for it in seen}
+    over = {it: seen[it] - ends[it][0] - board.trial.down_after(ends[it][0]) for it in seen}
+    at_ease = [over[it] for it in over if "guard" not in ends[it][1]]
+    waits = sorted(first[it] - board.began[it] for it in first)
     return {
         "board": board.board, "bytes": len(text), "holds": len(board.ends), "with bytes": len(seen),
         "changes of party": sum(board.ends[it][2] != board.ends[it + 1][2] for it in range(1, len(board.ends))),
-        "mixes": len(mixes), "worst end": round(max(over.values(), default=0), 2),
-        "mean wait": round(sum(waits) / max(1, len(waits)), 2),
+        "mixes": len(mixes), "worst end": round(max(at_ease, default=0), 2), "worst end of all": round(max(over.values(), default=0), 2),
+        "late": [(it, round(over[it], 2), ends[it][1]) for it in over if over[it] > board.trial.within],
+        "median wait": round(waits[len(waits) // 2], 2) if waits else None,
     }
+
+
+def reach(lab: Lab, numbers: Sequence[int]) -> None:
+    """Jobs that reach for boards that others hold, one after the other."""
+    script = "for b in b1 b2 b3; do echo '<REACH>' | timeout 20 farm-access way $b console; printf '<REACH>' > /dev/boards/$b; done"
+    for number in numbers:
+        lab.try_words(lab.job(90_000 + number, "/bin/sh", "-c", script))
 
 
 def told(lab: Lab, trial: Trial, boards: List[Board]) -> bool:
     """Prints what came out. Returns whether all is well."""
-    until = time.monotonic() + (15 if "guard" in lab.parts else 0)  # (else nobody cleans up)
-    while (lab.locked() or lab.nasty() or lab.sessions()) and time.monotonic() < until:
-        time.sleep(0.1)
+    access_lab.until(lambda: not lab.units(), 15)
     rows = [judged(it) for it in boards]
     for row in rows:
         print(json.dumps(row))
-    left = {"locked": lab.locked(), "sessions": len(lab.sessions()), "processes": len(lab.nasty())}
-    print(json.dumps({"kills": trial.kills, "late sessions": trial.late[:3], "left": left}), flush=True)
+    reached = sum(lab.text(it.board).count(b"<REACH>") for it in boards)
+    left = {"units": len(lab.units()), "nasty": len(lab.machine.run("pgrep", "-f", "access_nasty", check=False).stdout.split())}
+    print(json.dumps({"kills": trial.kills, "late": trial.late, "left": left, "reached": reached}), flush=True)
     is_ended = all(it["worst end"] <= trial.within and it["mixes"] == 0 and it["with bytes"] for it in rows)
-    return is_ended and not trial.late and not any(left.values())
+    return is_ended and not any("guard" not in it for it in trial.late) and not any(left.values()) and not reached
 
 
 def main() -> int:
@@ -258,30 +269,33 @@ def main() -> int:
     parser.add_argument("--farm", default=os.path.join(HERE, "../../bin/farm"))
     parser.add_argument("--seed", type=int, default=1)
     parser.add_argument("--within", type=float, default=2.0)
-    parser.add_argument("--cgroup", default="")
     parser.add_argument("--kills", type=lambda it: it.split(","), default=KILLS)
-    parser.add_argument("--tcp", action="store_true")
-    parser.add_argument("--without", choices=list(WITHOUT), default="")
+    parser.add_argument("--without", choices=["take"])
+    parser.add_argument("--reach", type=int, default=0)
     parser.add_argument("count", type=int)
     options = parser.parse_args()
     with tempfile.TemporaryDirectory() as place:
-        def farm(boards: Any) -> Farm:
-            return Farm(options.farm, place, boards)
-
-        lab = access_lab.make(
-            farm, before=WITHOUT[options.without], cgroup=options.cgroup, slow=True, after="sleep 0.1",
-            guard=options.without != "lock", tcp=options.tcp)
+        machine = Machine(str(pathlib.Path(place)), options.farm)
         try:
+            lab = Lab(machine)
+            if options.without:
+                file = "/usr/local/lib/farm-tools/farm_access/door.py"
+                assert "\nclass WayUse:" in lab.read(file)
+                machine.write(file, lab.read(file).replace("\nclass WayUse:", f"\n{WITHOUT}\nclass WayUse:"))
+                machine.run("systemctl", "restart", "farm-access")
+                machine.run("systemctl", "stop", "farm-access-guard")
             trial = Trial(lab, options.within, options.kills)
-            counts = [options.count - options.count // 2, options.count // 2]
-            boards = [Board(it, trial, count, options.seed) for it, count in zip(access_lab.BOARDS, counts)]
-            for it in boards:
+            each = [options.count // 3 + (it < options.count % 3) for it in range(3)]
+            boards = [Board(it, trial, count, options.seed) for it, count in zip(access_lab.BOARDS, each) if count]
+            parts = [range(it, options.reach, AT_ONCE) for it in range(AT_ONCE)]
+            threads = [*boards, *(threading.Thread(target=reach, args=(lab, it)) for it in parts)]
+            for it in threads:
                 it.start()
-            for it in boards:
+            for it in threads:
                 it.join()
             return 0 if told(lab, trial, boards) else 1
         finally:
-            lab.end()
+            machine.end()
 
 
 if __name__ == "__main__":

@@ -16,7 +16,6 @@ import time
 from typing import Any, Callable, Dict, Iterator, List, Optional, Sequence, Tuple
 
 import pytest
-from farm_dispatch import cages
 from served import MODULES, PATIENCE, STARTED, Board, Farm, Tool, environment, read, wait_until
 
 # Runs the line `run = '..'` of a job's text, and notes that it began and ended.
@@ -32,22 +31,6 @@ exit $status
 AT_IT = "while true; do sleep 0.1; done"
 BOARDS: List[Board] = [(f"b{place}", "bbb", ["serial"]) for place in range(1, 7)]
 TWO = "job_name = 'two'\nrun = '{}'\n[roles.a]\ndevice_type = 'bbb'\ncount = 2\n"
-CAGES = ("cgroup", "namespace", "none")
-# Runs CODE in the place of a MODULE that farm-dispatch starts.
-STARTS = """
-import subprocess
-was = subprocess.Popen
-def popen(words, **more):
-    if MODULE in words:
-        words = [words[0], "-c", CODE, "-m", *words[words.index(MODULE):]]
-    return was(words, **more)
-subprocess.Popen = popen
-"""
-
-
-def starts(code: str, module: str = "farm_dispatch.runner") -> str:
-    """A patch of a dispatcher that starts this code in the place of a module, its runners' or another."""
-    return f"MODULE, CODE = {module!r}, {code!r}\n{STARTS}"
 
 
 class Lab:
@@ -102,13 +85,19 @@ class Lab:
     def state(self, number: int) -> str:
         return str(self.farm.job(number)["state"])
 
-    def work(self, number: int, name: str = "") -> str:
-        """A file in a job's own folder."""
-        return os.path.join(self.place, "jobs", str(number), name)
+    def log(self, number: int) -> str:
+        """What the site serves as a job's log."""
+        return read(os.path.join(self.place, "logs", str(number)))
 
-    def file(self, number: int, name: str) -> str:
-        """A file that the dispatcher notes of a group."""
-        return os.path.join(self.place, "groups", str(number), name)
+    def record(self, number: int) -> Dict[str, Any]:
+        """What the dispatcher notes of a group that isn't settled."""
+        return dict(json.loads(read(os.path.join(self.place, "open", str(number))) or "{}"))
+
+    def settled(self, number: int) -> Dict[str, Any]:
+        """A job's line of the history, once its group is settled."""
+        wait_until(f"job {number} is settled", lambda: not os.path.exists(os.path.join(self.place, "open", str(number))))
+        rows: List[Dict[str, Any]] = wait_until(f"job {number}'s line", lambda: [it for it in jobs_of(self) if it["job"] == number])
+        return rows[-1]
 
     def begins(self, number: int) -> int:
         """How often the command was begun for a job."""
@@ -159,18 +148,6 @@ class Lab:
         with open(os.path.join(self.folder, name), "w", encoding="utf-8"):
             pass
 
-    def runner(self, number: int, place: str = "") -> Optional[int]:
-        """The process that runs a job's command."""
-        words = f"farm_dispatch.runner\0{os.path.join(place or self.place, 'groups', str(number))}\0"
-        found = [int(it) for it in os.listdir("/proc") if it.isdigit() and words in read_words(it)]
-        # (its keeper, which it forked, has the same words)
-        found.sort(key=lambda it: (int(cages.started_at(it) or 0), it))
-        return found[0] if found else None
-
-    def kill_runner(self, number: int, place: str = "") -> None:
-        process = wait_until("its runner is there", lambda: self.runner(number, place))
-        os.kill(process, signal.SIGKILL)
-
     def sleepers(self, seconds: int) -> List[int]:
         """The processes of this lab that sleep for so many seconds."""
         words = f"{self.sleep}\0{seconds}\0"
@@ -215,9 +192,9 @@ def lab_fixture(make_lab: MakeLab) -> Lab:
 
 # What the code of `patched` begins with.
 PATCH_HEAD = """
-from farm_dispatch import dispatcher, folders, groups, main as dispatch
+from farm_dispatch import dispatcher, main as dispatch, record, runs, workers
 from fizgruk._tools import disk
-D, G = dispatcher.Dispatcher, groups.Group
+D, R, H = dispatcher.Dispatcher, runs.Runs, workers.Hand
 def until(test, limit=40):
     end = time.monotonic() + limit
     while not test() and time.monotonic() < end:

@@ -2,21 +2,33 @@
 from __future__ import annotations
 
 import json
-import os
 import subprocess
-from typing import Any, Iterator, List
+from typing import Any, List
+
+import pytest
 
 import access_lab
-import pytest
-from access_lab import PYTHON, Lab, until
-from served import PATIENCE, STARTED, TOOLS, TOP, Farm, read, wait_until
+from access_lab import ECHO, PLACE, Lab, lab_fixture, until
+from machine import PORT
+from served import PATIENCE, wait_until
 
-pytestmark = [pytest.mark.xdist_group("access"), pytest.mark.slow(60)]
-NOT_YOURS, LOST = 5, 6
+__all__ = ["lab_fixture"]
+pytestmark = [pytest.mark.xdist_group("machine"), pytest.mark.slow(60)]
+NOT_YOURS = 5
+SERVER = f"http://127.0.0.1:{PORT}"
+# (ssh is told by its own configuration which key is ann's, as a person's is)
+SSH = f"""\
+Host *
+ IdentityFile {PLACE}/people/ann
+ BatchMode yes
+ StrictHostKeyChecking no
+ LogLevel ERROR
+ UserKnownHostsFile /root/known
+"""
 # Runs lines of Python that hold a board by the package, and prints what they leave in `said`.
 PROGRAM = """\
 import json, sys
-sys.path.insert(0, {source!r})
+sys.path.insert(0, "/usr/local/lib/farm-tools")
 import fizgruk
 from fizgruk import ways
 said = []
@@ -26,37 +38,10 @@ print(json.dumps(said))
 """
 
 
-@pytest.fixture(scope="module")
-def lab(program: str, tmp_path_factory: pytest.TempPathFactory) -> Iterator[Lab]:
-    def farm(boards: Any) -> Farm:
-        return Farm(program, str(tmp_path_factory.mktemp("farm")), boards)
-
-    made = access_lab.make(farm, before=access_lab.SLOWLY)
-    # (ssh is told by its own configuration which key is ann's, as a person's is)
-    options = [it for it in made.ssh("ann")[5:-1] if it not in ("-o",)]
-    key, *rest = options[options.index("-i") + 1 :]
-    made.write("ssh.conf", "".join(f"{it.replace('=', ' ', 1)}\n" for it in [f"IdentityFile={key}", *rest]))
-    os.mkdir(made.path("bin"))
-    made.write("bin/ssh", f'#!/bin/sh\nexec /usr/bin/ssh -F {made.path("ssh.conf")} "$@"\n')
-    os.chmod(made.path("bin", "ssh"), 0o755)
-    yield made
-    made.end()
-
-
-@pytest.fixture(autouse=True)
-def all_given_back(lab: Lab) -> Iterator[None]:
-    yield
-    for it in lab.farm.look("/reservations")["reservations"]:
-        if it["state"] in ("waiting", "allocated", "acquired"):
-            lab.cancel(it["owner"], it["number"])
-    until(lambda: not lab.sessions())
-
-
 def desk_words(lab: Lab, *words: str) -> List[str]:
-    access = f"ssh://{lab.account()}@127.0.0.1:{lab.port}"
-    around = [f"PATH={lab.path('bin')}:/usr/bin:/bin", f"DESK_ACCESS={access}", "XDG_CONFIG_HOME=/nowhere"]
-    desk = [PYTHON, os.path.join(TOOLS, "desk"), "--server", lab.farm.server, "--user", "ann"]
-    return ["env", *around, *desk, *words]
+    lab.machine.write("/root/.ssh/config", SSH)
+    around = ["DESK_ACCESS=ssh://board@127.0.0.1:2222", "XDG_CONFIG_HOME=/nowhere"]
+    return ["env", *around, "desk", "--server", SERVER, "--user", "ann", *words]
 
 
 def desk(lab: Lab, *words: str, said: bytes = b"") -> access_lab.Tried:
@@ -65,15 +50,13 @@ def desk(lab: Lab, *words: str, said: bytes = b"") -> access_lab.Tried:
 
 def begun(lab: Lab, *words: str) -> "subprocess.Popen[bytes]":
     """A desk that goes on."""
-    line = subprocess.Popen(lab.as_board(*desk_words(lab, *words)), stdin=subprocess.PIPE, stdout=subprocess.PIPE)
-    STARTED.append(line)
-    return line
+    return lab.begun(*desk_words(lab, *words))
 
 
 def package(lab: Lab, lines: str) -> Any:
     """What lines of Python leave in `said`."""
-    text = PROGRAM.format(source=os.path.join(TOP, "python/src"), server=lab.farm.server, lines=lines)
-    tried = lab.try_words([*desk_words(lab)[:4], PYTHON, "-c", text], PATIENCE)
+    text = PROGRAM.format(server=SERVER, lines=lines)
+    tried = lab.try_words([*desk_words(lab)[:3], "/usr/bin/python3", "-c", text], PATIENCE)
     assert tried.status == 0, tried.errors
     return json.loads(tried.output)
 
@@ -82,7 +65,7 @@ def test_ways_and_power_and_console(lab: Lab) -> None:
     lab.reserve("ann", "b1")
     assert desk(lab, "ways", "b1").output.decode().splitlines()[0] == "console"
     assert desk(lab, "power", "b1", "cycle").status == 0
-    wait_until("both", lambda: read(lab.path("power")).splitlines() == ["3 off", "3 on"])
+    wait_until("both", lambda: lab.read(f"{PLACE}/power").splitlines()[-2:] == ["3 off", "3 on"])
     line = begun(lab, "console", "b1")
     assert line.stdin and line.stdout
     line.stdin.write(b"hello")
@@ -90,6 +73,15 @@ def test_ways_and_power_and_console(lab: Lab) -> None:
     assert line.stdout.read(5) == b"hello"
     line.kill()
     assert desk(lab, "console", "b1", "--log").output == b"hello"
+
+
+def test_ssh_goes_to_the_board_s_own_port(lab: Lab) -> None:
+    """What echoes at it is no sshd, which ssh(1) says."""
+    lab.reserve("ann", "b1")
+    lab.machine.write("/etc/farm/access.toml", access_lab.WAYS.replace(f"ports = [{ECHO}]", f"ports = [{ECHO}, 22]"))
+    tried = desk(lab, "ssh", "b1", "true")
+    lab.machine.write("/etc/farm/access.toml", access_lab.WAYS)
+    assert tried.status == 255 and "127.0.0.1:22: " in tried.errors, tried
 
 
 @pytest.mark.parametrize("words", [("console", "b1"), ("power", "b1", "on"), ("ssh", "b1", "true")])
@@ -105,13 +97,13 @@ def test_console_reserve_gets_a_board_and_gives_it_back(lab: Lab) -> None:
     assert line.stdin and line.stdout
     line.stdin.write(b"mine")
     line.stdin.flush()
-    until(lambda: lab.tell("dispatcher", "/pass") and lab.farm.board("b2")["holder"] != "none")
+    until(lambda: lab.tell("dispatcher", "/pass") and lab.board("b2")["holder"] != "none")
     assert line.stdout.read(4) == b"mine"
     assert lab.text("b2").endswith(b"mine")
-    line.terminate()
+    lab.machine.run("pkill", "-TERM", "-f", "desk .*--reserve")
     line.wait(100)
-    until(lambda: lab.farm.board("b2")["holder"] == "none")
-    assert lab.farm.board("b2")["holder"] == "none"
+    until(lambda: lab.board("b2")["holder"] == "none")
+    assert lab.board("b2")["holder"] == "none"
 
 
 def test_desk_with_says_the_board_as_jobs_have_it(lab: Lab) -> None:
@@ -136,7 +128,7 @@ with client.board("name=b1") as board:
 
 def held(lab: Lab, lines: str) -> Any:
     indented = "".join(f"    {it}\n" for it in lines.splitlines())
-    return package(lab, HELD.format(server=lab.farm.server, lines=indented))
+    return package(lab, HELD.format(server=SERVER, lines=indented))
 
 
 def test_a_console_of_the_package_sends_and_expects(lab: Lab) -> None:

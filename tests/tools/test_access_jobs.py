@@ -1,34 +1,26 @@
-"""Jobs of farm-dispatch go to their boards by the same locks and ways as people, and leave nothing behind: those of
-labgrid and of LAVA's dispatcher too."""
+"""Jobs go to their boards by the same ways as people, and reach no others: those of labgrid and of LAVA's dispatcher too.
+Where the dispatcher isn't at work a job's unit is begun as farm-worker begins it (`Lab.job`)."""
 from __future__ import annotations
 
 import contextlib
 import os
-import signal
+import re
 import subprocess
 import threading
-import time
-from typing import Any, Iterator
+from typing import Iterator, List, Tuple
 
-import access_lab
 import pytest
-from access_lab import PYTHON, Lab, until
-from served import PATIENCE, STARTED, TOP, Farm
+
+from access_lab import ECHO, Lab, lab_fixture, until
+from machine_lab import COMMAND, lines_for
+from served import PATIENCE, TOP
 from test_boards_run import wants_way
 
-pytestmark = [pytest.mark.xdist_group("access"), pytest.mark.slow(60)]
-# b1 says that it is up once it is switched on, and has what runs between two holds among what it received.
-OF_B1 = """
-[[ways]]
-boards = "b1"
-power = {{ on = ["/bin/sh", "-c", "printf 'the board is up\\\\r\\\\nboard:/# ' > {place}/b1.tty"], off = ["/bin/true"] }}
-after = ["/bin/sh", "-c", "echo b1 >> {place}/after; printf '<after>' > {place}/b1.tty"]
-
-[[ways]]
-boards = "b2"
-gone = ["/no/such/command"]
-"""
-BOOTS = 540.0  # seconds for a board that boots, an emulated one beside a load too: some 30 on an idle machine
+__all__ = ["lab_fixture"]
+pytestmark = [pytest.mark.xdist_group("machine"), pytest.mark.slow(60)]
+NOT_YOURS = 5
+MORE = "/etc/systemd/system/farm-job-.service.d/lab.conf"
+WAY = ("farm-access", "way")
 # What switches the board on by its ways, waits until it says that it is UP, types TYPED, and waits for SAID.
 LABGRID = """[labgrid]
 test = \'\'\'
@@ -69,31 +61,42 @@ def labgrid_of(up: str, typed: str, said: str) -> str:
 OF_WAYS = {"labgrid": labgrid_of("the board is up", "typed by a test", "typed by a test"), "lava": LAVA}
 
 
-@pytest.fixture(scope="module")
-def lab(program: str, tmp_path_factory: pytest.TempPathFactory) -> Iterator[Lab]:
-    def farm(boards: Any) -> Farm:
-        return Farm(program, str(tmp_path_factory.mktemp("farm")), boards)
-
-    ways = access_lab.WAYS + OF_B1
-    made = access_lab.make(farm, after="echo {board} >> PLACE/after", ways=ways)
-    made.write("device.yaml", DEVICE)
-    made.dispatch()
-    yield made
-    made.end()
-
-
-def ended(lab: Lab, number: int) -> str:
-    until(lambda: lab.farm.job(number)["state"] == "Finished", BOOTS)
-    return str(lab.farm.job(number)["result"])
+@contextlib.contextmanager
+def dispatching(lab: Lab, run_job: str, more: str = "") -> Iterator[None]:
+    """The dispatcher by its units, as the package has them, which runs this command for jobs; `more` is for their units."""
+    lab.machine.write("/etc/farm/run-job", run_job, 0o755)
+    lab.machine.write(MORE, f"[Service]\n{more}")
+    units = ("farm-worker.socket", "farm-worker", "farm-dispatch")
+    lab.machine.run("systemctl", "daemon-reload")
+    lab.machine.run("systemctl", "start", *units)
+    try:
+        yield
+    finally:
+        lab.machine.run("systemctl", "stop", *units)
+        lab.machine.run("rm", MORE)
+        lab.machine.run("systemctl", "daemon-reload")
 
 
-def submit(lab: Lab, run: str, board: str = "b2") -> int:
-    return lab.farm.submit(run, more=f"tags = [\"name={board}\"]\n")
+def ended(lab: Lab, number: int, seconds: float = PATIENCE) -> Tuple[str, str]:
+    """A job's result, once it has ended, and its log."""
+    until(lambda: lab.look(f"/jobs/{number}")["state"] == "Finished", seconds)
+    log = lab.read(f"/var/lib/farm-dispatch/logs/{number}")
+    return str(lab.look(f"/jobs/{number}")["result"]), log
 
 
-def log_of(lab: Lab, number: int) -> str:
-    with open(lab.path("dispatch", "jobs", str(number), "log"), encoding="utf-8", errors="replace") as file:
-        return file.read()
+def drive(lab: Lab, board: str, way: str, text: str, of: str = "bbb") -> Tuple[int, str]:
+    """Has the dispatcher run a job by run-job-labgrid or run-job-lava, and says its number and what is in its log."""
+    for name in ("run-job-labgrid", "run-job-lava"):
+        with open(os.path.join(TOP, "examples", name), encoding="utf-8") as file:
+            lab.machine.write(f"/etc/farm/{name}", file.read(), 0o755)
+    lab.machine.write("/etc/farm/boards/device.yaml", DEVICE)
+    more = lines_for("LAVA") if way == "lava" else ""
+    with dispatching(lab, f"#!/bin/sh\nexec /etc/farm/run-job-{way} --ways /etc/farm/boards\n", more):
+        asked = f"job_name = 'test'\ndevice_type = '{of}'\ntags = ['name={board}']\n{text}"
+        number = int(lab.tell("ann", "/jobs", asked)["number"])
+        result, log = ended(lab, number, 580)
+    assert result == "Complete", log
+    return number, log
 
 
 def feed(line: "subprocess.Popen[bytes]") -> None:
@@ -105,140 +108,126 @@ def feed(line: "subprocess.Popen[bytes]") -> None:
             line.stdin.flush()
 
 
-def test_a_job_has_its_board_s_lock_and_its_own_environment(lab: Lab) -> None:
-    number = submit(lab, 'echo "$FARM_JOB $FARM_BOARD $(umask)"; exit 3')
-    assert ended(lab, number) == "Incomplete"
-    usual = os.umask(0o022)
-    os.umask(usual)
-    assert f"{number} b2 {usual:04o}" in log_of(lab, number).splitlines()
-    assert os.stat(lab.path("run", "b2.lock")).st_mode & 0o777 == 0o660, "another account of the group may have it"
-    with open(lab.path("run", "b2.lock"), encoding="utf-8") as file:
-        assert file.read().strip() in (f"job {number}", "")
-
-
-def test_what_a_job_leaves_is_gone_before_the_next_one_s_first_byte(lab: Lab) -> None:
-    nasty = f"{PYTHON} {access_lab.HERE}/access_nasty.py {lab.path('b2.tty')} JOBS 0.01"
-    number = submit(lab, f"{nasty} & until grep -q {b'JOBS'.hex()} {lab.path('got', 'b2')}; do sleep 0.1; done")
-    assert ended(lab, number) == "Complete"
-    board = os.open(lab.path("b2.tty"), os.O_WRONLY | os.O_NOCTTY)
-    os.write(board, b"END")
-    os.close(board)
-    until(lambda: lab.text("b2").endswith(b"END"))  # (all that came before is written)
-    before = lab.text("b2")
-    held = lab.reserve("ann", "b2")
-    line = lab.begin("ann", "b2", "nasty", "ann", "0.01")
-    until(lambda: lab.text("b2").endswith(b"ann"))
-    said = lab.text("b2")[len(before):]
-    line.kill()
-    lab.cancel("ann", held)
-    assert said and not said.strip(b"an")
-
-
-def test_a_job_waits_until_what_a_person_left_is_gone(lab: Lab) -> None:
-    """It is in a namespace, so that is the guard's work."""
-    until(lambda: not lab.sessions() and not lab.nasty())
-    held = lab.reserve("ann", "b2")
-    lab.begin("ann", "b2", "nasty", "left", "0.01")
-    until(lambda: lab.text("b2").endswith(b"left"))
-    lab.parts["guard"].send_signal(signal.SIGSTOP)
-    for it in lab.sessions():
-        access_lab.kill(lab.pid_of(it), signal.SIGSTOP)
-    lab.cancel("ann", held)
-    number = submit(lab, f"printf NEXT > {lab.path('b2.tty')}; sleep 1")
-    until(lambda: lab.farm.job(number)["state"] == "Running")
-    time.sleep(3)
-    is_out = b"NEXT" not in lab.text("b2")
-    lab.parts["guard"].send_signal(signal.SIGCONT)
-    assert is_out
-    assert ended(lab, number) == "Complete"
-    until(lambda: lab.text("b2").endswith(b"NEXT"))
-    assert not lab.nasty()
-
-
-def test_after_runs_between_a_person_and_a_job(lab: Lab) -> None:
-    def count() -> int:
-        with open(lab.path("after"), encoding="utf-8") as file:
-            return file.read().count("b1")
-
-    assert ended(lab, submit(lab, "true", "b1")) == "Complete"
-    held = lab.reserve("ann", "b1")
-    assert lab.session("ann", "b1", "say", "x").output == b"x\n"
-    lab.cancel("ann", held)
-    until(lambda: count() >= 2)
-    before = count()
-    assert before == 2
-    assert ended(lab, submit(lab, "true", "b1")) == "Complete"
-    until(lambda: count() > before)
-    assert count() == before + 1
-
-
-def test_a_job_waits_for_the_desk(lab: Lab) -> None:
-    held = lab.reserve("ann", "b1")
-    lab.farm.kill()
-    words = [*lab.access.split(), "run", f"reservation {held}", "b1", "--", "echo", "ran"]
-    run = subprocess.Popen(lab.as_board(*words), stdout=subprocess.PIPE, stderr=subprocess.DEVNULL)
-    STARTED.append(run)
-    time.sleep(3)
-    assert run.poll() is None
-    lab.restart_desk()
-    assert run.communicate(timeout=PATIENCE)[0] == b"ran\n"
-    assert run.returncode == 0
-    lab.cancel("ann", held)
-
-
-def test_without_a_job_or_with_bad_words_nothing_runs(lab: Lab) -> None:
-    mark = lab.path("home", "ran")
-    for words in (["--", "touch", mark], ["job 1", "--", "touch", mark], ["job 1", "b1"], ["job 999", "b1", "--", "touch", mark]):
-        assert lab.try_words([*lab.access.split(), "run", *words]).status in (2, 6)
-    assert not os.path.exists(mark)
-    gone = lab.try_words([*lab.access.split(), "run", "job 1", "b1", "--", "/no/such/command"])
-    assert gone.status == 127 and gone.errors.startswith("farm-access: /no/such/command: "), gone
-
-
-# ---- the ways within a job
-
-
 @pytest.mark.parametrize("way", ["labgrid", "lava"])
 def test_what_drives_boards_goes_by_their_ways(lab: Lab, way: str) -> None:
     """A person who types until the hold's end is out, and `after` has run, before the job's first byte; what the console
     said in the job is the owner's to read."""
     wants_way(way)
-    held = lab.reserve("ann", "b1")
-    line = lab.begin("ann", "b1", "console")
+    held = lab.reserve("ann", "b3")
+    line = lab.begin("ann", "b3", "console")
     threading.Thread(target=feed, args=(line,), daemon=True).start()
-    until(lambda: lab.text("b1").endswith(b"ann"))
-    number = lab.farm.submit(f"exec {TOP}/examples/run-job-{way} --ways {lab.place}", more=f'tags = ["name=b1"]\n{OF_WAYS[way]}')
-    before = len(lab.text("b1"))
+    until(lambda: lab.text("b3").endswith(b"ann"))
+    before = len(lab.text("b3"))
     lab.cancel("ann", held)
-    assert ended(lab, number) == "Complete", log_of(lab, number)
-    said = lab.text("b1")[before:]
+    drive(lab, "b3", way, OF_WAYS[way])
+    said = lab.text("b3")[before:]
     assert said.count(b"<after>the board is up") == 1 and said.rfind(b"ann") < said.index(b"<after>"), said
     assert way == "lava" or b"typed by a test" in said
-    log = lab.session(lab.farm.job(number)["owner"], "b1", "console", "--log")
+    log = lab.session("ann", "b3", "console", "--log")
     assert b"the board is up" in log.output, log
 
 
+def test_a_job_that_the_dispatcher_started_goes_to_its_own_boards_alone(lab: Lab) -> None:
+    """All of its group's, under the number of the first one, also of a child that left its session; and the kernel has its
+    unit below farm.slice."""
+    lab.reserve("ann", "b1")
+    roles = "".join(f"[roles.{it}]\ncount = 1\ndevice_type = 'bbb'\ntags = ['name={it}']\n" for it in ("b2", "b3"))
+    each = "for it in b1 b2 b3; do setsid -fw farm-access way $it say $it; done; grep ^0:: /proc/self/cgroup; echo $FARM_JOB $FARM_BOARDS"
+    with dispatching(lab, COMMAND):
+        number = int(lab.tell("ann", "/jobs", f"job_name = 'g'\nrun = '{each}; sleep 600'\n{roles}")["number"])
+        until(lambda: "b2 b3" in lab.machine.run("cat", f"/var/lib/farm-dispatch/logs/{number}", check=False).stdout)
+        others = [
+            lab.try_words(["runuser", "-u", it, "--", *WAY, "b2", "say", "x"]) for it in ("farm-dispatch", "nobody")
+        ]
+        lab.tell("ann", f"/jobs/{number}/cancel")
+        log = ended(lab, number)[1].replace("\r", "").splitlines()
+    assert log[:3] == ["farm-access: b1 is no board of this job's", "b2", "b3"]
+    assert re.fullmatch(rf"0::/farm\.slice/farm-job\.slice/farm-job-[0-9a-f]{{16}}-{number}-[0-9a-f]{{8}}\.service", log[3]), log
+    assert log[4] == f"{number} b2 b3"
+    assert [(it.status, it.output) for it in others] == [(NOT_YOURS, b"")] * 2
+    used = [(it["job"], it["hold"]) for it in lab.uses() if it.get("words") == "b3 say b3" and it["status"] == 0]
+    assert used == [(number, f"job {number + 1}")]
+
+
+def test_a_health_check_goes_to_its_board_alone(lab: Lab) -> None:
+    """As the dispatcher starts one, for a board with nothing but a port."""
+    script = f"echo $FARM_BOARD | farm-access way b4 tcp {ECHO}; farm-access way b1 say x || exit 0; exit 1"
+    lab.machine.write("/etc/farm/check-board", f"#!/bin/sh\n{script}\n", 0o755)
+    lab.tell("admin", "/types", {"name": "checked", "check": "jobs", "every": 20})
+    lab.tell("admin", "/boards", {"name": "b4", "type": "checked", "tags": []})
+    with dispatching(lab, COMMAND):
+        lab.tell("admin", "/boards/b4/health", {"health": "Unknown"})
+        until(lambda: lab.board("b4")["health"] != "Unknown")
+    assert lab.board("b4")["health"] == "Good"
+    lab.tell("admin", "/boards/b4/health", {"health": "Retired"})
+    number = max(map(int, os.listdir(lab.there("/var/lib/farm-dispatch/logs"))))
+    assert ended(lab, number)[1].replace("\r", "").splitlines() == ["echo b4", "farm-access: b1 is no board of this job's"]
+
+
 def test_a_job_s_ways_are_its_own_boards_alone(lab: Lab) -> None:
-    """And of its session nothing is left but that of the job itself."""
-    until(lab.is_at_rest)
-    held = lab.reserve("ann", "b1")
-    run = "$FARM_WAY b2 say one; $FARM_WAY b1 say two; echo =$?; $FARM_WAY b2 say --as-admin; echo =$?; $FARM_WAY b2 ways"
-    number = submit(lab, f"{run}; $FARM_WAY b2 gone; echo =$?; echo files=$(ls {lab.path('run')} | grep -c session)")
-    assert ended(lab, number) == "Complete"
-    assert log_of(lab, number).replace("\r", "").splitlines() == [
-        "one", "farm-access: b1 is no board of this job's", "=5", "farm-access: b2 is no board of this job's", "=5",
-        "console", "env", "gone", "nasty", "power on|off|cycle", "say", "sleep", f"tcp {lab.echo}",
-        "farm-access: /no/such/command: No such file or directory", "=127", "files=1",
+    lab.reserve("ann", "b1")
+    number = lab.submit("b2")
+    script = "farm-access way b2 say one; farm-access way b1 say two; echo =$?; farm-access way b2 say --as-admin; echo =$?;" \
+        " farm-access way b2 gone; echo =$?; farm-access way b2 ways | head -1"
+    ran = lab.try_words(lab.job(number, "/bin/sh", "-c", script))
+    assert ran.output.decode().splitlines() == ["one", "=5", "=5", "=127", "console"]
+    assert ran.errors.replace("\r", "").splitlines() == [
+        "farm-access: b1 is no board of this job's", "farm-access: b2 is no board of this job's",
+        "farm-access: /no/such/command: No such file or directory",
     ]
-    lab.cancel("ann", held)
+
+
+def test_a_group_s_boards_are_all_its_first_job_s(lab: Lab) -> None:
+    roles = "".join(f"[roles.{it}]\ncount = 1\ndevice_type = 'bbb'\ntags = ['name={it}']\n" for it in ("b1", "b2"))
+    text = f"job_name = 'g'\n{roles}"
+    told = lab.tell("ann", "/jobs", text)
+    number = int(told["number"])
+    until(lambda: lab.tell("dispatcher", "/pass") and lab.look(f"/jobs/{number}")["state"] == "Scheduled")
+    lab.tell("dispatcher", f"/jobs/{number}/start")
+    said = [lab.try_words(lab.job(number, *WAY, it, "say", it)).output for it in ("b1", "b2", "b3")]
+    assert said == [b"b1\n", b"b2\n", b""]
+
+
+def test_what_is_in_no_job_s_unit_is_no_job(lab: Lab) -> None:
+    """Nor is a job whose number another has by now, or whose boards were given on."""
+    number = lab.submit("b2")
+
+    def job(of: int = number) -> List[str]:
+        return lab.job(of, *WAY, "b2", "say", "x")
+
+    others: List[List[str]] = [
+        ["runuser", "-u", "nobody", "--", *WAY, "b2", "say", "x"],
+        [it.replace("--slice=farm-job.slice", "--slice=other.slice") for it in job()],
+        [it.replace("farm-job-ab12", "farm-other-ab12") for it in job()],
+        job(number + 1),
+    ]
+    for words in others:
+        tried = lab.try_words(words)
+        assert (tried.status, tried.output) == (NOT_YOURS, b""), (words, tried)
+    assert lab.try_words(job()).output == b"x\n"
+    lab.finish(number)
+    lab.reserve("ann", "b2")
+    assert lab.try_words(job()).status == NOT_YOURS
 
 
 def test_a_job_s_console_ends_as_it_is_told_and_with_who_reads_it(lab: Lab) -> None:
-    begins = "$FARM_WAY b2 console < /dev/zero"
+    begins = "farm-access way b2 console < /dev/zero"
     told = f"mkfifo seen; (head -c 9; touch up; exec cat) < seen > /dev/null & {begins} > seen & console=$!"
     told = f"{told}; until [ -e up ]; do sleep 0.1; done; kill $console; wait $console; echo =$?"
-    others = f"while [ $(ls {lab.path('run')} | grep -c session) -gt 1 ]; do sleep 0.1; done"
-    run = f"{told}; {begins} | head -c 9 > /dev/null; {others}; echo ended"
-    number = submit(lab, run)
-    assert ended(lab, number) == "Complete"
-    assert log_of(lab, number).splitlines() == ["=4", "ended"]
+    number = lab.submit("b2")
+    ran = lab.try_words(lab.job(number, "/bin/sh", "-c", f"{told}; {begins} | head -c 9 > /dev/null; echo ended"))
+    assert ran.output.split() == [b"=4", b"ended"]
+    assert until(lambda: not lab.units("b2")) < 60
+
+
+def test_what_a_job_left_is_out_before_the_next_one_s_first_byte(lab: Lab) -> None:
+    number = lab.submit("b2")
+    line = lab.begun(*lab.job(number, *WAY, "b2", "nasty", "JOBS", "0.01"))
+    until(lambda: lab.text("b2").endswith(b"JOBS"))
+    lab.finish(number)
+    lab.reserve("ann", "b2")
+    lab.begin("ann", "b2", "nasty", "ann", "0.01")
+    until(lambda: lab.text("b2").endswith(b"ann"))
+    said = lab.text("b2")
+    assert not said[said.index(b"ann"):].strip(b"an")
+    assert line.wait(60)

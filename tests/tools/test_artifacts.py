@@ -14,7 +14,7 @@ import pytest
 
 import fizgruk
 from desks import desk
-from dispatch_lab import Lab, jobs_of, starts
+from dispatch_lab import Lab, jobs_of
 from dispatch_lab import lab_fixture, make_lab_fixture  # noqa: F401
 from fizgruk.aio import AsyncClient
 from python_front import client_of
@@ -32,7 +32,7 @@ XML
 exit ${STATUS:-0}
 """
 TESTS = {"passed": 1, "failed": 1, "errors": 0, "skipped": 1, "names": ["usb.speed"]}
-COLLECTOR = "farm_dispatch.artifacts"  # the module
+SLOW = "from farm_dispatch import artifacts\nartifacts.Collectors._kept = lambda *words: time.sleep(1000)"
 
 
 @pytest.fixture(autouse=True)
@@ -128,27 +128,28 @@ def test_python_lists_and_fetches_it(lab: Lab) -> None:
 def test_the_boards_are_given_back_before_and_a_kill_is_made_up_for(lab: Lab) -> None:
     """The collector lasts, and so the next job runs meanwhile; the dispatcher is killed with it, and the next one keeps
     what was left, and writes the line once."""
-    dispatcher = lab.patched(starts("import time; time.sleep(1000)", COLLECTOR))
+    dispatcher = lab.patched(SLOW)
     number = lab.farm.submit(lab.script(LEAVES))
     assert lab.finished(number) == "Complete"
     for _ in range(7):
         assert lab.finished(lab.farm.submit("true")) == "Complete"
     assert (kept(lab), [it["job"] for it in jobs_of(lab) if it["job"] == number]) == ([], [])
-    assert not os.path.exists(lab.file(number, "finished"))
+    assert lab.record(number)["told"]
     dispatcher.kill()
     dispatcher.wait()
     lab.dispatch()
     assert line_of(lab, number)["tests"] == TESTS
-    wait_until("it is marked", lambda: os.path.exists(lab.file(number, "finished")))
+    lab.settled(number)
     assert kept(lab) == ["1"]
 
 
-def test_a_collector_that_dies_keeps_no_line_waiting(lab: Lab) -> None:
-    dispatcher = lab.patched(starts("import os, signal; os.kill(os.getpid(), signal.SIGKILL)", COLLECTOR))
+def test_a_collector_that_fails_keeps_no_line_waiting(lab: Lab) -> None:
+    fails = "from farm_dispatch import artifacts\ndef fails(*words):\n    raise OSError('it broke')\nartifacts.Collectors._kept = fails"
+    dispatcher = lab.patched(fails)
     number = lab.farm.submit(lab.script(LEAVES))
     row = line_of(lab, number)
     assert (row["outcome"], "tests" in row, kept(lab)) == ("Complete", False, [])
-    assert "what it left in out isn't kept: what does it fails" in desk(lab.farm, "--history", lab.place, "log", "1")[1]
+    assert "what it left in out isn't kept: it broke" in desk(lab.farm, "--history", lab.place, "log", "1")[1]
     dispatcher.send_signal(signal.SIGTERM)
     dispatcher.wait()
 
@@ -168,8 +169,7 @@ def test_they_go_with_their_log(lab: Lab) -> None:
     dispatcher = lab.dispatch("--keep-logs", "1 hour")
     old, new = lab.farm.submit(lab.script(LEAVES)), lab.farm.submit(lab.script(LEAVES))
     for number in (old, new):
-        line_of(lab, number)
-        wait_until("its mark", lambda it=number: os.path.exists(lab.file(it, "finished")))  # type: ignore[misc]
+        lab.settled(number)
     lab.stops(dispatcher)
     for it in ("artifacts/1", "logs/1"):
         os.utime(os.path.join(lab.place, it), (0, 0))

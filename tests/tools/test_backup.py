@@ -4,9 +4,10 @@ from __future__ import annotations
 
 import contextlib
 import os
+import pathlib
 import random
+import re
 import shutil
-import signal
 import sqlite3
 import subprocess
 import sys
@@ -16,11 +17,10 @@ from typing import Callable, List, Tuple
 
 import pytest
 from desks import write
-from farm_backup import copying, standby
 from recorded import recorded, synced
-from served import PATIENCE, TOOLS, Board, Farm, Tool, environment, read, wait_until
+from served import PATIENCE, TOOLS, TOP, Board, Farm, environment, read, wait_until
 from streamed import (
-    FIRST, Kills, Salts, Stream, Worker, backup, demand_prefix, moment_of, still_farm, words_of
+    FIRST, Kills, Salts, Stream, Worker, backup, demand_prefix, quiet_farm, still_farm, words_of
 )
 
 Made = Callable[..., Farm]
@@ -114,7 +114,7 @@ def test_copies_of_files_that_move_are_the_farm_of_a_moment(make_farm: Made, fol
         status, said, errors = backup(farm, folder, "--keep", "1", "--verbose")
         again += errors.count("copied again: ")
         if status:
-            assert "no copy after 20 tries: " in errors
+            assert "no copy within 50 s: " in errors
             continue
         made += 1
         board, clock = turns_in(f"{said.strip()}/farm.db")
@@ -203,8 +203,7 @@ def test_a_log_that_is_damaged_is_told(make_farm: Made, folder: str) -> None:
     """A byte that is damaged hides the command that wrote it and all behind it from whoever opens the farm; but they
     stand there."""
     farm = make_farm(BOARDS)
-    still_farm(farm)
-    farm.start()
+    quiet_farm(farm)
     assert backup(farm, folder)[0] == 0
     with open(f"{farm.db}-wal", "r+b") as log:
         log.seek(log.read().index(b"turn=21"))
@@ -218,10 +217,8 @@ def test_a_log_that_is_damaged_is_told(make_farm: Made, folder: str) -> None:
 def test_a_copy_with_fewer_commands_than_the_desk_is_thrown_away(make_farm: Made, folder: str) -> None:
     """The desk knows of damage to the last frame, which the log doesn't show; and of another farm's file."""
     farm = make_farm(BOARDS)
-    commands = still_farm(farm)
-    with standby.pages_in(copying.Farm(farm.db, "")) as found:
-        end = found.place.offset
-    farm.start()
+    commands = quiet_farm(farm)
+    end = end_of(f"{farm.db}-wal")
     server = ["--server", farm.server]
     assert backup(farm, folder, *server)[0] == 0
     latest = os.readlink(f"{folder}/latest")
@@ -232,6 +229,13 @@ def test_a_copy_with_fewer_commands_than_the_desk_is_thrown_away(make_farm: Made
     status, said, errors = backup(farm, folder, *server)
     assert (status, said, errors.startswith(wanted)) == (4, "", True)
     assert (os.readlink(f"{folder}/latest"), left_in(folder)) == (latest, [])
+
+
+def end_of(log: str) -> int:
+    """Where a log's last frame ends: those behind it have other salts."""
+    text = pathlib.Path(log).read_bytes()
+    size = 24 + int.from_bytes(text[8:12], "big")
+    return max(at + size for at in range(32, len(text) - size + 1, size) if text[at + 8:at + 16] == text[16:24])
 
 
 # ---- copies that are too many
@@ -272,7 +276,9 @@ def test_keep_removes_the_oldest_copies_alone(make_farm: Made, folder: str) -> N
 def test_keep_leaves_what_isnt_an_earlier_copy_of_the_same_farm(make_farm: Made, folder: str) -> None:
     """Here one that has more commands than a farm that was restored, and one that can't be read."""
     to, farm = f"{folder}/to", make_farm()
-    copies_of(farm, to, "farm-20200101T000000Z", "farm-20200102T000000Z", "farm-20200103T000000Z")
+    copies_of(farm, to, "farm-20200101T000000Z", "farm-20200102T000000Z")
+    farm.ask("admin", "POST", "/types", {"name": "later"}, key="later")
+    copies_of(farm, to, "farm-20200103T000000Z")
     make_copies(to, "farm-20200104T000000Z")
     farm.kill()
     for end in ("", "-wal"):
@@ -281,25 +287,51 @@ def test_keep_leaves_what_isnt_an_earlier_copy_of_the_same_farm(make_farm: Made,
     status, said, errors = backup(farm, to, "--keep", "1")
     assert status == 0
     stays = ["farm-20200103T000000Z", "farm-20200104T000000Z"]
-    assert errors == f"farm-backup: these stay, which aren't earlier copies of the same farm: {', '.join(stays)}\n"
+    told = f"farm-backup: these stay, which aren't earlier copies of the same farm: {', '.join(stays)}\n"
+    assert errors == told
     assert copies_in(to) == [*stays, os.path.basename(said.strip())]
+    for _ in range(3):
+        once(farm)
+    assert backup(farm, to, "--keep", "1")[2] == told, "it has more commands by now, and not the other's last"
 
 
-def test_keep_0_is_refused(make_farm: Made, folder: str) -> None:
-    assert backup(make_farm(), folder, "--keep", "0")[0] == 2
+def once(farm: Farm) -> None:
+    """A command for a farm that isn't served."""
+    key = time.monotonic_ns()
+    body = f'{{"name":"t{key}"}}'
+    head = f"POST /types HTTP/1.1\r\nx-user: admin\r\nx-key: {key}\r\ncontent-length: {len(body)}\r\n\r\n"
+    words = [farm.program, "once", "--db", farm.db, "--at", f"{time.time():.0f}"]
+    assert "200 OK" in subprocess.run(words, input=head + body, capture_output=True, check=True, text=True).stdout
 
 
-def test_a_follower_leaves_copies_alone_that_it_didnt_make(
-    make_farm: Made, folder: str, start_tool: Callable[..., Tool]
-) -> None:
-    names = ["farm-20200101T000000Z", "farm-20990102T000000Z"]
-    make_copies(folder, *names)
-    follower = start_tool(*words_of(make_farm(), "--follow", folder))
-    wait_until("a standby", lambda: read(f"{folder}/as-of"))
-    follower.send(signal.SIGTERM)
-    assert follower.ends() == 0
-    assert os.path.isfile(f"{folder}/farm.db")
-    assert [it for it in copies_in(folder) if it in names] == names
+def test_keep_leaves_each_copy_as_it_is(make_farm: Made, folder: str) -> None:
+    """Also one whose log is empty, as that of a farm that was just made."""
+    farm = make_farm()
+    farm.kill()
+    for end in ("", "-wal"):
+        os.unlink(f"{farm.db}{end}")
+    subprocess.run([farm.program, "init", "--db", farm.db], check=True, capture_output=True)
+    for _ in range(3):
+        assert backup(farm, folder, "--keep", "9")[::2] == (0, "")
+        once(farm)
+    files = {it: it.read_bytes() for it in pathlib.Path(folder).glob("farm-*/*")}
+    assert len(files) == 6
+    assert backup(farm, folder, "--keep", "9")[::2] == (0, "")
+    assert all(it.read_bytes() == text for it, text in files.items())
+
+
+def test_the_moment_of_the_last_copy_is_a_metric(make_farm: Made, folder: str) -> None:
+    """That a copy which failed leaves as it is."""
+    farm, to = make_farm(), ["--textfile", f"{folder}/backup.prom"]
+    before = int(time.time())
+    assert backup(farm, folder, *to)[0] == 0
+    metric = read(f"{folder}/backup.prom")
+    line = re.fullmatch(r"# TYPE (\w+) gauge\n(\w+) (\d+)\n", metric)
+    assert line and line[1] == line[2] and before <= int(line[3]) <= time.time() + 1
+    with open(os.path.join(TOP, "examples/alerts.yml"), encoding="utf-8") as rules:
+        assert f"time() - {line[1]} >" in rules.read()
+    assert backup(farm, folder, *to, "--program", "false")[0] == 4
+    assert read(f"{folder}/backup.prom") == metric
 
 
 # ---- a copy to look at
@@ -319,17 +351,6 @@ def test_a_served_farm_is_looked_at_in_one_command(make_farm: Made, folder: str)
     assert backup(farm, "--now", "--report", "boards") == (0, wanted, "")
 
 
-def test_a_report_over_a_served_farm_has_the_moments_that_are_asked_for(make_farm: Made) -> None:
-    farm = make_farm(BOARDS)
-    number = farm.tell("ann", "/reservations", {"tags": []})["number"]
-    farm.tell("dispatcher", "/pass")
-    moment = farm.reservation(number)["deadline"]
-    for words, offset in (("--east=0", 0), ("--east=90", 5400), ("--west=60", -3600)):
-        status, said, errors = backup(farm, "--now", "--report", "reservations", words)
-        assert (status, errors) == (0, "")
-        assert time.strftime("%Y-%m-%d %H:%M:%S", time.gmtime(moment + offset)) in said
-
-
 @pytest.mark.parametrize("taken", ["now.db", "now.db-wal"])
 def test_a_copy_to_look_at_overwrites_nothing(make_farm: Made, folder: str, taken: str) -> None:
     write(folder, taken, "kept")
@@ -338,26 +359,13 @@ def test_a_copy_to_look_at_overwrites_nothing(make_farm: Made, folder: str, take
     assert (os.listdir(folder), read(f"{folder}/{taken}")) == ([taken], "kept")
 
 
-@pytest.mark.parametrize("words", [
-    ["--now"], ["--now", "--to", "a", "b"], ["--to", "a", "b"], ["--now", "--to", "a", "--report", "queue"], [],
-    ["--follow"], ["--follow", "--promote", "a"], ["--units", "a"], ["--demote", "--keep", "2", "a"],
-    ["--follow", "--server", "http://127.0.0.1:1", "a"], ["--now", "--report", "all"],
-])
-def test_words_that_dont_go_together_are_refused(make_farm: Made, words: List[str]) -> None:
-    status, said, errors = backup(make_farm(), *words)
-    assert (status, said) == (2, "")
-    assert "farm-backup: error: " in errors
-
-
 # ---- a farm that grows fast
 
 
 @pytest.mark.slow(30)
-def test_a_farm_that_grows_fast_is_copied_and_followed(
-    make_farm: Made, folder: str, start_tool: Callable[..., Tool]
-) -> None:
+def test_a_farm_that_grows_fast_is_copied(make_farm: Made, folder: str) -> None:
     """Some hundred jobs of 60 kB a second: its log begins anew some times a second, so its file never stands still for as
-    long as a copy takes."""
+    long as a disk takes to have a copy."""
     farm = make_farm(BOARDS)
     text = f"job_name = 'boot'\ndevice_type = 'bbb'\n# {'x' * 60000}".encode()
 
@@ -369,7 +377,6 @@ def test_a_farm_that_grows_fast_is_copied_and_followed(
     salts = Salts(f"{farm.db}-wal")
     senders = [Sender() for _ in range(2)]
     wait_until("a large farm", lambda: os.path.getsize(farm.db) > 30 << 20, 300)
-    follower = start_tool(*words_of(farm, "--follow", f"{folder}/standby", "--every", "0.5"))
     made, turned, until = 0, 0, time.monotonic() + PATIENCE
     while made < 3 or (not turned and time.monotonic() < until):
         before, turns = farm.look("/status")["count"], len(salts.seen)
@@ -378,15 +385,8 @@ def test_a_farm_that_grows_fast_is_copied_and_followed(
         assert count_in(f"{said.strip()}/farm.db") >= before
         made, turned = made + 1, turned + (len(salts.seen) > turns)
     assert turned, "its log began anew while a copy was made"
-    since = time.time()
-    wait_until("a standby", lambda: moment_of(f"{folder}/standby") > since)
     for it in (*senders, salts):
         it.end()
-    since = time.time()
-    wait_until("all of it", lambda: moment_of(f"{folder}/standby") > since)
-    follower.send(signal.SIGTERM)
-    assert follower.ends() == 0
-    assert count_in(os.path.realpath(f"{folder}/standby/farm.db")) == farm.look("/status")["count"]
 
 
 def count_in(db: str) -> int:

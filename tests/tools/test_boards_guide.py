@@ -1,37 +1,39 @@
 """docs/boards.md: each file and each command of it, the hardware aside; its emulated board by a real qemu."""
 from __future__ import annotations
 
-import configparser
-import glob
 import gzip
 import json
 import os
 import re
-import shlex
 import shutil
 import socket
 import subprocess
 import time
 from typing import Any, Dict, Iterator, List
 
-import access_lab
 import pytest
-from access_lab import PYTHON, Lab, until
+
+import access_lab
+from access_lab import UNITS, Lab, lab_fixture, until
 from farm_access import site
 from fizgruk import toml_text
+from kernels import kernel
 from ports import free_port
-from served import STARTED, TOOLS, TOP, Farm, wait_until
-from test_access_jobs import BOOTS, DEVICE, LAVA, ended, labgrid_of, log_of
+from served import STARTED, TOOLS, TOP, wait_until
+from test_access_desk import begun, desk
+from test_access_jobs import LAVA, drive, labgrid_of
 from test_boards_run import wants_way
 from wants import wants
 
-pytestmark = [pytest.mark.xdist_group("access"), pytest.mark.slow(90)]
+__all__ = ["lab_fixture"]
+pytestmark = [pytest.mark.xdist_group("machine"), pytest.mark.slow(90)]
 GUIDE = os.path.join(TOP, "docs/boards.md")
+BOOTS = 540.0  # seconds for a board that boots, an emulated one beside a load too: some 30 on an idle machine
+PYTHON = "/usr/bin/python3"
 # What changes the machine, or wants its hardware: tests/program/package.sh and packaging/ install the package, and the
 # rest is what each Debian has.
 NOT_HERE = (
-    "apt-get install ", "install -d -o root -g board ", "install -m 644 ann.pub ", "systemctl ", "udevadm control ", "chown -R ",
-    "farm-access check bbb-1", "farm-access check rpi-1",
+    "apt-get install ", "install -m 644 ann.pub ", "systemctl ", "udevadm control ", "farm-access check bbb-1", "farm-access check rpi-1",
 )
 # What the tests here run, by what runs it.
 RUN_HERE = {
@@ -42,11 +44,8 @@ RUN_HERE = {
     "desk power bbb-1 cycle": "test_desk_takes_the_guide_s_words",
     "desk ssh bbb-1 uname -a": "test_desk_takes_the_guide_s_words",
     "desk console --reserve virtual": "test_an_emulated_board_from_reserve_to_its_prompt",
-    "nft add table inet boards": "test_the_firewall_takes_its_rules",
-    "nft 'add chain inet boards out { type filter hook output priority 0; }'": "test_the_firewall_takes_its_rules",
-    "nft 'add rule inet boards out oif lo tcp dport { 782, 7820-7835 } meta skuid != { 0, board } drop'":
-        "test_the_firewall_takes_its_rules",
-    "nft 'add rule inet boards out oif lo tcp dport 16421 meta skuid != { 0, board } drop'": "test_the_firewall_takes_its_rules",
+    "farm-access way b1 console": "test_jobs_go_by_the_guide_s_words",
+    "farm-access way b1 power cycle": "test_jobs_go_by_the_guide_s_words",
 }
 INIT = """\
 #!/bin/busybox sh
@@ -114,10 +113,11 @@ def test_the_ways_of_the_guide_s_boards(tmp_path: Any) -> None:
         ways[name] = found.ways_of(name, tags)
         lacking = [it for it, way in ways[name].items() if site.lacks(way)]
         assert lacking == (["tcp"] if name == "virt-1" else []), name
-    assert ways["bbb-1"]["console"] == {"unix": "/run/ser2net/bbb-1"}
+    assert ways["bbb-1"]["console"] == {"device": "/dev/boards/bbb-1"}
+    assert ways["bbb-1"]["devices"] == ["/dev/boards/bbb-1-relay"]
     assert ways["bbb-1"]["power"]["off"] == ["/usr/bin/usbrelay", "BITFT_1=0"] == ways["bbb-1"]["after"]
     assert ways["rpi-1"]["power"] == {"pdudaemon": "http://127.0.0.1:16421", "host": "bench", "port": "3"}
-    assert ways["virt-1"]["console"] == {"unix": "/run/qemu/virt-1.console"}
+    assert ways["virt-1"]["console"] == {"unix": "/run/qemu-virt-1/console"}
 
 
 def test_the_desk_takes_the_guide_s_lab_file(program: str, tmp_path: Any) -> None:
@@ -128,21 +128,9 @@ def test_the_desk_takes_the_guide_s_lab_file(program: str, tmp_path: Any) -> Non
     assert ran.stdout == "accepted 6, kept 0\n"
 
 
-def test_ser2net_takes_its_file_and_nobody_else_gets_to_the_socket(tmp_path: Any) -> None:
-    wants("ser2net")
-    device, other = os.openpty()
-    text = blocks("yaml")[0].replace("/dev/boards/bbb-1", os.ttyname(other)).replace("/run/ser2net", str(tmp_path))
-    (tmp_path / "ser2net.yaml").write_text(text)
-    words = ["ser2net", "-n", "-u", "-c", str(tmp_path / "ser2net.yaml")]
-    process = subprocess.Popen(words, stdout=subprocess.DEVNULL, stderr=subprocess.DEVNULL)
-    STARTED.append(process)
-    line_of = tmp_path / "bbb-1"
-    wait_until("the console's socket", line_of.exists)
-    wait_until("its mode, which it gets a moment later", lambda: line_of.stat().st_mode & 0o777 == 0o660)
-    with socket.socket(socket.AF_UNIX) as line:
-        wait_until("that it listens", lambda: line.connect_ex(str(line_of)) == 0)
-        line.sendall(b"typed")
-        assert os.read(device, 5) == b"typed"
+def answers(port: int) -> bool:
+    with socket.socket() as line:
+        return line.connect_ex(("127.0.0.1", port)) == 0
 
 
 def test_pdudaemon_takes_its_file(tmp_path: Any) -> None:
@@ -152,7 +140,7 @@ def test_pdudaemon_takes_its_file(tmp_path: Any) -> None:
     (tmp_path / "pdudaemon.conf").write_text(json.dumps(told))
     process = subprocess.Popen(["pdudaemon", "--conf", str(tmp_path / "pdudaemon.conf")], stderr=subprocess.DEVNULL)
     STARTED.append(process)
-    wait_until("pdudaemon", lambda: access_lab.answers(f"127.0.0.1:{told['daemon']['port']}"))
+    wait_until("pdudaemon", lambda: answers(told["daemon"]["port"]))
     assert process.poll() is None
 
 
@@ -165,71 +153,63 @@ def test_udev_s_rules_have_known_keys() -> None:
         assert all(rule.fullmatch(it) for it in line.split(", ")), line
 
 
-def test_the_firewall_takes_its_rules() -> None:
-    wants("nft")
-    mine = [re.sub(r"^nft '?|'$", "", it) for it in commands() if it.startswith("nft ")]
-    rules = "\n".join(mine).replace("{ 0, board }", "{ 0, 64321 }")
-    ran = subprocess.run(["nft", "-c", "-f", "-"], input=rules, capture_output=True, text=True, check=False)
-    if "Operation not permitted" in ran.stderr or "cache initialization failed" in ran.stderr:
-        pytest.skip("nft may not ask the kernel here, which no package gives")
-    assert (ran.returncode, ran.stderr) == (0, "")
+def test_the_firewall_takes_its_rules(lab: Lab) -> None:
+    """Behind those of the package."""
+    lab.machine.write("/etc/farm/port.d/boards.nft", blocks("nft")[0])
+    lab.machine.run("systemctl", "reload", "farm-port")
+    ruled = lab.machine.run("nft", "list", "table", "inet", "farm_boards").stdout
+    lab.machine.run("rm", "/etc/farm/port.d/boards.nft")
+    lab.machine.run("systemctl", "reload", "farm-port")
+    assert "192.168.7.0/24" in ruled and "16421" in ruled
 
 
 def test_units_are_as_systemd_reads_them(tmp_path: Any) -> None:
     wants("systemd-analyze")
-    unit, more, guard = blocks("ini")
-    (tmp_path / "virt@.service").write_text(unit.replace("User=board\n", ""))
+    (unit,) = blocks("ini")
+    (tmp_path / "virt@.service").write_text(unit.replace("Group=farm-hold\n", ""))
     (tmp_path / "virt@virt-1.service").symlink_to(tmp_path / "virt@.service")
-    ran = subprocess.run(
-        ["systemd-analyze", "--man=no", "verify", str(tmp_path / "virt@virt-1.service")], capture_output=True, text=True, check=False)
+    words = ["systemd-analyze", "--man=no", "verify", str(tmp_path / "virt@virt-1.service")]
+    ran = subprocess.run(words, capture_output=True, text=True, check=False)
     assert "virt@" not in ran.stderr, ran.stderr
-    read = configparser.ConfigParser(strict=False)
-    read.read_string(more)
-    words = read["Service"]["ExecStart"]
-    access = "/usr/bin/farm-access run --"
-    assert guard == "[Service]\nCapabilityBoundingSet=CAP_KILL\nAmbientCapabilities=CAP_KILL\n"
-    assert words == f'/usr/bin/farm-dispatch --cage cgroup --check "{access} /etc/farm/check-board" {access} /etc/farm/run-job'
+
+
+def test_jobs_go_by_the_guide_s_words(lab: Lab) -> None:
+    number = lab.submit("b1")
+    for it in commands():
+        if it.startswith("farm-access way"):
+            assert lab.try_words(lab.job(number, *it.split()), said=b"").status == 0, it
 
 
 # ---- the emulated board
 
 
-@pytest.fixture(scope="module")
-def lab(program: str, tmp_path_factory: pytest.TempPathFactory) -> Iterator[Lab]:
-    """A lab with the guide's access.toml, in its own places, and an emulated board."""
+@pytest.fixture(name="virtual")
+def virtual_fixture(lab: Lab, tmp_path_factory: pytest.TempPathFactory) -> Iterator[Lab]:
+    """The lab with the guide's access.toml, and an emulated board of its own as the guide has it."""
     wants("qemu-system-x86_64", "busybox", "cpio")
-
-    def farm(boards: Any) -> Farm:
-        made = Farm(program, str(tmp_path_factory.mktemp("farm")), boards)
-        made.tell("admin", "/types", {"name": "virtual"})
-        made.tell("admin", "/boards", {"name": "virt-1", "type": "virtual", "tags": ["virtual"]})
-        made.tell("admin", "/boards/virt-1/health", {"health": "Good"})
-        return made
-
-    port = str(free_port())
-    text = blocks("toml")[0].replace('"old-*"', '"b1"').replace('"782"', f'"{port}"')
-    text = text.replace("/run/qemu", "PLACE").replace("/run/ser2net/{board}", "PLACE/{board}.socket")
-    text = text.replace("/usr/local/bin/qemu-power", os.path.join(TOP, "examples/qemu-power"))
-    ways = text.replace("{", "{{").replace("}", "}}").replace("PLACE", "{place}")
-    made = access_lab.make(farm, ways=ways)
-    made.conserver = port
-    make_board(made, str(tmp_path_factory.mktemp("virt")))
-    key = made.path("people", "ann")
-    made.write("ssh.conf", f"IdentityFile {key}\nIdentitiesOnly yes\nStrictHostKeyChecking no\nLogLevel ERROR\n"
-               f"UserKnownHostsFile {made.path('home', 'known')}\n")
-    os.mkdir(made.path("bin"))
-    made.write("bin/ssh", f'#!/bin/sh\nexec /usr/bin/ssh -F {made.path("ssh.conf")} "$@"\n')
-    os.chmod(made.path("bin", "ssh"), 0o755)
-    yield made
-    made.end()
+    machine = lab.machine
+    if "virt-1" not in [it["name"] for it in lab.look("/boards")["boards"]]:
+        lab.tell("admin", "/types", {"name": "virtual"})
+        lab.tell("admin", "/boards", {"name": "virt-1", "type": "virtual", "tags": ["virtual"]})
+        lab.tell("admin", "/boards/virt-1/health", {"health": "Good"})
+        machine.run("mkdir", "-p", "/srv/virt")
+        make_images(str(tmp_path_factory.mktemp("virt")), lab.there("/srv/virt"))
+        with open(os.path.join(TOP, "examples/qemu-power"), encoding="utf-8") as file:
+            machine.write("/usr/local/bin/qemu-power", file.read(), 0o755)
+        machine.write("/etc/systemd/system/virt@.service", blocks("ini")[0])
+    machine.write("/etc/farm/access.toml", blocks("toml")[0])
+    machine.run("systemctl", "daemon-reload")
+    machine.run("systemctl", "restart", *UNITS, "virt@virt-1")
+    machine.wait("its console", "ls", "/run/qemu-virt-1/qmp")
+    yield lab
+    machine.run("systemctl", "stop", "virt@virt-1")
+    machine.write("/etc/farm/access.toml", access_lab.WAYS)
+    machine.run("systemctl", "restart", *UNITS)
 
 
-def make_board(lab: Lab, folder: str) -> None:
-    """Starts qemu as the guide's unit does."""
-    kernels = [it for it in sorted(glob.glob("/boot/vmlinuz-*")) if os.access(it, os.R_OK)]
-    if not kernels:
-        pytest.skip("there is no kernel in /boot that may be read")
-    shutil.copy(kernels[-1], lab.path("kernel"))
+def make_images(folder: str, to: str) -> None:
+    """A kernel, and an initramfs with busybox's shell."""
+    shutil.copy(kernel(), os.path.join(to, "kernel"))
     for name in ("bin", "proc", "sys", "dev"):
         os.makedirs(os.path.join(folder, name))
     shutil.copy(str(shutil.which("busybox")), os.path.join(folder, "bin"))
@@ -238,70 +218,29 @@ def make_board(lab: Lab, folder: str) -> None:
     os.chmod(os.path.join(folder, "init"), 0o755)
     names = "".join(f"{it}\n" for it in ("init", "bin", "bin/busybox", "proc", "sys", "dev"))
     packed = subprocess.run(["cpio", "-o", "-H", "newc", "--quiet"], input=names.encode(), cwd=folder, check=True, capture_output=True)
-    with gzip.open(lab.path("initramfs"), "wb") as zipped:
+    with gzip.open(os.path.join(to, "initramfs"), "wb") as zipped:
         zipped.write(packed.stdout)
     for name in ("kernel", "initramfs"):
-        os.chmod(lab.path(name), 0o644)
-    words = re.search("^ExecStart=(.*)$", blocks("ini")[0], re.MULTILINE)
-    assert words
-    told = words[1].replace("/srv/virt", lab.place).replace("/run/qemu", lab.place).replace("%i", "virt-1")
-    lab.start("virt-1", *shlex.split(told))
-    sockets = [lab.path(f"virt-1.{it}") for it in ("qmp", "console")]
-    wait_until("qemu's sockets", lambda: all(os.path.exists(it) for it in sockets))
+        os.chmod(os.path.join(to, name), 0o644)
 
 
-def desk(lab: Lab, *words: str) -> List[str]:
-    access = f"ssh://{lab.account()}@127.0.0.1:{lab.port}"
-    around = [f"PATH={lab.path('bin')}:/usr/bin:/bin", f"DESK_ACCESS={access}", "XDG_CONFIG_HOME=/nowhere"]
-    command = [PYTHON, os.path.join(TOOLS, "desk"), "--server", lab.farm.server, "--user", "ann", *words]
-    return lab.as_board("env", *around, *command)
-
-
-def test_check_says_of_each_board_which_way_answers(lab: Lab) -> None:
-    """b1 and b2 are no boards of the guide's: they have its consoles, and b2 has none."""
-    ran = lab.try_words([*lab.access.split(), "check"])
+def test_check_says_of_each_board_which_way_answers(virtual: Lab) -> None:
+    """b1 is no board of the guide's: it has its consoles."""
+    ran = virtual.try_words(["farm-access", "check", "virt-1", "b1"])
     said = ran.output.decode().splitlines()
     assert ran.status == 1
-    assert "virt-1 console: answers" in said and "virt-1 power: answers" in said
+    assert "virt-1 console: answers" in said and "virt-1 power: answers" in said and "virt-1 devices: answers" in said, said
     assert "virt-1 tcp: it has no tag address=.." in said
     assert "b1 console: answers" in said
-    assert any(it.startswith("b2 console: ") and "No such file" in it for it in said)
 
 
-def test_conserver_s_client_is_a_way_and_its_escapes_are_no_shell(lab: Lab) -> None:
-    """The client ends with the hold, and runs nothing for who is at it."""
-    wants("conserver", "console")
-    text = blocks("conserver")[0].replace("old-1", "b1").replace("/dev/boards/b1", lab.path("b1.tty"))
-    lab.write("conserver.cf", text.replace("/var/log/conserver", lab.path("home")).replace("7820", str(free_port())))
-    lab.write("conserver.passwd", "")
-    files = ["-C", lab.path("conserver.cf"), "-P", lab.path("conserver.passwd"), "-U", lab.path("home", "pid")]
-    lab.start("conserver", "conserver", *files, "-p", lab.conserver, "-M", "127.0.0.1")
-    wait_until("conserver", lambda: access_lab.answers(f"127.0.0.1:{lab.conserver}"))
-    held = lab.reserve("ann", "b1")
-    line = lab.begin("ann", "b1", "conserver")
-    assert line.stdin and line.stdout
-    made = lab.path("home", "made")
-    line.stdin.write(b"typed" + f"\x05c|touch {made}\n".encode())
-    line.stdin.flush()
-    until(lambda: b"typed" in lab.text("b1"))
-    assert b"typed" in lab.text("b1"), lab.said("conserver")
-    time.sleep(2)
-    lab.cancel("ann", held)
-    assert line.wait(60) == 6
-    said = line.stdout.read()
-    assert b"typed" in said and not os.path.exists(made), said
-    until(lambda: not lab.pids_of(lab.conserver, "/usr/bin/console"))
-    assert not lab.sessions()
-
-
-def test_an_emulated_board_from_reserve_to_its_prompt(lab: Lab, capsys: pytest.CaptureFixture[str]) -> None:
+def test_an_emulated_board_from_reserve_to_its_prompt(virtual: Lab, capsys: pytest.CaptureFixture[str]) -> None:
     since = time.monotonic()
-    words = desk(lab, "console", "--reserve", "virtual")
-    line = subprocess.Popen(words, stdin=subprocess.PIPE, stdout=subprocess.PIPE, stderr=subprocess.DEVNULL)
-    STARTED.append(line)
+    lab = virtual
+    line = begun(lab, "console", "--reserve", "virtual")
     assert line.stdin and line.stdout
-    until(lambda: lab.tell("dispatcher", "/pass") and lab.farm.board("virt-1")["state"] == "Running")
-    assert subprocess.run(desk(lab, "power", "virt-1", "on"), capture_output=True, check=False).returncode == 0
+    until(lambda: lab.tell("dispatcher", "/pass") and lab.board("virt-1")["state"] == "Running")
+    assert desk(lab, "power", "virt-1", "on").status == 0
     os.set_blocking(line.stdout.fileno(), False)
     said = b""
 
@@ -319,24 +258,17 @@ def test_an_emulated_board_from_reserve_to_its_prompt(lab: Lab, capsys: pytest.C
     assert b"\n42" in said, said[-300:]
     with capsys.disabled():
         print(f" [prompt {time.monotonic() - since:.1f} s after desk console, {took:.1f} s of them of the board]", end="")
-    status = subprocess.run(desk(lab, "power", "virt-1", "status"), capture_output=True, check=False)
-    assert status.stdout == b"on\n"
-    line.terminate()
+    assert desk(lab, "power", "virt-1", "status").output == b"on\n"
+    lab.machine.run("pkill", "-TERM", "-f", "desk .*--reserve")
     line.wait(100)
-    until(lambda: lab.farm.board("virt-1")["holder"] == "none")
-    assert lab.farm.board("virt-1")["holder"] == "none"
+    until(lambda: lab.board("virt-1")["holder"] == "none")
+    assert lab.board("virt-1")["holder"] == "none"
 
 
 @pytest.mark.parametrize("way", DRIVERS)
-def test_what_drives_boards_boots_an_emulated_one_by_its_ways(lab: Lab, way: str) -> None:
+def test_what_drives_boards_boots_an_emulated_one_by_its_ways(virtual: Lab, way: str) -> None:
     wants_way(way)
-    if "dispatch" not in lab.parts:
-        lab.write("device.yaml", DEVICE)
-        lab.dispatch()
-    run = f"exec {TOP}/examples/run-job-{way} --ways {lab.place}"
-    number = lab.farm.submit(run, "virtual", more=f"tags = ['name=virt-1']\n{DRIVERS[way]}")
-    assert ended(lab, number) == "Complete", log_of(lab, number)
-    assert "the-board# " in log_of(lab, number)
+    assert "the-board# " in drive(virtual, "virt-1", way, DRIVERS[way], of="virtual")[1]
     if way == "lava":  # (which switches it off at its end)
-        words = [PYTHON, os.path.join(TOP, "examples/qemu-power"), lab.path("virt-1.qmp"), "status"]
-        assert lab.try_words(words).output == b"off\n"
+        words = [PYTHON, "/usr/local/bin/qemu-power", "/run/qemu-virt-1/qmp", "status"]
+        assert virtual.try_words(words).output == b"off\n"

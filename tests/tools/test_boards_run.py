@@ -1,8 +1,8 @@
 """farm-dispatch runs jobs on a board that boots, by labgrid and by LAVA's dispatcher.
 
-The board is emulated: qemu, a kernel of Debian's, and an initramfs with busybox's shell. The kernel is
-the newest that may be read in /boot, or the one named by FARM_TEST_KERNEL. lava-run works as root alone,
-and keeps what jobs deploy in one folder of the machine, below which each dispatcher has names of its own.
+The board is emulated: qemu, a kernel (kernels.py), and an initramfs with busybox's shell. The dispatcher is the one by hand,
+without units. lava-run works as root alone, and keeps what jobs deploy in one folder of the machine, below which each job
+has a name of its own.
 """
 from __future__ import annotations
 
@@ -20,6 +20,7 @@ from typing import Callable, Dict, Iterator, List, NamedTuple, Tuple
 
 import pytest
 
+from kernels import kernel
 from served import TOP, Farm, Tool, read, wait_until
 from wants import DEBIANS, lacks, wants
 
@@ -121,21 +122,12 @@ def write(file: str, text: str, mode: int = 0o644) -> None:
     os.chmod(file, mode)
 
 
-def kernel_of_this_machine() -> str:
-    named = os.environ.get("FARM_TEST_KERNEL")
-    found = [named] if named else sorted(glob.glob("/boot/vmlinuz-*"))
-    readable = [it for it in found if os.access(it, os.R_OK)]
-    if not readable:
-        pytest.skip("there is no kernel that may be read, in /boot or named by FARM_TEST_KERNEL")
-    return readable[-1]
-
-
 class Board:
     """What the emulated board is made of."""
 
     def __init__(self, folder: str):
         wants("qemu-system-x86_64", "busybox", "cpio")
-        self.kernel = kernel_of_this_machine()
+        self.kernel = kernel()
         self.initramfs = os.path.join(folder, "initramfs.gz")
         self.qemu, busybox = (str(shutil.which(it)) for it in ("qemu-system-x86_64", "busybox"))
         # of its own, by which its processes are found
@@ -266,9 +258,18 @@ class Lab:
         whole = f"job_name = 'boots'\ndevice_type = 'qemu'\n{text}[timeouts]\njob = '15 minutes'\n"
         assert self.farm.tell("ann", "/jobs", whole.encode())["number"] == 1
 
-    def said(self, name: str) -> str:
-        """What is in a file of the job."""
-        return read(os.path.join(self.folder, "jobs", "1", name))
+    def log(self) -> str:
+        return read(os.path.join(self.folder, "logs", "1"))
+
+    def place(self) -> str:
+        """The job's folder, while it is there."""
+        (found,) = glob.glob(os.path.join(self.folder, "jobs", "farm-job-*-1-*", "work"))
+        return found
+
+    def is_up(self) -> bool:
+        """Whether the console says so, in the log or in labgrid's file, while the job runs."""
+        files = glob.glob(os.path.join(self.folder, "jobs", "*", "work", "out", "console_*"))
+        return any("the board is up" in text for text in (self.log(), *map(read, files)))
 
     def ends(self) -> str:
         """The job's result, once it has ended and no emulator runs."""
@@ -294,9 +295,9 @@ def test_result(what: str, way: str, lab: Lab, folder: str) -> None:
     without what a terminal alone reads."""
     job = WAYS[way].jobs(lab.board, os.path.join(folder, "gone"))[what]
     lab.submit(job.text)
-    assert lab.ends() == job.result, lab.said("log")
-    assert job.line in lab.said("log")
-    assert "\x1b" not in lab.said("log")
+    assert lab.ends() == job.result, lab.log()
+    assert job.line in lab.log()
+    assert "\x1b" not in lab.log()
 
 
 @pytest.mark.slow(40)
@@ -305,13 +306,13 @@ def test_result(what: str, way: str, lab: Lab, folder: str) -> None:
 def test_cancel(way: str, lab: Lab, folder: str) -> None:
     """A cancel while the board is up ends the emulator, and needs no grace."""
     lab.submit(WAYS[way].jobs(lab.board, os.path.join(folder, "gone"))["stays"].text)
-    wait_until("the board is up", lambda: "the board is up" in lab.said("console_main") + lab.said("log"), 600)
+    wait_until("the board is up", lab.is_up, 600)
     assert len(lab.board.processes()) == 1
     if way == "lava":
-        assert deployed_in(os.path.join(lab.folder, "jobs", "1")) == 1
+        assert deployed_in(lab.place()) == 1
     lab.farm.tell("ann", "/jobs/1/cancel")
     assert lab.ends() == "Canceled"
-    assert "SIGKILL" not in lab.said("log")
+    assert "SIGKILL" not in lab.log()
     lab.dispatcher.send(signal.SIGTERM)
     assert lab.dispatcher.ends() == 0
 
@@ -319,16 +320,16 @@ def test_cancel(way: str, lab: Lab, folder: str) -> None:
 def deployed_in(folder: str) -> int:
     """How many folders of the machine are those that LAVA uses for the job of a folder."""
     prefix = read(os.path.join(folder, "dispatcher.yaml")).split(": ")[1].strip()
-    return os.listdir("/var/lib/lava/dispatcher/tmp").count(f"{prefix}{os.path.basename(folder)}")
+    return os.listdir("/var/lib/lava/dispatcher/tmp").count(f"{prefix}1")
 
 
 @pytest.mark.usefixtures("debians_python")
 def test_lava_folders(folder: str) -> None:
-    """Jobs of one number have a folder each below LAVA's where their dispatchers have a folder each."""
+    """Jobs of one number, as of two desks at one machine, have a folder each below LAVA's, whether they are units or not."""
     prefix_of = runpy.run_path(os.path.join(TOP, "examples", "run-job-lava"))["prefix_of"]
-    prefixes = {prefix_of(os.path.join(folder, it, "jobs", "1")) for it in ("berlin", "paris")}
-    assert len(prefixes) == 2
-    assert prefix_of(os.path.join(folder, "berlin", "jobs", "2")) in prefixes
+    units = (f"farm-job-{it}-1-{it}" for it in ("ab12", "cd34"))
+    places = [place for it in units for place in (f"{folder}/{it}", f"{folder}/jobs/{it}/work")]
+    assert len({prefix_of(it) for it in places}) == 4
 
 
 # ---- health checks
@@ -376,9 +377,9 @@ def test_check(
     farm.tell("admin", "/boards/q1/health", {"health": "Unknown"})
     lab = Lab(way, board, farm, start_tool, folder)
     wait_until("the check ends", lambda: farm.board("q1")["health"] != "Unknown", 900)
-    assert farm.board("q1")["health"] == health, lab.said("log")
+    assert farm.board("q1")["health"] == health, lab.log()
     assert lab.ends() == ("Complete" if health == "Good" else "Incomplete")
-    assert health == "Good" or DEAD[way] in lab.said("log")
+    assert health == "Good" or DEAD[way] in lab.log()
     seen = f'"to":"{health}"'
     wait_until("the history has it", lambda: seen in read(os.path.join(lab.folder, "history.jsonl")))
 
@@ -429,7 +430,7 @@ def test_no_ways_without_farm_access(way: str, text: str, folder: str) -> None:
 
 @pytest.mark.usefixtures("debians_python")
 def test_lava_has_a_board_s_ways_in_the_place_of_its_device_s_own(folder: str, monkeypatch: pytest.MonkeyPatch) -> None:
-    monkeypatch.setenv("FARM_WAY", "farm-access way")
+    monkeypatch.setattr("shutil.which", lambda _: "/usr/bin/farm-access")
     other = {"connect": "telnet lab 7002", "tags": ["logs"]}
     connections = {"uart0": {"connect": "telnet lab 7001", "tags": ["primary", "telnet"]}, "uart1": other}
     device = os.path.join(folder, "of_lab.yaml")

@@ -23,28 +23,28 @@ import pytest
 from desks import (
     BOARDS, DESK, GROUP, JOB, around, at_a_terminal, at_ease, desk, number_of, passes, prints, waiting_tool, waits, write,
 )
-from fizgruk.desk import main as client
 from ports import free_port
 from served import LIBRARY, PATIENCE, Farm, Tool, environment, wait_until
 
 HEAD = "NAME TYPE HEALTH STATE HOLDER CHECKED TAGS\n"
 COLLECTING = """\
-NUMBER GROUP KIND     STATE      RESULT BOARD TYPE ROLE PRIORITY OWNER TAGS
-     2     2 ordinary Scheduling -      b2    bbb  a          50 ann
-     3     2 ordinary Submitted  -      -     bbb  a          50 ann
+NUMBER GROUP KIND     STATE      RESULT BOARD TYPE ROLE PRIORITY OWNER TAGS BEGAN TOOK NAME REASON
+     2     2 ordinary Scheduling -      b2    bbb  a          50 ann   -    -     -    two  {0}
+     3     2 ordinary Submitted  -      -     bbb  a          50 ann   -    -     -    -    {0}
 """
+WHY = "place 1 of 1 in the queue: collects boards; 2 boards fit: 2 held (job 1 of ann, job 2 of ann)"
 DROPPED = """\
 import os, signal
-from fizgruk._tools import interrupts
+from fizgruk._tools import service
 class Ends:
     def __del__(self):
         os.kill(os.getpid(), signal.SIGHUP)
         os.getpid()
-interrupts.catch_signals()
+service.catch_signals()
 Ends()
 try:
-    interrupts.check()
-except interrupts.Interrupted as it:
+    service.check()
+except service.Interrupted as it:
     print(it.status)
 """
 
@@ -59,10 +59,10 @@ def farm(make_farm: Callable[..., Farm]) -> Farm:
 
 @pytest.mark.parametrize("tags, rows", [
     ([], "b1   bbb  Good   Idle  -      -       hdmi serial\n"
-         "b2   bbb  Good   Idle  -      -       serial\nc1   ccc  Good   Idle  -      -\n"),
+         "b2   bbb  Good   Idle  -      -       serial\nc1   ccc  Good   Idle  -      -       -\n"),
     (["hdmi"], "b1   bbb  Good   Idle  -      -       hdmi serial\n"),
     (["serial", "hdmi"], "b1   bbb  Good   Idle  -      -       hdmi serial\n"),
-    (["name=c1"], "c1   ccc  Good   Idle  -      -\n"),
+    (["ccc"], "c1   ccc  Good   Idle  -      -       -\n"),
     (["name=c1", "hdmi"], ""),
 ])
 def test_boards_are_shown_all_or_by_their_tags(farm: Farm, tags: Sequence[str], rows: str) -> None:
@@ -82,7 +82,7 @@ def test_types_are_shown_with_their_checks_and_boards_with_their_last_one(make_f
     farm.tell("dispatcher", "/jobs/1/start")
     farm.tell("dispatcher", "/jobs/1/finish", {"outcome": "Complete"})
     at = time.strftime("%Y-%m-%d %H:%M", time.localtime(farm.board("r1")["last_check"]))
-    assert desk(farm, "boards")[1].splitlines()[1].split() == ["r1", "rpi", "Good", "Idle", "-", *at.split()]
+    assert desk(farm, "boards")[1].splitlines()[1].split() == ["r1", "rpi", "Good", "Idle", "-", *at.split(), "-"]
 
 
 def test_queue_and_jobs_are_shown_as_lines_and_as_json(farm: Farm) -> None:
@@ -92,15 +92,15 @@ def test_queue_and_jobs_are_shown_as_lines_and_as_json(farm: Farm) -> None:
     prints(farm, "2\n", "submit", "-", given=GROUP)
     prints(farm, "4\n", "reserve", "hdmi", "--priority", "high")
     prints(farm, """\
-PLACE NUMBER KIND        PRIORITY BOARDS OWNER TYPE WAITED NAME
-    1      4 reservation      100      1 ann   -    -      -
-    2      1 group             50      1 ann   bbb  -      one
-    3      2 group             50      2 ann   bbb  -      two
+PLACE NUMBER KIND        PRIORITY BOARDS OWNER TYPE WAITED NAME REASON
+    1      4 reservation      100      1 ann   -    -      -    -
+    2      1 group             50      1 ann   bbb  -      one  -
+    3      2 group             50      2 ann   bbb  -      two  -
 """, "queue")
     prints(farm, """\
-NUMBER GROUP KIND     STATE     RESULT BOARD TYPE ROLE PRIORITY OWNER TAGS
-     1     1 ordinary Submitted -      -     bbb  -          50 ann
-     3     2 ordinary Submitted -      -     bbb  a          50 ann
+NUMBER GROUP KIND     STATE     RESULT BOARD TYPE ROLE PRIORITY OWNER TAGS BEGAN TOOK NAME REASON
+     1     1 ordinary Submitted -      -     bbb  -          50 ann   -    -     -    one  place 2 of 3 in the queue
+     3     2 ordinary Submitted -      -     bbb  a          50 ann   -    -     -    -    place 3 of 3 in the queue
 """, "jobs", "1", "3")
     prints(farm, JOB, "jobs", "--text", "1")
     assert json.loads(desk(farm, "jobs", "2", "--json")[1]) == {"jobs": [farm.job(2)]}
@@ -132,9 +132,9 @@ def test_of_the_queue_those_are_shown_that_are_asked_for(farm: Farm) -> None:
     assert places(farm)[1] == "desk: more wait than these 50: --limit\n"
     assert len(json.loads(desk(farm, "queue", "--json")[1])["queue"]) == 54
     last = desk(farm, "queue", "--limit", "60")[1].splitlines()[-1].split()
-    assert (last[0], last[-4:]) == ("54", ["cat", "bbb", "-", "one"])
+    assert (last[0], last[-5:]) == ("54", ["cat", "bbb", "-", "one", "-"])
     kinds = desk(farm, "queue", "--mine", "--limit", "4")[1].splitlines()[-1].split()
-    assert kinds[-4:] == ["bbb", "ccc", "-", "two"]
+    assert kinds[-5:-1] == ["bbb", "ccc", "-", "two"]
 
 
 def test_for_how_long_it_waits_is_what_the_dispatcher_saw(farm: Farm, folder: str) -> None:
@@ -144,7 +144,7 @@ def test_for_how_long_it_waits_is_what_the_dispatcher_saw(farm: Farm, folder: st
     write(folder, "numbers", "".join(f"{it}\n" for it in looks))
     write(folder, "history.jsonl", "")
     said = desk(farm, "--history", folder, "queue")[1].splitlines()[1:]
-    waited = [line.split()[-2] for line in said]
+    waited = [line.split()[-3] for line in said]
     assert waited[::2] == ["-", "-"] and re.fullmatch("0:0[67]:..", waited[1]), "the first look knows of no begin"
 
 
@@ -167,7 +167,7 @@ def test_a_group_that_collects_is_shown_with_the_board_that_it_holds(farm: Farm)
     passes(farm)
     prints(farm, "2\n", "submit", "-", given=GROUP)
     passes(farm)
-    prints(farm, COLLECTING, "jobs", "2", "3")
+    prints(farm, COLLECTING.format(WHY), "jobs", "2", "3")
 
 
 # ---- jobs
@@ -238,14 +238,15 @@ def test_what_is_done_with_a_reservation(farm: Farm) -> None:
     wait_until("a later second", lambda: time.time() >= before - 58)
     prints(farm, "", "extend", "1")
     assert farm.reservation(1)["state"] == "acquired" and farm.reservation(1)["deadline"] > before
-    prints(farm, "", "release", "1")
+    kept = "desk: reservation 1 keeps the board for a minute: desk cancel-reservation 1 ends that at once\n"
+    assert desk(farm, "release", "1") == (0, "", kept)
     assert farm.reservation(1)["state"] == "allocated"
     prints(farm, '{"number":1}\n', "cancel-reservation", "1", "--json")
     assert desk(farm, "extend", "1") == (3, "", f"{wrong} canceled\n")
 
 
 def test_a_reservation_that_is_canceled_meanwhile(farm: Farm, folder: str) -> None:
-    tool = waiting_tool(farm, folder, "reserve", "--wait", "--every", "0.1")
+    tool = waiting_tool(farm, folder, "reserve", "--any", "--wait", "--every", "0.1")
     number = number_of(tool)
     farm.tell("ann", f"/reservations/{number}/cancel")
     assert tool.ends() == 1
@@ -253,7 +254,7 @@ def test_a_reservation_that_is_canceled_meanwhile(farm: Farm, folder: str) -> No
 
 
 def test_a_reservation_that_is_interrupted_is_given_back(farm: Farm, folder: str) -> None:
-    tool = waiting_tool(farm, folder, "reserve", "--wait")
+    tool = waiting_tool(farm, folder, "reserve", "--any", "--wait")
     number = number_of(tool)
     tool.send(signal.SIGTERM)
     assert (tool.ends(), farm.reservation(number)["state"]) == (143, "canceled")
@@ -289,7 +290,7 @@ def test_two_that_wait_for_a_free_board_both_say_that_no_pass_comes(farm: Farm, 
 
 
 def test_on_a_terminal_a_line_tells_the_place_in_the_queue_and_is_cleared(farm: Farm) -> None:
-    process, line = at_a_terminal(farm, "reserve", "--wait", "--every", "0.1")
+    process, line = at_a_terminal(farm, "reserve", "--any", "--wait", "--every", "0.1")
     said = b""
     # (a second may be passed over where the machine stands still)
     while not re.search(rb"in the queue \([1-9][0-9]* s\)", said):
@@ -301,35 +302,23 @@ def test_on_a_terminal_a_line_tells_the_place_in_the_queue_and_is_cleared(farm: 
         while chunk := os.read(line, 4096):
             said += chunk
     os.close(line)
-    assert said.startswith(b"desk: the desk is at %s\r\n1\r\n" % farm.server.encode()) and said.endswith(b"\r\x1b[Jb1\r\n")
+    assert said.startswith(b"1\r\n") and said.endswith(b"\r\x1b[Jb1\r\n")
 
 
-def test_on_a_terminal_it_says_which_desk_is_told_or_refuses_and_not_which_is_asked(farm: Farm) -> None:
-    where, said = f"desk: the desk is at {farm.server}\r\n", []
-    for words in (["cancel", "7"], ["jobs", "7"], ["boards"]):
+def test_which_desk_is_asked_is_told_to_who_wants_to_know(farm: Farm) -> None:
+    """Also before no answer and a refusal; a terminal alone isn't told."""
+    where = f"desk: the desk is at {farm.server}, asked as ann\n"
+    for words, status in (["cancel", "7"], 3), (["boards"], 0):
+        assert where not in desk(farm, *words)[2]
+        ended, _, errors = desk(farm, "-v", *words)
+        assert (ended, errors.startswith(where)) == (status, True)
         process, line = at_a_terminal(farm, *words)
         text = b""
         with contextlib.suppress(OSError):
             while chunk := os.read(line, 4096):
                 text += chunk
         os.close(line)
-        assert process.wait(timeout=PATIENCE) == (0 if words == ["boards"] else 3)
-        said.append(text.decode())
-    assert [(it.count(where), it.startswith(where)) for it in said] == [(1, True), (1, True), (0, False)]
-
-
-@pytest.mark.parametrize("server, told", [("http://127.0.0.1:880", False), ("https://farm.lab.example", True)])
-def test_the_default_desk_isnt_named(
-    server: str, told: bool, monkeypatch: pytest.MonkeyPatch, capsys: pytest.CaptureFixture[str]
-) -> None:
-    where = client.Where()
-    where.server = server
-    where.tell()
-    assert capsys.readouterr().err == "", "no terminal"
-    monkeypatch.setattr(sys.stderr, "isatty", lambda: True)
-    where.tell()
-    where.tell()
-    assert capsys.readouterr().err == (f"desk: the desk is at {server}\n" if told else "")
+        assert process.wait(timeout=PATIENCE) == status and b"the desk is at" not in text
 
 
 def test_a_signal_that_comes_while_python_ends_an_object_interrupts_a_wait_too() -> None:
@@ -420,12 +409,12 @@ def test_what_cant_be_printed_is_told(farm: Farm) -> None:
         with open("/dev/full", "w", encoding="utf-8") as full:
             ran = subprocess.run([sys.executable, DESK, *words], stdout=full, stderr=subprocess.PIPE, env=around(farm),
                                  timeout=120, check=False)
-        assert (ran.returncode, at_ease(ran.stderr.decode())) == (4, "desk: [Errno 28] No space left on device\n")
+        assert (ran.returncode, at_ease(ran.stderr.decode())) == (4, "desk: no space left on device\n")
 
 
 @pytest.mark.parametrize("words, status", [
     ("boards", 0), ("types", 0), ("queue", 0), ("reservations", 0), ("jobs 1", 0), ("jobs", 0), ("usage", 0),
-    ("history b1", 0), ("log 1", 0), ("--help", 0), ("queue --help", 0), ("queue --json", 0), ("reserve", 4),
+    ("history b1", 0), ("log 1", 0), ("--help", 0), ("queue --help", 0), ("queue --json", 0), ("reserve --any", 4),
 ])
 def test_a_reader_that_has_enough_is_no_fault_of_what_is_shown(farm: Farm, folder: str, words: str, status: int) -> None:
     """There is no trace, and Python's own status of an output that can't be written, 120, isn't it either."""
@@ -470,7 +459,7 @@ def through_a_door(
     makes of it."""
     door = socket.create_server(("127.0.0.1", 0))
     door.settimeout(60)
-    tool = start_tool("desk", "reserve", DESK_USER="ann", DESK_SERVER=f"http://127.0.0.1:{door.getsockname()[1]}")
+    tool = start_tool("desk", "reserve", "--any", DESK_USER="ann", DESK_SERVER=f"http://127.0.0.1:{door.getsockname()[1]}")
     keys: Set[bytes] = set()
     for answer in answers:
         client, _ = door.accept()
@@ -528,7 +517,7 @@ def home_of(folder: str, farm: Farm) -> Dict[str, str]:
 
 def owner(farm: Farm, surroundings: Dict[str, str], *words: str) -> str:
     """Who a reservation belongs to that is made so."""
-    words = (sys.executable, DESK, *words, "reserve")
+    words = (sys.executable, DESK, *words, "reserve", "--any")
     ran = subprocess.run(words, env=surroundings, check=True, capture_output=True, text=True)
     return str(farm.reservation(int(ran.stdout))["owner"])
 
@@ -596,12 +585,12 @@ def test_a_password_isnt_sent_without_tls(farm: Farm, folder: str) -> None:
 def test_what_is_refused_has_the_status_3_and_a_line(farm: Farm) -> None:
     assert desk(farm, "jobs", "999") == (3, "", "desk: job 999: refused: 20 no such job\n")
     assert desk(farm, "wait", "999") == (3, "", "desk: refused: 30 no such reservation\n")
-    assert desk(farm, "reserve", "--priority", "101") == (3, "", "desk: refused: 23 bad priority\n")
+    assert desk(farm, "reserve", "--any", "--priority", "101") == (3, "", "desk: refused: 23 bad priority\n")
     assert desk(farm, "submit", "-", given="x")[0] == 3
 
 
 def test_a_file_that_isnt_there_has_the_status_4(farm: Farm, folder: str) -> None:
-    told = f"desk: [Errno 2] No such file or directory: '{folder}/none'\n"
+    told = f"desk: {folder}/none: no such file or directory\n"
     assert desk(farm, "submit", f"{folder}/none") == (4, "", told)
 
 

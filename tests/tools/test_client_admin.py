@@ -112,7 +112,7 @@ def test_bad_words_of_an_admin(words: Sequence[str]) -> None:
     assert desk("http://127.0.0.1:1", *words)[0] == 2
 
 
-# ---- imports (tests/unit/test_lab_file.py has the faults of lab files, without a server)
+# ---- imports (tests/unit/importers/test_lab_file.py has the faults of lab files, without a server)
 
 
 def import_by_program(lab: Farm, file: str) -> str:
@@ -230,7 +230,7 @@ def test_a_lab_file_without_types_and_boards_is_told(lab: Farm, text: str, warni
 
 def test_what_is_no_lab_file(lab: Farm, folder: str) -> None:
     assert desk(lab, "import", "-", given="x", user="")[0] == 3
-    told = f"desk: [Errno 2] No such file or directory: '{folder}/none'\n"
+    told = f"desk: {folder}/none: no such file or directory\n"
     assert admin(lab, "import", f"{folder}/none") == (4, "", told)
 
 
@@ -251,7 +251,7 @@ def test_the_clients_version_is_the_packages(lab: Farm) -> None:
     ("desk add-t", "add-type add-token", "tokens"),
     ("desk ", "log history usage resubmit", ""),
     ("desk usage --by ", "owner board type", ""),
-    ("desk jobs --", "--mine --last --text", "--all"),
+    ("desk jobs --", "--mine --last --limit --text", "--all"),
     ("desk --json ad", "add-type add-board", "queue"),
     ("desk reserve --priority ", "low medium high", "hdmi"),
     ("desk add-type x --check h", "hours", "jobs"),

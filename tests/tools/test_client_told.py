@@ -57,7 +57,7 @@ def test_a_farms_clock_that_is_ahead_is_told_once_a_command(farm: Farm, folder: 
     tell_at(farm, time.time() + 3 * 86400 + 7200, "dispatcher", "/pass")
     told = "desk: the farm's clock is 3 days 1 hour ahead of this machine's: leases won't end until then\n"
     assert telling(farm, "--json", "queue") == (0, '{"queue":[]}\n', told)
-    assert desk(farm, "reserve")[:2] == (0, "1\n")
+    assert desk(farm, "reserve", "--any")[:2] == (0, "1\n")
     tool = waiting_tool(farm, folder, "wait", "1", "--every", "0.1")
     place = "reservation 1 is waiting, place 1 of 1 in the queue\n"
     wait_until("it waits", lambda: place in tool.errors())
@@ -277,7 +277,7 @@ def test_a_board_that_is_to_be_checked_first_is_told(make_farm: Callable[..., Fa
     farm.tell("admin", "/types", {"name": "rpi", "check": "jobs", "every": 20})
     farm.tell("admin", "/boards", {"name": "r1", "type": "rpi"})
     farm.tell("admin", "/boards/r1/health", {"health": "Unknown"})
-    tool = waiting_tool(farm, folder, "reserve", "--wait", "--every", "0.1")
+    tool = waiting_tool(farm, folder, "reserve", "--any", "--wait", "--every", "0.1")
     says(tool, "1 board fits, Unknown until it is checked")
     tool.send(signal.SIGTERM)
     assert tool.ends() == 143
@@ -293,10 +293,10 @@ def test_claims_that_no_boards_can_come_for_are_marked_in_the_queue_and_in_waits
     prints(farm, "3\n", "reserve", "name=b2")
     prints(farm, "4\n", "reserve", "name=c1", "--priority", "low")
     prints(farm, f"""\
-PLACE NUMBER KIND        PRIORITY BOARDS OWNER TYPE WAITED NAME NOTE
+PLACE NUMBER KIND        PRIORITY BOARDS OWNER TYPE WAITED NAME REASON
     1      1 group             50      2 ann   bbb  -      two  collects boards; {lack}
-    2      3 reservation       50      1 ann   -    -      -    no board with name=b2 can come: b2 is in Maintenance
-    3      4 reservation        0      1 ann   -    -      -
+    2      3 reservation       50      1 ann   -    -      -    1 board fits, in Maintenance; none can come
+    3      4 reservation        0      1 ann   -    -      -    -
 """, "queue")
     prints(farm, "", "cancel-reservation", "3")
     farm.tell("admin", "/boards/b2/health", {"health": "Good"})
@@ -393,6 +393,9 @@ def test_a_command_in_the_wrong_state_says_which_and_a_forbidden_one_who_asked(f
     told = "desk: refused: 21 wrong job state: job 1 is Finished (Canceled)\n"
     assert desk(farm, "cancel", "1") == (3, "", told)
     prints(farm, "2\n", "reserve", "hdmi")
+    assert desk(farm, "cancel-reservation", "2", user="bob") == (
+        3, "", "desk: refused: 3 forbidden: asked as bob: reservation 2 is ann's\n"
+    )
     told = "desk: refused: 32 wrong reservation state: reservation 2 is waiting\n"
     assert desk(farm, "release", "2") == (3, "", told)
 

@@ -1,5 +1,5 @@
 """Lab files from places of labgrid, devices of LAVA and boards of a desk: the lab file and the lines of what couldn't
-be carried over, byte by byte, and what the program imports of it. (tests/unit/test_lab_file.py: the limits.)"""
+be carried over, byte by byte, and what the program imports of it. (tests/unit/importers/test_lab_file.py: the limits.)"""
 from __future__ import annotations
 
 import os
@@ -137,7 +137,7 @@ DEVICES = {
     "device-types/beaglebone-black.jinja2": "{% extends 'base-uboot.jinja2' %}\n",
     "health-checks/beaglebone-black.yaml": "job_name: health\n",
     "health-checks/x86.yaml": "job_name: health\n",
-    "tags": "bbb-01 usb hdmi hdmi\ngone a\n\n",
+    "tags": "bbb-01 usb\ngone a\nbbb-01 hdmi hdmi\n\n",
 }
 LAB_OF_DEVICES = """\
 [types.beaglebone-black]
@@ -407,17 +407,6 @@ def test_boards_of_a_desk_become_boards_of_the_next_with_their_tags_and_health(f
     assert import_of(farm.program, os.path.join(copy, "farm.db"), own) == "accepted 1, kept 5\n"
     farm.start()
     assert refused(run(*words)) == (0, 0)
-    words += ["--set-health", lab]
-    for _ in range(2):
-        assert run(*words) == (0, "b1 Good\nr.1 Unknown\n", "")
-    healths = [(it["name"], it["health"]) for it in farm.look("/boards")["boards"]]
-    assert healths == [("b1", "Good"), ("b2", "Maintenance"), ("r.1", "Unknown")]
-    assert refused(run(*words, "--user", "ann")) == (3, 1)
-
-
-def test_a_lab_file_without_health_gives_none(farm: Farm, folder: str) -> None:
-    lab = write(folder, "lab.toml", LAB_OF_PLACES)
-    assert refused(run("farm-from-desk", "--server", farm.server, "--set-health", lab)) == (4, 1)
 
 
 def test_the_labs_own_file_beside_a_desk(farm: Farm, folder: str) -> None:
@@ -450,8 +439,7 @@ def test_a_farm_whose_clock_ran_ahead_is_told_of_and_its_boards_begin_the_next_o
     assert run(*words, "--output", lab) == (1, "", notes(words[0], told))
     before = int(time.time())
     farm = farm_of_import(make_farm, lab, before)
-    words = ["farm-from-desk", "--server", farm.server]
-    assert run(*words, "--set-health", lab) == (0, "b1 Good\n", "")
+    farm.tell("admin", "/boards/b1/health", {"health": "Good"})
     assert before + 60 <= lease_of(farm) <= time.time() + 61
 
 

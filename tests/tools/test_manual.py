@@ -28,7 +28,7 @@ COMMANDS = [
 # The tools and their commands.
 PAGES: Dict[str, List[str]] = {
     "desk.1": COMMANDS,
-    "farm-access.8": ["session", "keys", "guard", "tidy", "run", "check"],
+    "farm-access.8": ["session", "way", "door", "guard", "tidy", "check"],
     "farm-backup.8": [],
     "farm-dispatch.8": [],
     "farm-from-desk.1": [],
@@ -41,8 +41,8 @@ PAGES: Dict[str, List[str]] = {
 # A help of a terminal this wide has lines of a hundred letters.
 WIDE, WIDEST = 300, 100
 # What each command of desk has, and the page says once.
-OF_EACH_COMMAND = {"-h, --help", "--json"}
-OPTION = r"(?:-h, )?--[a-z-]+(?: [A-Z]+| \{[a-z|]+\})?"
+OF_EACH_COMMAND = {"-h, --help", "--json", "--wide"}
+OPTION = r"(?:-[a-z], )?--[a-z-]+(?: [A-Z]+| \{[a-z|]+\})?"
 HELP_ITEM = re.compile(rf"  ({OPTION}|[A-Z]+|\d\S*)(?: +(\S.*))?|    ([a-z][a-z-]*)(?:  +(\S.*))?")
 EACH_PAGE = pytest.mark.parametrize("page", PAGES)
 
@@ -78,12 +78,17 @@ def helps_of(page: str) -> Dict[Tuple[int, Tuple[str, ...]], str]:
     """The helps of a tool and of its commands, in both widths."""
     commands: List[Tuple[str, ...]] = [(), *((it,) for it in PAGES[page])]
     asked = [(columns, it) for columns in (80, WIDE) for it in commands]
-    calls = [({"COLUMNS": str(columns)}, [*command, "--help"]) for columns, command in asked]
+    calls = [({"COLUMNS": str(columns)}, words_of(page, command)) for columns, command in asked]
     found = {}
     for key, (status, said, errors) in zip(asked, calls_in_one(name_of(page), calls)):
         assert (status, errors) == (0, ""), f"{page} {key[1]} --help"
         found[key] = said
     return found
+
+
+def words_of(page: str, command: Sequence[str] = ()) -> List[str]:
+    """By which words all help is printed; `desk --help` is short."""
+    return [*command, "--help"] if page != "desk.1" or command else ["help", "all"]
 
 
 def plain(text: str) -> str:
@@ -146,7 +151,7 @@ def paragraphs_of_page(text: str) -> List[str]:
 
 @EACH_PAGE
 def test_help_is_printed_as_by_a_process_of_its_own(page: str) -> None:
-    alone = run(sys.executable, os.path.join(TOOLS, name_of(page)), "--help", COLUMNS="80")
+    alone = run(sys.executable, os.path.join(TOOLS, name_of(page)), *words_of(page), COLUMNS="80")
     assert (alone.returncode, alone.stdout, alone.stderr) == (0, help_of(page, columns=80), "")
 
 
@@ -184,8 +189,18 @@ def test_synopsis_and_description_are_the_same_in_help_and_the_man_page(page: st
         usage = help_of(page, *words).split("\n\n")[0]
         for form in re.sub(r"\n {8,}", " ", usage).split("\n"):
             form = re.sub(r"^usage: | {7}", "", form)
-            form = form.replace(" [--json]", "") if words else form
+            form = form.replace(" [--json]", "").replace(" [--wide]", "") if words else form
             assert f"{form}\n" in synopsis
+
+
+def test_help_of_desk_is_a_screen_that_names_each_command_in_its_group() -> None:
+    """Also where a word is `help`; what is longer is a command's own, or `desk help all`."""
+    said = [run(sys.executable, os.path.join(TOOLS, "desk"), *words, COLUMNS="80").stdout for words in (["--help"], ["help"])]
+    lines = said[0].splitlines()
+    assert said[0] == said[1] and len(lines) <= 24 and max(map(len, lines)) <= 80
+    groups = [it.partition(":")[2] for it in lines if re.match("[A-Z][a-z ]+: ", it)]
+    assert len(groups) > 3 and sorted(" ".join(groups).split()) == sorted(COMMANDS)
+    assert run(sys.executable, os.path.join(TOOLS, "desk"), "help", "wait").stdout == help_of("desk.1", "wait", columns=80)
 
 
 def test_each_command_of_desk_has_a_text_and_its_options_in_both() -> None:
@@ -269,5 +284,5 @@ def test_no_page_has_a_fault_that_man_warns_of(warner: List[str], page: str) -> 
 @pytest.mark.parametrize("words", [[], *([it] for it in COMMANDS)], ids=" ".join)
 def test_bash_completes_the_options_of_help_and_no_others(words: Sequence[str], folder: str) -> None:
     said = completed(folder, " ".join(["desk", *words, "--"]))
-    options = [re.match(r"(?:-h, )?(--[a-z-]+)", it) for it in items_of_help(help_of("desk.1", *words))]
+    options = [re.match(r"(?:-[a-z], )?(--[a-z-]+)", it) for it in items_of_help(help_of("desk.1", *words))]
     assert said - {"--"} == {it[1] for it in options if it}

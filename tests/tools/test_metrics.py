@@ -62,6 +62,9 @@ fizgruk_boards{health="Maintenance",state="Running",type="ccc"} 0.0
 fizgruk_boards{health="Retired",state="Idle",type="ccc"} 0.0
 fizgruk_boards{health="Retired",state="Reserved",type="ccc"} 0.0
 fizgruk_boards{health="Retired",state="Running",type="ccc"} 0.0
+# HELP fizgruk_board_bad Boards that are Bad.
+# TYPE fizgruk_board_bad gauge
+fizgruk_board_bad{board="b3"} 1.0
 # HELP fizgruk_claims_waiting Claims that wait for boards.
 # TYPE fizgruk_claims_waiting gauge
 fizgruk_claims_waiting{kind="group"} 2.0
@@ -192,6 +195,23 @@ def test_a_small_farms_text_with_a_history_and_passes(small: Farm, folder: str) 
     assert value(text, "fizgruk_last_command_age_seconds") >= 0
 
 
+@pytest.mark.parametrize("workers, shown", [
+    ('[{"name":"rack2","answers":false,"since":5,"reason":"x"},{"name":"desk","answers":true,"since":5}]',
+     ['fizgruk_worker_up{worker="desk"} 1.0', 'fizgruk_worker_up{worker="rack2"} 0.0']),
+    ('[{"name":"a b","answers":true,"since":5},{"name":"r1","answers":1,"since":5},{"name":"r2","since":5},5]', []),
+    ("7", []), ("]", []),
+])
+def test_workers_are_told_as_the_dispatcher_tells_them(stub: str, folder: str, workers: str, shown: List[str]) -> None:
+    """Beside its history; of a file that is none, or isn't there, nothing is told, and that is no fault."""
+    history = write(folder, "history.jsonl", "")
+    write(folder, "workers.json", f'{{"at":9,"workers":{workers}}}')
+    status, said, errors = metrics(stub, "--history", history)
+    assert [it for it in said.splitlines() if it.startswith("fizgruk_worker_up")] == shown
+    assert (status, errors) == (0, "")
+    os.unlink(os.path.join(folder, "workers.json"))
+    assert "fizgruk_worker_up" not in metrics(stub, "--history", history)[1]
+
+
 def test_a_reader_of_prometheus_takes_it(small: Farm, folder: str) -> None:
     """Python's client library reads a text with a history and one without: each metric has its type and its words."""
     wants_modules("prometheus_client")
@@ -270,32 +290,6 @@ def test_a_file_of_passes_that_is_none_is_told(stub: str, folder: str, odd: str)
     status, text, errors = metrics(stub, "--history", f"{folder}/none", "--passes", other)
     assert (status, "pass" in text) == (0, False)
     assert (errors.count("\n"), errors.find("farm-metrics: passes aren't counted: ")) == (1, 0)
-
-
-def test_the_oldest_claims_age_counts_from_when_it_was_seen(make_farm: Made, folder: str) -> None:
-    """Over processes; the age of what is seen for the first time, and where nothing waits, is 0."""
-    farm = make_farm([("b1", "bbb", [])])
-    words = ["--state", f"{folder}/state", "--history", f"{folder}/none"]
-
-    def aged() -> float:
-        return value(metrics(farm.server, *words)[1], AGE)
-
-    assert aged() == 0.0
-    farm.submit("x")
-    assert aged() == 0.0
-    farm.submit("x")
-    wait_until("an age that grows", lambda: aged() >= 1)
-
-
-def test_the_next_farms_claims_are_new_ones(make_farm: Made, folder: str) -> None:
-    """Under numbers that claims of the farm before had, which were seen to wait."""
-    words = ["--state", f"{folder}/state", "--history", f"{folder}/none"]
-    first, following = make_farm([("b1", "bbb", []), ("b2", "bbb", [])]), make_farm([("b1", "bbb", [])])
-    for farm in (first, following):
-        farm.submit("x")
-    assert value(metrics(first.server, *words)[1], AGE) == 0.0
-    wait_until("an age that grows", lambda: value(metrics(first.server, *words)[1], AGE) >= 1)
-    assert value(metrics(following.server, *words)[1], AGE) == 0.0
 
 
 # ---- no desk, and files that can't be used

@@ -99,6 +99,26 @@ def test_no_command_of_labgrids_client_is_left_out_and_none_is_made_up() -> None
     assert theirs - {*commands, "-x", "-p", "LG_CROSSBAR"} == set()
 
 
+def test_the_pages_loop_writes_the_tags_that_lava_has(folder: str) -> None:
+    """With a lavacli that prints tags as the real one does (devices.py, handle_tags)."""
+    loop = PAGE[PAGE.index("    for it in /etc/lava-server"): PAGE.index(" > tags.txt")] + " > tags.txt"
+    os.makedirs(os.path.join(folder, "bin"))
+    os.makedirs(os.path.join(folder, "devices"))
+    for name in ("q1", "q2"):
+        with open(os.path.join(folder, "devices", f"{name}.jinja2"), "w", encoding="utf-8") as device:
+            device.write('{% extends "qemu.jinja2" %}')
+    fake = os.path.join(folder, "bin", "lavacli")
+    with open(fake, "w", encoding="utf-8") as script:
+        script.write('#!/bin/sh\n[ "$*" = "devices tags list --json q1" ] && echo \'["kvm", "usb"]\' || echo "[]"\n')
+    os.chmod(fake, 0o755)
+    script_of = loop.replace("/etc/lava-server/dispatcher-config", folder)
+    path = f"{os.path.dirname(fake)}:{os.environ['PATH']}"
+    subprocess.run(["sh", "-euc", script_of], cwd=folder, check=True, env=environment(PATH=path))
+    words = [sys.executable, os.path.join(TOOLS, "farm-from-lava"), folder, "--tags", os.path.join(folder, "tags.txt")]
+    said = subprocess.run(words, capture_output=True, text=True, check=True, env=environment()).stdout
+    assert re.findall("^tags = .*$", said, re.MULTILINE) == ['tags = ["kvm", "usb"]', "tags = []"]
+
+
 # ---- jobs
 
 

@@ -1,5 +1,5 @@
 """farm-from-desk --next: the turn to the next farm from an edited lab file, what is in its way, and a turn that is
-stopped anywhere. (tests/tools/test_next_units.py: the same under a systemd; tests/unit/test_next_lab.py: the file.)"""
+stopped anywhere. (tests/tools/test_next_units.py: the same under a systemd; tests/unit/importers/test_next_lab.py: the file.)"""
 from __future__ import annotations
 
 import fcntl
@@ -14,7 +14,7 @@ from typing import Callable, Iterator, List, Tuple
 import lab_texts
 import pytest
 from ports import free_port
-from served import MODULES, TOOLS, Asks, environment
+from served import MODULES, TOOLS, Asks, Farm, environment
 from turned import Home
 
 RPI = {"type": "rpi"}
@@ -205,8 +205,8 @@ def test_words_that_go_with_others(words: List[str]) -> None:
 @pytest.mark.slow(60)
 @pytest.mark.timeout(2400)
 def test_a_turn_that_is_killed_before_any_step_is_run_again(lab: Lab) -> None:
-    """At each step the farm under its name is the old one, the next one, or not there, in which case no desk begins; the
-    old one is whole under the old name or the new one. Run again the turn is done, once."""
+    """At each step the farm under its name is the old one or the next one; the old one is whole under the old name or the
+    new one, and no desk opens it under both. Run again the turn is done, once."""
     lab.call("stop")
     words = [":".join(MODULES), lab.folder, lab.program, lab.next, str(lab.port)]
     script = os.path.join(os.path.dirname(os.path.abspath(__file__)), "..", "shared", "turned.py")
@@ -216,19 +216,19 @@ def test_a_turn_that_is_killed_before_any_step_is_run_again(lab: Lab) -> None:
     assert ran.returncode == 0, ran.stdout[-2000:] + ran.stderr[-2000:]
     whole, *rows = [json.loads(it) for it in ran.stdout.splitlines() if it.startswith("{")]
     assert whole["again"] == 0 and len(rows) > 25
-    gone = 0
+    both = 0
     for row in rows:
         assert row["how"] == -signal.SIGKILL, row
         killed = {place: boards for place, (_, boards) in row["killed"].items()}
-        assert killed.get("home") in (None, OLD[1], NEXT), row
-        assert OLD[1] in (killed.get("home"), killed.get("old-1")), row
-        gone += killed.get("home") is None
-        if "home" not in killed:
+        assert killed["home"] in (OLD[1], NEXT), row
+        assert OLD[1] in (killed["home"], killed.get("old-1")), row
+        if killed["home"] == killed.get("old-1"):
+            both += 1
             assert not row.get("served"), row
         assert row["again"] == 0 and row["serves"], row
         assert row["left"] == ["lab.db", "lab.db-wal", "old-1"], row
         assert row["farms"]["old-1"] == [OLD[0], OLD[1]] and row["farms"]["home"][1] == NEXT, row
-    assert gone >= 3
+    assert both >= 3
 
 
 def test_a_turn_that_has_set_the_old_farm_aside_goes_on_with_its_own_file_alone(lab: Lab) -> None:
@@ -264,3 +264,9 @@ def make_step(lab: Lab) -> Callable[[str], None]:
         lab.file("stop", f"#!/bin/sh\nexit {status}\n" if status else usual)
 
     return make
+
+
+def test_a_desk_that_shows_another_labs_boards_is_not_the_next_farms(lab: Lab, make_farm: Callable[..., Farm]) -> None:
+    other = make_farm([("x1", "bbb", []), ("x2", "bbb", [])])
+    status, _, errors = lab.turn("--server", other.server)
+    assert status == 4 and errors[-1].startswith(f"the desk at {other.server} isn't that of {lab.db}")

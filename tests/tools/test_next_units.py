@@ -17,21 +17,19 @@ KILLED = """\
 import os, sys
 sys.path.insert(0, "/usr/local/lib/farm-tools")
 from farm_import import from_desk, turn
-setattr(turn.farm_files, "STEP", lambda *_: os.kill(os.getpid(), 9))
+setattr(turn.stopped, "STEP", lambda *_: os.kill(os.getpid(), 9))
 sys.exit(from_desk.main(sys.argv[1:]))
 """
 
 
 @pytest.fixture(scope="module")
 def lab(program: str, tmp_path_factory: pytest.TempPathFactory) -> Iterator[MachineLab]:
-    """A lab that has a watcher and a standby, too."""
+    """A lab that has a watcher, too."""
     machine = Machine(str(tmp_path_factory.mktemp("machine")), program)
     STARTED.remove(machine.process)
     made = MachineLab(machine)
-    machine.write("/etc/farm/watch.toml", '[webhook]\nurl = "http://127.0.0.1:9/"\n[board]\nbad = true\n')
-    machine.run("sh", "-c", "mkdir -p /mnt/farm-standby && mount -t tmpfs -o uid=farm,gid=farm tmpfs /mnt/farm-standby")
-    machine.run("systemctl", "start", "farm-watch", "farm-standby")
-    machine.wait("a standby", "cat", "/mnt/farm-standby/as-of")
+    machine.write("/etc/farm/watch.toml", '[webhook]\nurl = "http://127.0.0.1:9/"\n[board]\nfree = true\n')
+    machine.run("systemctl", "start", "farm-watch")
     yield made
     machine.end()
 
@@ -43,7 +41,7 @@ def edited(lab: MachineLab, old: str, new: str) -> None:
 
 
 def units(lab: MachineLab) -> List[str]:
-    return [lab.machine.status(it) for it in ("farm", "farm-dispatch", "farm-watch", "farm-standby")]
+    return [lab.machine.status(it) for it in ("farm", "farm-dispatch", "farm-watch")]
 
 
 def boards(lab: MachineLab) -> List[str]:
@@ -67,7 +65,7 @@ def test_the_desk_and_the_dispatcher_begin_again_however_soon(lab: MachineLab) -
     for _ in range(8):
         lab.machine.run("systemctl", "stop", "farm", "farm-dispatch")
         lab.machine.run("systemctl", "start", "farm", "farm-dispatch")
-    assert units(lab) == ["active"] * 4
+    assert units(lab) == ["active"] * 3
     lab.machine.wait("the desk", *lab.machine.curl("root", "/status"))
 
 
@@ -79,14 +77,13 @@ def test_the_turn_in_a_lab_whose_units_run(lab: MachineLab) -> None:
     edited(lab, "b3", "b-three")
     ran = lab.machine.run("farm-from-desk", "--next", FILE, check=False)
     assert ran.returncode == 1 and f"job {number} of ann has it" in ran.stderr
-    assert units(lab) == ["active"] * 4 and boards(lab) == ["b1 Good", "b2 Good", "b3 Good"]
+    assert units(lab) == ["active"] * 3 and boards(lab) == ["b1 Good", "b2 Good", "b3 Good"]
     lab.tell("ann", f"/jobs/{number}/cancel")
     assert lab.finished(number) == "Canceled"
     old = lab.look("/status")["count"]
     ran = lab.machine.run("farm-from-desk", "--next", FILE)
     assert ran.stdout.splitlines()[-1] == f"{HOME}/lab.db is the farm of {FILE}; the old one is in {HOME}/old-1"
-    assert units(lab) == ["active", "active", "active", "inactive"]
-    assert "farm-standby followed the old farm" in ran.stderr
+    assert units(lab) == ["active"] * 3
     assert boards(lab) == ["b-three Good", "b1 Good", "b2 Good"]
     assert lab.machine.run("stat", "-c", "%U %a", HOME, f"{HOME}/lab.db", f"{HOME}/old-1").stdout.splitlines() == [
         "farm 700", "farm 600", "farm 700"
@@ -103,7 +100,7 @@ def test_a_machine_that_stops_in_the_turn_serves_one_farm_or_none(lab: MachineLa
     before = boards(lab)
     edited(lab, "boards.b2[a-z_-]*", f"boards.b2-{step}")
     killed(lab, step)
-    assert units(lab)[:3] == ["inactive"] * 3
+    assert units(lab) == ["inactive"] * 3
     lab.machine.run("systemctl", "start", "--no-block", "farm", "farm-dispatch", "farm-watch")
     if serves:
         lab.machine.wait("the desk", *lab.machine.curl("root", "/status"))
@@ -113,6 +110,26 @@ def test_a_machine_that_stops_in_the_turn_serves_one_farm_or_none(lab: MachineLa
         lab.machine.wait("its fault", "sh", "-c", "journalctl -q -u farm | grep '60 store fault'")
         assert lab.machine.asked("root", "root", "/status") == 7
     lab.machine.run("farm-from-desk", "--next", FILE)
-    assert units(lab)[:3] == ["active"] * 3
+    assert units(lab) == ["active"] * 3
     assert boards(lab) == sorted(f"b2-{step} Good" if it.startswith("b2") else it for it in before)
     assert lab.machine.run("sh", "-c", f"ls {HOME} | grep next || :").stdout == ""
+
+
+def test_links_and_records_of_the_farms_account_lead_root_nowhere(lab: MachineLab) -> None:
+    """Whoever has the farm's account may write its folder: a record that names a folder of root's for the old farm, or
+    a link in the file's place, gains nothing."""
+    edited(lab, "b1", "b-one")
+    forge = (
+        f"mark=$(sha256sum /tmp/next.toml | cut -d' ' -f1); mkdir {HOME}/next; cp {HOME}/lab.db {HOME}/next/; "
+        f"echo '{{\"mark\":\"'$mark'\",\"aside\":\"../../../etc\",\"units\":[],\"began\":1}}' > {HOME}/next/turn.json"
+    )
+    lab.machine.run("sh", "-c", f"cp {FILE} /tmp/next.toml; chmod 644 /tmp/next.toml")
+    lab.machine.run("sh", "-c", forge, user="farm")
+    ran = lab.machine.run("farm-from-desk", "--next", FILE, check=False)
+    assert ran.returncode != 0
+    assert lab.machine.run("sh", "-c", "ls /etc | grep lab.db || :").stdout == ""
+    lab.machine.run("sh", "-c", f"rm -r {HOME}/next", user="farm")
+    lab.machine.run("systemctl", "start", "farm", "farm-dispatch", "farm-watch")
+    lab.machine.wait("the desk", *lab.machine.curl("root", "/status"))
+    lab.machine.run("farm-from-desk", "--next", FILE)
+    assert "b-one Good" in boards(lab)

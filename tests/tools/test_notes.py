@@ -1,5 +1,5 @@
 """Notes of boards: from the lab's file by farm-dispatch and the site to desk and Python, and labgrid's comments into such a
-file. (tests/unit/test_notes_file.py: what a file may say.)"""
+file. (tests/unit/test_notes.py: what a file may say.)"""
 from __future__ import annotations
 
 import json
@@ -66,7 +66,7 @@ def test_a_named_board_has_its_notes(noted: Noted) -> None:
     noted.write(FILE, "rack 2")
     for words in (["b1"], ["name=b1"], ["b1", "hdmi"]):
         status, said, errors = noted.site.desk("boards", *words)
-        assert (status, errors) == (0, "") and said.splitlines()[1].startswith("b1 ") and said.endswith(SHOWN), words
+        assert (status, errors) == (0, "") and said.startswith("name:    b1\ntype:    bbb\n") and said.endswith(SHOWN), words
     assert noted.site.desk("--history", noted.lab.place, "boards", "b1")[1].endswith(SHOWN)
     for tag in ("hdmi", "b2", "b1-like", "gone"):
         said = noted.site.desk("boards", tag)[1]
@@ -97,7 +97,7 @@ def test_a_fault_of_the_file_is_told_to_the_admin_and_to_who_looks(noted: Noted)
     noted.write(FILE, "rack 2")
     noted.write(FILE + "x = 1\n", "x is none of")
     status, said, errors = noted.site.desk("boards", "b1")
-    fault = f"{noted.file}: line 5: board gone: x is none of place, owner, wiki, comment"
+    fault = f"{noted.file}: line 5: board gone: x is none of place, owner, wiki, comment, reason"
     assert status == 0 and said.endswith(SHOWN) and errors == f"desk: notes of boards: {fault}\n"
     assert f"notes of boards: {fault}; what it said before is shown" in noted.tool.errors()
     noted.write(FILE.replace("rack 2", "rack 3"), "rack 3")
@@ -118,6 +118,9 @@ b2:
 b3:
   comment: LONG
   tags: {board: bbb}
+b4:
+  comment: no tags
+  matches: []
 """
 
 
@@ -137,8 +140,11 @@ def test_comments_of_labgrid_become_notes(folder: str) -> None:
     status, _, errors = run(places, "--notes", file)
     assert (status, errors) == (1, [
         "farm-from-labgrid: place bbb 1: board 'bbb 1' isn't carried over as it is: it is bbb-1",
+        "farm-from-labgrid: place b4: it has no tag board: its type is place",
         "farm-from-labgrid: place b3: its comment is cut to 1,000 letters",
     ])
-    assert notes.notes_in(read(file)) == {"bbb-1": {"comment": 'next to "the" window'}, "b3": {"comment": "x" * 1000}}
+    assert notes.notes_in(read(file)) == {
+        "bbb-1": {"comment": 'next to "the" window'}, "b3": {"comment": "x" * 1000}, "b4": {"comment": "no tags"},
+    }
     status, said, errors = run(places, "--notes", file)
     assert (status, said, errors) == (4, "", [f"farm-from-labgrid: {file} is there: name another, and put both together"])

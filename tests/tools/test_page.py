@@ -285,7 +285,7 @@ def test_a_claim_for_which_no_boards_can_come_says_which_are_out(make_lab: Calla
     lab.date = int(time.time())  # (a page that is slow to come isn't told that passes are missing)
     opened = lab.open()
     shown = seen(opened)
-    stuck = "collects boards, and can't be served: b2 is in Maintenance"
+    stuck = "collects boards, lacks bbb, and can't be served: b2 is in Maintenance"
     assert [it[6] for it in shown["queue"]] == [stuck, "can't be served: c2 is Bad"]
     assert shown["warned"] == f"group 1 {stuck}", "a group that collects is told on top"
     lab.asked.clear()
@@ -299,7 +299,7 @@ def test_a_claim_for_which_no_boards_can_come_says_which_are_out(make_lab: Calla
     lab.farm.tell("admin", "/boards", {"name": "b3", "type": "bbb", "tags": []})
     lab.set_health(b3="Unknown")
     shown = until(opened, "a board that may come", lambda it: "can't" not in it["queue"][0][6])
-    assert shown["queue"][0][6] == "collects boards"
+    assert shown["queue"][0][6] == "collects boards, lacks bbb: a board is free: it waits for the next pass"
     assert shown["warned"] == ""
 
 

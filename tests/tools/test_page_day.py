@@ -84,6 +84,33 @@ def test_what_runs_and_what_waits_is_told_of_each(example: Lab) -> None:
     opened.close()
 
 
+LINKS = """[...document.querySelectorAll('dialog:modal dd a')].map(it => [it.textContent.trim(), it.getAttribute('href')])"""
+
+
+def test_boards_jobs_and_members_of_a_group_lead_to_each_other(example: Lab) -> None:
+    """Group 10 is of three jobs, of which each has a board."""
+    opened = example.opened("/#/jobs/12")
+    wait_until("its board and the others", lambda: [it for it, _ in opened.ask(LINKS)] == ["rpi4b-01", "10", "11"])
+    opened.ask("document.querySelectorAll('dialog:modal dd a')[2].click()")
+    wait_until("another", lambda: ["12", "#/jobs/12"] in opened.ask(LINKS))
+    assert str(text_of(opened, "#job-title")).startswith("Job 11")
+    opened.ask("document.querySelector('dialog:modal dd a').click()")
+    wait_until("its board", lambda: ["job 11", "#/jobs/11"] in opened.ask(LINKS))
+    assert text_of(opened, "#board-title") == "bbb-04"
+    opened.close()
+
+
+def test_a_job_that_isnt_there_is_told(example: Lab) -> None:
+    opened = example.opened("/#/jobs/9999")
+    wait_until("it is told", lambda: text_of(opened, "#job-title") == "There is no job 9999")
+    seen_of = "[...document.querySelectorAll('#job > *')].filter(it => it.checkVisibility()).map(it => it.className)"
+    assert opened.ask(seen_of) == ["top"]
+    opened.ask("void (location.hash = '#/jobs/42')")
+    wait_until("an earlier one", lambda: text_of(opened, "#job-title") == "Job 42: kernel next")
+    assert len(opened.ask(seen_of)) > 3
+    opened.close()
+
+
 def test_back_and_forward_go_from_one_to_the_next(example: Lab) -> None:
     opened = example.opened("/?q=rpi4b#/boards/rpi4b-02")
     title = "document.querySelector('dialog:modal h2')?.textContent || ''"
@@ -222,9 +249,15 @@ def test_a_job_is_submitted_and_its_faults_are_told_by_line(lab: Lab) -> None:
     send = "document.getElementById('submit-form').requestSubmit()"
     field = "document.getElementById('job-file').value"
     for text, told in [
-        ("job_name = 'x'\\ndevice_type = 'ddd'", "refused: line 2: no such type: there is no such type"),
-        ("job_name = 'x'\\ndevice_type = 'bbb'\\npriority = 101", "refused: line 3: bad priority"),
-        ("job_name = 'x\\ndevice_type = 'bbb'", "refused: line 1: this line is no TOML"),
+        ("job_name = 'x'\\ndevice_type = 'ddd'", "refused: line 2, column 1: no such type: ddd"),
+        ("job_name = 'x'\\ndevice_type = 'bbb'\\npriority = 101", "refused: line 3, column 1: bad priority"),
+        ("job_name = 'x\\ndevice_type = 'bbb'", "refused: line 1, column 12: no TOML: a text in quotes isn't closed"),
+        ("job_name = 'x'\\njob_name = 'y'", "refused: line 2, column 1: no TOML: job_name is there already"),
+        ("job_name = 'x'\\ndevice_type = 'bbb'\\ntags = ['hdmi', 'vga']",
+         "refused: line 3, column 1: no board has the tag vga"),
+        ("job_name = 'x'\\ndevice_type = 'bbb'\\ntimeouts.job = '15 parsecs'",
+         "nothing is submitted: line 3, column 10: timeouts.job \"15 parsecs\" isn't like '1 hour 30 minutes'"),
+        (" ", "nothing is submitted: there is no text"),
         ("device_type = 'bbb'", "refused: it has no job_name"),
     ]:
         opened.ask(f"{field} = \"{text}\"; {send}")
@@ -344,7 +377,7 @@ def test_long_and_hostile_texts_stay_in_their_rows(make_lab: Callable[..., Lab])
     opened = lab.opened(wide=390)
     shown = opened.ask(SHOWN)
     assert shown["boards"][2][4].startswith(f"ann job {number} \u27e8U+202E\u27e9abc <img src=x")
-    assert opened.ask("[document.querySelector('main img, main b'), document.title]") == [None, "Board farm"]
+    assert opened.ask("[document.querySelector('main img, main b'), document.title]") == [None, "127.0.0.1 - Board farm"]
     assert opened.ask("document.documentElement.scrollHeight") < 3000
     assert opened.ask("document.documentElement.scrollWidth") == 390
     more = "document.querySelector('#ended button.more')"
@@ -367,7 +400,7 @@ def test_a_log_is_shown_as_a_terminal_would(lab: Lab) -> None:
 # ---- a slow line
 
 
-FIRST_LOOK = ("queue", "boards", "status", "types", "whoami", "running.json", "waiting.json", "history.json",
+FIRST_LOOK = ("queue", "boards", "status", "types", "whoami", "running.json", "workers.json", "waiting.json", "history.json",
               "access.json", "notes.json", "labs.json")
 
 

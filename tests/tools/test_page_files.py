@@ -5,7 +5,7 @@ from __future__ import annotations
 import json
 import os
 import time
-from typing import Any, List
+from typing import Any, Callable, List
 
 import pytest
 
@@ -88,6 +88,7 @@ def test_other_labs_have_a_menu(lab: Lab) -> None:
         ["berlin", opened.ask("location.origin") + "/", "page"], ["paris", "https://paris.lab.example/", None],
     ]
     assert opened.ask("document.getElementById('labs').checkVisibility()")
+    assert opened.ask("document.title") == "berlin - Board farm"
     put(lab, "/labs.json", {"labs": [berlin]})
     assert not lab.opened().ask("document.getElementById('labs').checkVisibility()"), "a lab alone needs none"
 
@@ -137,6 +138,36 @@ def test_a_reservation_that_comes_is_told_out_of_sight_and_in_the_title(lab: Lab
     opened.ask(SIGHT.format("true"))
     comes(2, boards[1])
     wait_until("it is told", lambda: bool(opened.ask("noted") == [["Board farm", f"{boards[1]} is yours"]]))
-    wait_until("its title", lambda: bool(opened.ask("document.title") == f"({boards[1]} is yours) Board farm"))
+    wait_until("its title", lambda: bool(opened.ask("document.title") == f"({boards[1]} is yours) 127.0.0.1 - Board farm"))
     opened.ask(SIGHT.format("false"))
-    wait_until("it is seen", lambda: bool(opened.ask("document.title") == "Board farm"))
+    wait_until("it is seen", lambda: bool(opened.ask("document.title") == "127.0.0.1 - Board farm"))
+
+
+# ---- workers
+
+
+def test_a_worker_that_doesn_t_answer_is_told_at_its_boards_and_jobs(make_lab: Callable[..., Lab]) -> None:
+    lab = make_lab([("b1", "bbb", ["worker=rack2"]), ("b2", "bbb", ["worker=rack2"]), ("c1", "ccc", [])])
+    runs = lab.farm.submit("true", "bbb", "bob")
+    lab.passes()
+    lab.farm.submit("true", "bbb", "bob", more="tags = ['name=b2']\n")
+    told = "worker rack2 has not answered for 3 minutes"
+    away = {"name": "rack2", "answers": False, "since": int(time.time()) - 190, "reason": "no route to host"}
+    put(lab, "/workers.json", {"at": int(time.time()), "workers": [{**away, "name": "desk", "answers": True}, away]})
+    opened = lab.opened()
+    shown = until(opened, "it is told", lambda it: told in it["warned"])
+    assert f"{told}: no route to host" in shown["warned"]
+    assert [row[3].partition(", ")[2] for row in shown["boards"]] == ["no answer"] * 2 + [""]
+    assert [row[6] for row in shown["queue"]] == ["1 board fits, on worker rack2, which doesn't answer"]
+    opened.ask("void (location.hash = '#/boards/b1')")
+    wait_until("at the board", lambda: facts_of(opened, "board").get("Worker", "").startswith(told))
+    opened.ask(f"void (location.hash = '#/jobs/{runs}')")
+    wait_until("at the job", lambda: facts_of(opened, "job").get("Worker", "").startswith(told))
+    for scheme in ("light", "dark"):
+        opened.set_scheme(scheme)
+        assert opened.poor_texts() == set(), scheme
+    put(lab, "/workers.json", {"at": 1, "workers": [{**away, "answers": True}]})
+    until(opened, "it answers", lambda it: told not in it["warned"] and "answer" not in str(it["boards"]))
+    put(lab, "/workers.json", ["rack2"])
+    lab.looks_twice()
+    assert opened.ask(SHOWN)["said"].startswith("as of")

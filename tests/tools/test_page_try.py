@@ -38,8 +38,7 @@ def place_fixture(folder: str) -> str:
 @pytest.fixture(name="port")
 def port_fixture(farm: Farm, place: str, start_tool: Callable[..., Tool]) -> int:
     """The port at which the page of a farm is served for ann."""
-    words = ["farm-page", "--server", farm.server, "--user", "ann", "--port", "0", "--folder", place,
-             "--labs", f"{place}/../labs.json"]
+    words = ["farm-page", "--server", farm.server, "--user", "ann", "--port", "0", "--folder", place]
     tool = start_tool(*words)
     line = wait_until("it listens", lambda: re.match(r"http://127\.0\.0\.1:(\d+)/ as ann\n", tool.output()))
     return int(line.group(1))
@@ -86,8 +85,8 @@ def test_it_shows_what_a_dispatcher_keeps_for_all_and_nothing_else(port: int) ->
 # What other tools keep, by its path: where that is beside the dispatcher's folder, and its kind.
 KEPT = {
     "/holds.jsonl": ("farm-watch/shown/holds.jsonl", "text/plain; charset=utf-8"),
-    "/access.json": ("farm-access/shown/access.json", "application/json"),
-    "/labs.json": ("labs.json", "application/json"),
+    "/access.json": ("farm-access/shown/access.json", "application/json; charset=utf-8"),
+    "/workers.json": ("jobs/workers.json", "application/json; charset=utf-8"),
 }
 
 
@@ -102,6 +101,17 @@ def test_it_serves_what_the_site_does_where_it_is_there(path: str, place: str, p
     os.rename(f"{place}/../{name}", f"{place}/elsewhere")
     os.symlink(f"{place}/elsewhere", f"{place}/../{name}")
     assert ask(port, "GET", path)[0] == 404, "by a link"
+
+
+def test_what_hasn_t_changed_isn_t_sent_again(place: str, port: int) -> None:
+    """As the site answers: 304, and all of it once it has changed."""
+    status, fields, _ = ask(port, "GET", "/history.json")
+    assert (status, fields["cache-control"]) == (200, "no-cache")
+    same = ask(port, "GET", "/history.json", if_none_match=fields["etag"])
+    assert (same[0], same[1]["etag"], same[2]) == (304, fields["etag"], b"")
+    assert ask(port, "GET", "/page/farm.js", if_none_match=ask(port, "GET", "/page/farm.js")[1]["etag"])[0] == 304
+    write(place, "history.json", '{"at":2,"jobs":[],"boards":[]}', 0o644)
+    assert ask(port, "GET", "/history.json", if_none_match=fields["etag"])[::2] == (200, b'{"at":2,"jobs":[],"boards":[]}')
 
 
 RESERVES = json.dumps({"tags": []})
@@ -134,7 +144,7 @@ def test_what_cant_be_served_is_told() -> None:
     with socket.create_server(("127.0.0.1", 0)) as taken:
         port = str(taken.getsockname()[1])
         rows = [
-            (["--port", "70000"], 2, "70000 is no port"), (["--port", "http"], 2, "http"),
+            (["--port", "70000"], 2, "70000 is no number from 0 to 65,535"), (["--port", "http"], 2, "http"),
             (["--server", "https://farm.lab.example"], 4, "https://farm.lab.example isn't a desk of this machine"),
             (["--server", "https://127.0.0.1"], 4, "https://127.0.0.1 isn't a desk of this machine"),
             (["--server", "http://127.0.0.1:1", "--user", "ann", "--port", port], 4, "Address already in use"),

@@ -33,7 +33,7 @@ def reservations(farm: Farm) -> List[Tuple[str, List[str]]]:
 
 
 def test_who_asks_is_whom_the_password_belongs_to(farm: Farm, site: Site) -> None:
-    assert site.desk("reserve") == (0, "1\n", "")
+    assert site.desk("reserve", "--any") == (0, "1\n", "")
     assert farm.reservation(1)["owner"] == "ann"
     assert site.desk("cancel-reservation", "1") == (0, "", "")
     status, _, errors = site.desk("queue", DESK_CA_FILE="")
@@ -174,7 +174,8 @@ def test_the_client_finds_history_and_logs_beside_the_desk(kept: str, farm: Farm
     assert [(it["name"], it["complete"]) for it in used] == [("ann", 1)]
     number = farm.submit("true", user="bob")
     write(f"{site.folder}/dispatch", "numbers", f"{number + 1} {int(time.time()) - 90} {int(time.time()) - 91}\n", 0o644)
-    waited = site.desk("queue")[1].splitlines()[1].split()[-2]
+    head, row = site.desk("queue")[1].splitlines()[:2]
+    waited = row.split()[head.split().index("WAITED")]
     assert re.fullmatch("0:0[1-9]:..", waited), waited
     again = int(site.desk("resubmit", "1")[1])
     assert farm.job(again)["text"] == farm.job(1)["text"]

@@ -7,7 +7,6 @@ import datetime
 import http.client
 import json
 import os
-import pathlib
 import re
 import shutil
 import signal
@@ -20,7 +19,7 @@ from typing import Any, Callable, Dict, Iterator, List, Optional, Tuple, Type, c
 import pytest
 
 import fizgruk
-from fizgruk import reservations, settings, waiting, watching
+from fizgruk import holding, waiting
 from fizgruk.version import VERSION
 from nginx_site import Site
 from python_front import (  # noqa: F401
@@ -102,81 +101,6 @@ def test_codes() -> None:
     assert {it.value: it.name for it in fizgruk.Code} == wanted
 
 
-# ---- settings, as docs/TOOLS.md says it of `desk`
-
-
-@pytest.fixture
-def home(tmp_path: pathlib.Path, monkeypatch: pytest.MonkeyPatch) -> pathlib.Path:
-    """A home of the user's, whose desk.ini names a server and a user, and has settings of the command's own."""
-    monkeypatch.setenv("HOME", str(tmp_path))
-    monkeypatch.delenv("XDG_CONFIG_HOME")
-    monkeypatch.setattr(settings, "SYSTEM_FILE", str(tmp_path / "system.ini"))
-    own = tmp_path / ".config" / "farm"
-    own.mkdir(parents=True)
-    (own / "desk.ini").write_text("[desk]\nserver = http://h:1\nuser = bob\nhistory = /h\n[dispatch]\nmost = 1\n")
-    return tmp_path
-
-
-def read_with(**given: str) -> Tuple[str, str]:
-    """The server and the user by what is given."""
-    found = settings.read_settings(given)
-    return found.server, found.user
-
-
-@pytest.mark.usefixtures("home")
-def test_order_of_settings(monkeypatch: pytest.MonkeyPatch) -> None:
-    """What is given goes before the environment, and the file comes last."""
-    assert read_with() == ("http://h:1", "bob")
-    monkeypatch.setenv("DESK_SERVER", "http://g:2")
-    monkeypatch.setenv("DESK_HISTORY", "/h")
-    assert read_with() == ("http://g:2", "bob")
-    assert read_with(server="http://f:3", user="cat") == ("http://f:3", "cat")
-
-
-@pytest.mark.usefixtures("home")
-def test_misspelt_setting(monkeypatch: pytest.MonkeyPatch) -> None:
-    """A misspelt name in the environment is told, with the one that is meant."""
-    monkeypatch.setenv("DESK_SERVR", "x")
-    told = "^DESK_SERVR in the environment is no setting: is DESK_SERVER meant[?]$"
-    with pytest.raises(fizgruk.BadSettings, match=told):
-        read_with()
-
-
-def secret(home: pathlib.Path, name: str, text: str, mode: int = 0o600) -> str:
-    (home / name).write_text(text)
-    (home / name).chmod(mode)
-    return str(home / name)
-
-
-def test_netrc(home: pathlib.Path) -> None:
-    """~/.netrc names the user of a server."""
-    secret(home, ".netrc", "machine farm.example login ann password x\n")
-    (home / "other.ini").write_text("[desk]\nserver = https://farm.example\n")
-    assert read_with(config=str(home / "other.ini")) == ("https://farm.example", "ann")
-
-
-def test_password_without_tls(home: pathlib.Path) -> None:
-    """A password goes to this machine, or over TLS, alone."""
-    file = secret(home, "word", "secret\n")
-    with pytest.raises(fizgruk.BadSettings, match="^a password isn't sent to http://h:1, which has no TLS$"):
-        read_with(password_file=file)
-
-
-@pytest.mark.usefixtures("home")
-def test_password_in_the_address() -> None:
-    """An address with a password in it is refused, and not told."""
-    with pytest.raises(fizgruk.BadSettings) as fault:
-        read_with(server="https://ann:secret@h")
-    assert str(fault.value) == settings.NO_LOGIN
-
-
-def test_open_password(home: pathlib.Path) -> None:
-    """A file of a password that others may read is refused."""
-    file = secret(home, "word", "secret\n", 0o644)
-    with pytest.raises(fizgruk.BadSettings, match=f"^{file} holds a password, and others may read it: chmod 600$"):
-        read_with(password_file=file)
-
-
 # ---- the wire
 
 
@@ -248,7 +172,8 @@ def demand_all_asked(front: Front, held: int) -> None:
     with open(os.path.join(TOP, "docs", "openapi.json"), encoding="utf-8") as opened:
         paths = json.load(opened)["paths"]
     routes = {f"{method.upper()} {path}" for path, it in paths.items() for method in it}
-    assert {re.sub(r"/\d+", "/{n}", it.replace("/b1/", "/{name}/")) for it in front.paths()} == routes
+    asked = {re.sub(r"/\d+", "/{n}", it.replace("/b1/", "/{name}/")) for it in front.paths()}
+    assert asked - {"GET /workers.json"} == routes, "what the site has beside the desk's aside"
     commands = [(path, fields.get("x-key")) for method, path, fields in front.asked if method == "POST"]
     assert {path for path, key in commands if key is None} == {"/pass", f"/reservations/{held}/refresh"}
     keys = [key for _, key in commands if key is not None]
@@ -392,7 +317,7 @@ def test_behind_nginx(site: Site, farm: Farm, monkeypatch: pytest.MonkeyPatch) -
         return cast(http.client.HTTPConnection, opened[-1])
 
     monkeypatch.setattr(ann._desk, "_opened", counted)
-    monkeypatch.setattr(watching, "EVERY", 3600.0)  # (a hold's own looks have a connection of their own)
+    monkeypatch.setattr(holding, "EVERY", 3600.0)  # (a hold's own looks have a connection of their own)
     with Passer(farm):
         for _ in range(10):
             with ann.board("hdmi", every=0.1):
@@ -411,7 +336,7 @@ def test_wrong_password(site: Site) -> None:
 def test_certificate_that_nobody_knows(site: Site, monkeypatch: pytest.MonkeyPatch) -> None:
     """It is told at once, and isn't tried again."""
     monkeypatch.setattr("fizgruk.calls.time.sleep", lambda _: pytest.fail("it is tried again"))
-    with pytest.raises(fizgruk.Unreachable, match="certificate verify failed"):
+    with pytest.raises(fizgruk.Unreachable, match="its certificate isn't trusted: self-signed certificate"):
         client_of(site.server).status()
 
 
@@ -516,7 +441,7 @@ def test_number_that_is_lost(farm: Farm, front: Front) -> None:
 
 def test_board_that_cant_be_given_back(farm: Farm, front: Front, monkeypatch: pytest.MonkeyPatch) -> None:
     """It is told, with what to type."""
-    monkeypatch.setattr(reservations, "GIVES_UP", 0.5)
+    monkeypatch.setattr(holding, "GIVES_UP", 0.5)
     with Passer(farm):
         left = client_of(front.url).board("hdmi", every=0.1)
         left.__enter__()
@@ -627,7 +552,7 @@ def test_board_that_is_lost_at_the_end(
 ) -> None:
     """A loss that nobody saw before is raised at the block's end, in the place of its errors; what ends the program
     goes on."""
-    monkeypatch.setattr(watching, "EVERY", 3600.0)  # (nobody looks before)
+    monkeypatch.setattr(holding, "EVERY", 3600.0)  # (nobody looks before)
     with Passer(farm), pytest.raises(kind) as raised:
         with client_of(farm.server).board("hdmi", every=0.1):
             farm.tell("admin", "/reservations/1/cancel")

@@ -210,6 +210,24 @@ def test_a_task_that_is_canceled_gives_back_what_it_waits_for(farm: Farm) -> Non
     assert client_of(farm.server).job(2 if rows(farm)[0]["number"] == 1 else 1).result == "Canceled"
 
 
+def test_more_tasks_than_a_pool_has_threads_share_a_board(farm: Farm) -> None:
+    """Those who wait don't keep the one who has it from giving it back."""
+    done: List[str] = []
+
+    async def one(ann: AsyncClient) -> None:
+        async with ann.board("hdmi", every=0.05) as board:
+            done.append(board.name)
+
+    async def work() -> None:
+        ann = AsyncClient(farm.server, "ann")
+        await asyncio.wait_for(asyncio.gather(*(one(ann) for _ in range(count))), 200)
+
+    count = (os.cpu_count() or 1) + 8
+    with Passer(farm):
+        asyncio.run(work())
+    assert done == ["b1"] * count
+
+
 def test_a_board_that_is_lost_cancels_its_task(farm: Farm) -> None:
     """The block ends at once, with HoldLost; the task itself goes on."""
     ends: List[str] = []

@@ -412,3 +412,22 @@ def test_one(boards):
     with Passer(farm):
         start(text, "--farm", "", "-n", "2", "--dist", "each").ends(0, "2 passed")
     assert states(farm) == ["canceled"] * 2
+
+
+@pytest.mark.slow(30)
+def test_two_sessions_that_want_two_boards_each_both_get_them(farm: Farm, start: Start, tmp_path: pathlib.Path) -> None:
+    """Each begins with one board that the other waits for: all are given back, and asked for again."""
+    text = """import pytest, time
+@pytest.mark.farm("serial", boards=2)
+def test_it(boards):
+    assert {it.name for it in boards} == {"b1", "b2"}
+"""
+    sessions = []
+    for name in ("one", "two"):
+        os.mkdir(tmp_path / name)
+        sessions.append(Session(farm, str(tmp_path / name), text, "--farm", ""))
+    wait_until("both wait", lambda: len([it for it in rows(farm) if it["state"] == "waiting"]) == 2)
+    with Passer(farm):
+        for it in sessions:
+            it.ends(0, "1 passed")
+    assert set(states(farm)) == {"canceled"}

@@ -1,12 +1,9 @@
-"""What farm-watch tells of a served farm: ends of jobs, boards that went Bad or came free, holds that
-are reminded of and ended, passes that don't come, a farm that gets full; what it asks of the desk; its
-words and its unit."""
+"""What farm-watch tells of a served farm: ends of jobs, boards that came free, holds that
+are reminded of and ended; what it asks of the desk; its words and its unit."""
 from __future__ import annotations
 
-import contextlib
 import json
 import os
-import sqlite3
 import subprocess
 import sys
 import time
@@ -14,7 +11,7 @@ from typing import Dict, List, Optional, Tuple
 
 import pytest
 from desks import GROUP, desk, write
-from served import TOOLS, TOP, Tool, environment, read, wait_until
+from served import TOOLS, TOP, environment, read, wait_until
 from wants import wants
 from watched import HOUR, Labs, Watched
 
@@ -43,7 +40,7 @@ def content_to(lab: Watched, owner: str) -> str:
 
 def test_what_people_held_is_counted_by_the_client(watched: Labs) -> None:
     """Beside a dispatcher's folder; the folder lets others through to that alone."""
-    lab = watched("[board]\nbad = true\n")
+    lab = watched("[board]\nfree = true\n")
     lab.start()
     number = lab.holds("bob")
     lab.looked(2)
@@ -192,22 +189,6 @@ def test_the_jobs_of_the_next_farm_are_told_too(watched: Labs) -> None:
 # ---- boards
 
 
-def test_a_board_that_went_bad_is_told_once_also_where_nobody_watched_then(watched: Labs) -> None:
-    """One that was Bad at the first look isn't told."""
-    lab = watched("[board]\nbad = true\n", hook=False)
-    lab.farm.tell("admin", "/boards/b3/health", {"health": "Bad"})
-    lab.start()
-    lab.farm.tell("admin", "/boards/b2/health", {"health": "Bad"})
-    told = [("lab@lab.example", "farm: board b2 is Bad")]
-    lab.mails(told)
-    lab.farm.tell("admin", "/boards/b2/health", {"health": "Good"})
-    lab.looked()
-    lab.tool.kill()
-    lab.farm.tell("admin", "/boards/b2/health", {"health": "Bad"})
-    lab.start()
-    lab.mails(told * 2)
-
-
 def test_who_waited_is_told_of_the_board_that_was_given(watched: Labs) -> None:
     lab = watched("[board]\nfree = 'all'\n", hook=False)
     first = lab.holds("ann", "b1")
@@ -223,19 +204,6 @@ def test_who_waited_is_told_of_the_board_that_was_given(watched: Labs) -> None:
     lab.farm.tell("bob", f"/reservations/{second}/cancel")
     lab.passes()
     lab.mails([*told, (at("cat"), f"farm: job {job} has got b1")])
-
-
-def test_the_health_check_that_made_a_board_bad_is_named(watched: Labs) -> None:
-    lab = watched("[board]\nbad = true\n", boards=[])
-    lab.farm.tell("admin", "/types", {"name": "checked", "check": "jobs", "every": 1})
-    lab.farm.tell("admin", "/boards", {"name": "x1", "type": "checked"})
-    lab.farm.tell("admin", "/boards/x1/health", {"health": "Unknown"})
-    lab.passes()
-    lab.starts(1)
-    lab.start()
-    lab.finishes(1, "Incomplete")
-    lab.mails([("lab@lab.example", "farm: board x1 is Bad")])
-    assert "Its health check, job 1, has ended Incomplete." in lab.mailbox.mails()[0].get_content()
 
 
 # ---- holds
@@ -286,109 +254,16 @@ def test_who_isnt_the_admin_ends_no_hold_and_no_owner_is_told_otherwise(watched:
     lab.mails([(at("ann"), f"farm: reservation {number} was ended: you had held h1 for 13 hours")])
 
 
-# ---- passes, room, what is asked
-
-LATE = ("lab@lab.example", "farm: no pass for 10 seconds: is farm-dispatch running?")
-
-
-@pytest.mark.slow(25)
-def test_a_pass_that_doesnt_come_is_told_once_also_by_another_process(watched: Labs) -> None:
-    lab = watched("[pass]\nlate = '10s'\n", hook=False)
-    lab.start()
-    lab.mails([LATE])
-    assert "The desk answers." in lab.mailbox.mails()[0].get_content()
-    lab.tool.kill()
-    lab.start()
-    began = time.monotonic()
-    wait_until("another ten seconds", lambda: time.monotonic() - began > 11)
-    lab.looked()
-    assert lab.mailbox.told() == [LATE]
-
-
-@pytest.mark.slow(12)
-def test_a_dead_desk_gives_no_passes(watched: Labs) -> None:
-    lab = watched("[pass]\nlate = '10s'\n", hook=False)
-    lab.farm.kill()
-    lab.tool = Tool(lab.words(), lab.folder)
-    lab.mails([LATE])
-    assert "The desk gives no answer: " in lab.mailbox.mails()[0].get_content()
-
-
-def test_one_that_is_started_again_while_passes_come_goes_on(watched: Labs) -> None:
-    """Also over a file that has no word on late passes, as an earlier version left it."""
-    lab = watched("[pass]\nlate = '1h'\n", hook=False)
-    lab.start()
-    lab.tool.kill()
-    lab.start()
-    lab.stop()
-    with contextlib.closing(sqlite3.connect(os.path.join(lab.place, "watch.db"))) as file, file:
-        file.execute("DELETE FROM seen WHERE kind = 'farm' AND key = 'late'")
-    lab.start()
-    assert (lab.errors(), lab.mailbox.told()) == ("", [])
-
-
-def test_a_farm_that_gets_full_is_told_once_a_level(watched: Labs) -> None:
-    """By rows, or by the replies that they take."""
-    lab = watched("[full]\nat = [80, 95]\n")
-    lab.door.change["/status"] = {"jobs": 50000, "reservations": 29999}
-    lab.start()
-    lab.looked(5)
-    assert lab.mailbox.told() == [], "below 80 %"
-    lab.door.change["/status"] = {"jobs": 80000, "reservations": 0}
-    first = ("lab@lab.example", "farm: the farm is 80 % full")
-    lab.mails([first])
-    lab.tool.kill()
-    lab.start()
-    lab.door.change["/status"] = {"jobs": 50000, "reservations": 45000}
-    lab.mails([first, ("lab@lab.example", "farm: the farm is 95 % full")])
-    of_95 = wait_until("95 %", lambda: [it for it in lab.hook.messages() if it["level"] == 95])[0]
-    assert (of_95["jobs"], of_95["reservations"]) == (50000, 45000)
-
-
-def test_room_is_told_once_when_it_is_short_and_once_when_it_is_back(watched: Labs) -> None:
-    """Of the file system, whichever of its paths the rule names; over a restart, and also while no desk answers."""
-    rule = "[room]\npaths = ['{0}', '{0}/watch.toml']\nbelow = '{1}'\n"
-    lab = watched("[job]\nended = true\n")
-    lab.write_rules(rule.format(lab.folder, "1000 TB"))
-    lab.start()
-    wait_until("it is told", lambda: lab.hook.messages())
-    lab.stop()
-    lab.farm.kill()
-    lab.tool = Tool(lab.words(), lab.folder)
-    wait_until("it waits for the desk", lambda: "no answer from the desk" in lab.tool.errors())
-    lab.stop()
-    lab.write_rules(rule.format(lab.folder, "1 kB"))
-    lab.tool = Tool(lab.words(), lab.folder)
-    wait_until("both", lambda: len(lab.hook.messages()) > 1)
-    first, second = lab.hook.messages()
-    both = [lab.folder, f"{lab.folder}/watch.toml"]
-    assert [(it["event"], it["owner"], it["paths"]) for it in (first, second)] == [
-        ("room-low", "", both), ("room-back", "", both),
-    ]
-    assert first["subject"].startswith(f"room is short at {lab.folder}: ")
-    assert second["subject"].startswith(f"there is room again at {lab.folder}: ")
-    assert 0 < first["free"] <= first["size"]
-
-
-def test_a_path_whose_room_isnt_known_is_told_as_a_trouble(watched: Labs) -> None:
-    lab = watched("[room]\nbelow = '1 kB'\npaths = ['/no/such/path', '/']\n")
-    lab.start()
-    lab.looked(3)
-    told = "farm-watch: nobody knows what room there is at /no/such/path: No such file or directory\n"
-    assert (lab.errors(), lab.mailbox.told()) == (told, [])
+# ---- what is asked
 
 
 def test_a_look_asks_for_three_views_and_new_jobs(watched: Labs) -> None:
     """Nothing that grows with the farm's age, and little."""
-    rules = (
-        f"{JOBS}[hold]\nremind = '4h'\nend = '12h'\n[board]\nbad = true\nfree = true\n"
-        "[pass]\nlate = '1h'\n[full]\nat = [80]\n"
-    )
-    lab = watched(rules)
+    lab = watched(f"{JOBS}[hold]\nremind = '4h'\nend = '12h'\n[board]\nfree = true\n")
     lab.start()
     first = [path for _, path in lab.door.asked]
     # (on a slow machine it may ask for one again)
-    assert list(dict.fromkeys(first[: first.index("/boards") + 1])) == ["/status", "/types", "/queue", "/boards"]
+    assert list(dict.fromkeys(first[: first.index("/boards") + 1])) == ["/status", "/queue", "/boards"]
     lab.holds("ann", "b1")
     waits = lab.reserves("bob", "b1")
     job = lab.runs()

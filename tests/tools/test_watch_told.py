@@ -184,42 +184,12 @@ def test_where_the_desk_has_no_room_for_replies_holds_are_ended_without_keys(wat
     assert lab.farm.reservation(number)["state"] == "canceled"
 
 
-@pytest.mark.slow(10)
-def test_events_of_a_day_are_one_mail_over_a_kill(watched: Labs) -> None:
-    """None is told before; the end of the time is noted by hand. What is told together is due as an hour ends, or a day
-    (by UTC), as here: none ends within the test."""
-    wait_until("a day that goes on", lambda: time.time() % DAY < DAY - 200)
-    lab = watched("[job]\nended = true\nevery = '1d'\nby = ['mail']\n[board]\nbad = true\nby = ['mail']\n")
-    lab.start()
-    numbers = [lab.runs(), lab.runs("Infra")]
-    other = lab.runs(user="bob")
-    lab.looked(3)
-    lab.tool.kill()
-    lab.start()
-    lab.farm.tell("admin", "/boards/b2/health", {"health": "Bad"})
-    lab.mails([("lab@lab.example", "farm: board b2 is Bad")])
-    lab.stop()
-    with contextlib.closing(sqlite3.connect(os.path.join(lab.place, "watch.db"))) as line, line:
-        waiting = line.execute("SELECT due, every FROM deliveries WHERE done IS NULL").fetchall()
-        assert [(due % DAY, every) for due, every in waiting] == [(0, DAY)] * 3
-        line.execute("UPDATE deliveries SET due = 1 WHERE done IS NULL")
-    lab.start()
-    wait_until("three mails in all", lambda: len(lab.mailbox.mails()) == 3)
-    lab.looked(3)
-    mails = {str(it["to"]): it for it in lab.mailbox.mails()}
-    assert len(lab.mailbox.mails()) == 3
-    assert mails["ann@lab.example"]["x-farm-event"] == "digest"
-    text = str(mails["ann@lab.example"].get_content())
-    assert [text.count(f"job {it}") >= 2 for it in numbers] == [True, True] and f"job {other}" not in text
-    assert f"job {other}" in str(mails["bob@lab.example"]["subject"])
-
-
 @pytest.mark.slow(60)
 def test_killed_anywhere_it_tells_each_event_once_by_each_way(watched: Labs) -> None:
-    """It is killed while jobs end, boards go Bad, and holds are reminded of and ended: at places of
+    """It is killed while jobs end, and holds are reminded of and ended: at places of
     its own, by the sendmail that has just taken a message, by the webhook before it answers. What
     came again under its id is dropped."""
-    lab = watched(f"{JOBS}[board]\nbad = true\n[hold]\nremind = '4h'\nend = '4h20m'\n", boards=[])
+    lab = watched(f"{JOBS}[hold]\nremind = '4h'\nend = '4h20m'\n", boards=[])
     now = time.time()
     moments = [(now - 4 * HOUR + TURN * it, f"user{it}", f"h{it}") for it in range(HOLDS)]
     numbers = lab.held_since(moments)
@@ -245,7 +215,7 @@ def test_killed_anywhere_it_tells_each_event_once_by_each_way(watched: Labs) -> 
     wait_until("the mails", lambda: len(lab.mailbox.mails()) >= len(told), 180)
     assert in_hours(lab.hook.told()) == sorted(told)
     assert in_hours(lab.mailbox.told()) == sorted(
-        (f"{owner or 'lab'}@lab.example", f"farm: {text}") for owner, text in told
+        (f"{owner}@lab.example", f"farm: {text}") for owner, text in told
     )
     assert all(it >= EACH for it in kills.values()) and sum(kills.values()) >= ALL, kills
 
@@ -257,7 +227,7 @@ def is_all_told(lab: Watched) -> bool:
 
 
 def kill_often(lab: Watched, now: float) -> Tuple[Dict[str, int], Told]:
-    """Kills farm-watch again and again, while a job ends and a board goes Bad beside each, and the
+    """Kills farm-watch again and again, while jobs of two owners end beside each, and the
     farm's clock moves on. Returns how often by each way, and whom is told what."""
     chance = random.Random(53)
     told: Told = []
@@ -272,8 +242,7 @@ def kill_often(lab: Watched, now: float) -> Tuple[Dict[str, int], Told]:
         elif by == "webhook":
             lab.hook.to_kill = tool.pid
         told.append(("ann", ended(lab.runs())))
-        lab.farm.tell("admin", f"/boards/x{turn}/health", {"health": "Bad"})
-        told.append(("", f"board x{turn} is Bad"))
+        told.append(("bob", ended(lab.runs(user="bob"))))
         kills[by] += was_killed(tool)
         # (its number may become another process's)
         lab.mailbox.kill(None)

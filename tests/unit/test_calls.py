@@ -3,16 +3,15 @@ from __future__ import annotations
 
 import http.client
 import json
-import signal
+import pathlib
 import ssl
 import types
 from typing import Any, Callable, Dict, Iterator, List, Optional, Tuple
 
 import pytest
-from fizgruk import calls, history, reservations, settings, waiting
-from fizgruk._tools import interrupts
-from fizgruk.desk import holding as desk_holding, past_jobs
-from fizgruk.errors import Code, NoLog, Refused, ReservationEnded, Unreachable
+from fizgruk import calls, history, settings
+from fizgruk.desk import views
+from fizgruk.errors import Code, NoArtifact, NoLog, Refused, Unreachable
 
 SERVER = "http://desk.example:81/farm/"
 PLAIN = settings.Settings(SERVER, "ann", None, None, 30.0)
@@ -40,6 +39,8 @@ class Answer:
 
 class Line:
     """Connections in the place of http.client's: each gives the next answer, or raises the next fault."""
+
+    sock = None
 
     def __init__(self, monkeypatch: pytest.MonkeyPatch) -> None:
         self.answers: List[Any] = []
@@ -119,14 +120,30 @@ def test_certificates_that_arent_there_are_told_before_a_call() -> None:
 
 
 def test_a_call_under_a_key_is_sent_again_and_its_first_trouble_is_told(line: Line) -> None:
+    """Where nobody knows whether it was done. The pauses double up to five seconds."""
     told: List[str] = []
-    line.answers = [ConnectionRefusedError("refused"), Answer(502, reason="Bad Gateway"), TimeoutError(), Answer(200, b"{}")]
-    desk = desk_of(patience=10)
+    line.answers = [
+        ConnectionRefusedError("refused"), Answer(502, reason="Bad Gateway"), TimeoutError(), Answer(503, b'{"code":1}'),
+        Answer(504), http.client.IncompleteRead(b""), ssl.SSLEOFError("cut"), Answer(200, b"{}"),
+    ]
+    desk = desk_of(patience=30)
     desk.tell_trouble = told.append
     assert desk.tell("/jobs", b"text", "one") == {}
     assert told == ["refused"]
-    assert line.slept == [0.2, 0.4, 0.8]
-    assert {it[3]["x-key"] for it in line.asked} == {"one"} and len(line.asked) == 4
+    assert line.slept == pytest.approx([0.2, 0.4, 0.8, 1.6, 3.2, 5, 5])
+    assert {it[3]["x-key"] for it in line.asked} == {"one"} and len(line.asked) == 8
+
+
+@pytest.mark.parametrize("key", ["one", None])
+def test_what_a_proxy_lets_wait_is_sent_again_without_a_key_too(line: Line, key: Optional[str]) -> None:
+    """What it refuses since too much is asked (429) was never done; in the end it is refused."""
+    line.answers = [*[Answer(429, b"<html>", reason="Too Many Requests")] * 2, Answer(200, b'{"number":7}')]
+    assert desk_of(patience=15).tell("/jobs", b"", key) == {"number": 7}
+    assert len(line.asked) == 3 and line.slept == [0.2, 0.4]
+    line.answers = [Answer(429, reason="Too Many Requests") for _ in range(9)]
+    with pytest.raises(Refused, match="^429 Too Many Requests$"):
+        desk_of(patience=1).tell("/jobs", b"", key)
+    assert len(line.asked) == 6
 
 
 def test_a_call_without_a_key_is_sent_once(line: Line) -> None:
@@ -140,12 +157,13 @@ def test_patience_ends(line: Line) -> None:
     line.answers = [ConnectionResetError("reset")] * 100
     with pytest.raises(Unreachable, match=f"^{SERVER}: reset$"):
         desk_of(patience=20).look("/boards")
-    assert line.slept[-1] == calls.LONGEST_WAIT and 15 < sum(line.slept) <= 20
+    assert line.slept == pytest.approx([0.2, 0.4, 0.8, 1.6, 3.2, 5, 5])
 
 
-def test_a_certificate_that_doesnt_fit_is_no_reason_to_try_again(line: Line) -> None:
-    line.answers = [ssl.SSLCertVerificationError("certificate verify failed")]
-    with pytest.raises(Unreachable, match="certificate verify failed"):
+@pytest.mark.parametrize("fault", [ssl.SSLCertVerificationError("not trusted"), ssl.SSLError("no TLS")])
+def test_a_certificate_that_doesnt_fit_is_no_reason_to_try_again(line: Line, fault: ssl.SSLError) -> None:
+    line.answers = [fault]
+    with pytest.raises(Unreachable):
         desk_of(patience=10).look("/boards")
     assert line.slept == [] and line.closed == 1
 
@@ -153,7 +171,8 @@ def test_a_certificate_that_doesnt_fit_is_no_reason_to_try_again(line: Line) -> 
 @pytest.mark.parametrize("answer, told", [
     (Answer(200, b"<html>"), "the answer isn't a desk's"), (Answer(200, b"[]"), "the answer isn't a desk's"),
     (Answer(204), "the answer isn't a desk's"), (Answer(200, b"{}", length=-1), "the answer was cut in its head"),
-    (Answer(200, b"[" * 100_000), "the answer isn't a desk's"),
+    (Answer(200, b"[" * 100_000), "the answer isn't a desk's"), (Answer(200, b"7"), "the answer isn't a desk's"),
+    (Answer(200, b""), "the answer isn't a desk's"),
 ])
 def test_what_no_desk_says_is_no_answer(line: Line, answer: Answer, told: str) -> None:
     line.answers = [answer]
@@ -198,7 +217,7 @@ def test_what_a_later_desk_tells_too_is_no_fault(line: Line, path: str, told: Di
 
 
 @pytest.mark.parametrize("answer, told", [
-    (Answer(409, b'{"code":4,"text":"full"}'), "4 full"),
+    (Answer(409, b'{"code":4,"text":"full"}'), "4 full"), (Answer(400, b'{"code":"x"}', reason="Bad"), "400 Bad"),
     (Answer(401, b"<html>", reason="Unauthorized"), "401 Unauthorized: asked as ann, without a password"),
     (Answer(403, b'{"code":3,"text":"not yours"}'), "3 not yours: asked as ann"),
     (Answer(302, b"", reason="Found"), "302 Found"), (Answer(500, b"[]", reason="Fault"), "500 Fault"),
@@ -208,7 +227,8 @@ def test_a_refusal_says_why_and_who_asked(line: Line, answer: Answer, told: str)
     line.answers = [answer]
     with pytest.raises(Refused) as refused:
         desk_of().look("/boards")
-    assert str(refused.value) == told and refused.value.status == answer.status
+    it = refused.value
+    assert str(it) == told and it.status == answer.status and told.startswith(f"{it.code} {it.text}")
 
 
 # ---- a file beside the desk
@@ -271,19 +291,19 @@ class Served(calls.Desk):
 def test_the_lines_of_a_history_are_whole_however_they_come() -> None:
     pieces = [b'{"kind":"health","board":"b1","at":1,"from":"Good","to":"Bad","reason":"', b'x"}\nno line\n{"kind":"hea']
     desk = Served(history_jsonl=pieces)
-    rows = list(history.Served(desk).rows(500))
+    rows = list(history.Past(desk).rows(500))
     assert [it["reason"] for it in rows] == ["x"], "a line that is cut, or none, is left out"
     assert desk.begins == [-500]
 
 
 @pytest.mark.parametrize("refusal, told", [
     (Refused(404, Code.NO_SUCH_ROUTE, "no such route"),
-     "52 no such route: http://desk.example:81/farm/ serves no history: ask through the proxy (examples/nginx.conf), or "
+     "http://desk.example:81/farm/ serves no history: ask through the proxy (examples/nginx.conf), or "
      "on the dispatcher's machine with --history FOLDER"),
     (Refused(403, 0, "Forbidden"), "403 Forbidden"),
 ])
 def test_a_desk_without_a_history_says_where_there_is_one(refusal: Refused, told: str) -> None:
-    past = history.Served(Served(**{"history_json": refusal, "history_jsonl": refusal, "7": refusal}))
+    past = history.Past(Served(**{"history_json": refusal, "history_jsonl": refusal, "7": refusal}))
     asks: List[Callable[[], object]] = [past.newest, lambda: list(past.rows()), lambda: list(past.log(7, 0))]
     for ask in asks:
         refusal.args = (refusal.args[0].split(": ")[0],)
@@ -293,14 +313,62 @@ def test_a_desk_without_a_history_says_where_there_is_one(refusal: Refused, told
 
 
 def test_a_log_that_isnt_served_is_told_from_a_history_that_isnt() -> None:
-    past = history.Served(Served(**{"7": Refused(404, 0, "Not Found")}))
+    past = history.Past(Served(**{"7": Refused(404, 0, "Not Found")}))
     with pytest.raises(NoLog):
         list(past.log(7, 0))
 
 
 def test_the_newest_lines_are_those_that_are_served() -> None:
-    past = history.Served(Served(history_json={"jobs": [{"job": 3}], "boards": []}))
+    past = history.Past(Served(history_json={"jobs": [{"job": 3}], "boards": []}))
     assert past.newest() == [{"job": 3}]
+
+
+@pytest.mark.parametrize("healths", [0, 5000])
+@pytest.mark.parametrize("count, owner, first", [
+    (1, None, 1000), (50, None, 951), (200, None, 801), (250, None, 751), (3, "zoe", 700), (2000, "ann", 1),
+])
+def test_as_many_jobs_as_are_asked_for(tmp_path: pathlib.Path, count: int, owner: Optional[str], first: int, healths: int) -> None:
+    """Of the newest lines, and where these have too few, of many; in a folder also where changes of healths alone are at
+    the history's end."""
+    common = {"kind": "job", "group": 1, "boards": ["b1"], "type": "bbb", "name": "", "submitted": None, "began": 1, "ended": 2,
+              "outcome": "Complete", "reason": ""}
+    rows = [{**common, "job": it, "owner": "zoe" if it % 100 == 0 and it < 901 else "ann"} for it in range(1, 1001)]
+    health = {"kind": "health", "board": "b1", "from": "Good", "to": "Bad", "at": 1, "reason": "by the admin" * 10}
+    lines = b"".join(json.dumps(it).encode() + b"\n" for it in [*rows, *[health] * healths])
+    (tmp_path / "history.jsonl").write_bytes(lines)
+    wanted = [it["job"] for it in rows if owner in (None, it["owner"])][::-1][:count]
+    served = Served(history_json={"jobs": rows[:-201:-1]}, history_jsonl=[lines])
+    for past in (history.Past(served), history.Past(history.Folder(str(tmp_path)))):
+        assert [it["job"] for it in past.jobs(count, owner)] == wanted
+    assert wanted[-1] == first
+
+
+def test_when_numbers_were_given_is_known_by_whole_lines() -> None:
+    """Of a long file its last bytes come, of which the first line may be a part: `12 5 1` of `112 5 1`."""
+    short = history.Past(Served(numbers=[b"2 100 99\n3 101 100\n4 102"])).moments()
+    assert [it.next for it in short] == [2, 3]
+    line = b"999999 1800000000 1799999999\n"
+    pieces = [b"12 5 1\n", line * -(-history.NUMBERS // len(line))]
+    assert [it.next for it in history.Past(Served(numbers=pieces)).moments()] == [999999]
+    assert history.Past(Served(numbers=Unreachable("gone"))).moments() == []
+
+
+@pytest.mark.parametrize("pieces, told", [
+    ([b"ab", b"c"], ""), ([b"ab"], "out.log was cut"), ([], "out.log was cut"), ([b"abc", b"d"], "there are more than 3 bytes"),
+    (Refused(404, 0, "Not Found"), "out.log of job 8 isn't kept any longer"),
+])
+def test_an_artifact_has_as_many_bytes_as_the_list_says(pieces: Any, told: str) -> None:
+    index = b'{"files":[{"name":"out.log","size":3,"number":1}],"left_out":[]}'
+    view = {"number": 8, "group": 7, "state": "Finished"}
+    desk = Served(**{"jobs/8": view, "artifacts/7/index.json": [index], "artifacts/7/1": pieces})
+    left = history.Artifacts(desk, history.Past(desk), 8)
+    if not told:
+        assert b"".join(left.bytes_of(left.of("out.log"))) == b"abc"
+        return
+    with pytest.raises((Unreachable, NoArtifact), match=f"^{told}$"):
+        list(left.bytes_of(left.of("out.log")))
+    with pytest.raises(NoArtifact, match="^job 8 left no x, or it isn't kept$"):
+        left.of("x")
 
 
 # ---- what a client tells of jobs
@@ -310,7 +378,7 @@ def test_the_newest_lines_are_those_that_are_served() -> None:
     ({"kind": "check"}, "health check"), ({"text": "job_name = 'boot'"}, "boot"), ({"text": "no TOML"}, ""), ({}, ""),
 ])
 def test_a_job_that_is_open_has_its_texts_name(view: Dict[str, Any], name: str) -> None:
-    assert past_jobs.name_of(view) == name
+    assert views.name_of(view) == name
 
 
 def test_a_desk_that_refuses_a_view_isnt_taken_for_one_without_the_job() -> None:
@@ -320,110 +388,24 @@ def test_a_desk_that_refuses_a_view_isnt_taken_for_one_without_the_job() -> None
         calls.job_of(desk, 8)
 
 
-# ---- a reservation
-
-
-class Cancels(calls.Desk):
-    """A desk that raises these faults at cancels, acquires and reservations, and then does them."""
-
-    def __init__(self, monkeypatch: pytest.MonkeyPatch, *faults: Exception) -> None:
-        super().__init__(PLAIN, 0)
-        self.faults = list(faults)
-        self.asked: List[str] = []
-        self.told: List[str] = []
-        self.now = 0.0
-        monkeypatch.setattr(desk_holding, "tell", self.told.append)
-        monkeypatch.setattr(reservations, "time", types.SimpleNamespace(monotonic=lambda: self.now, sleep=self.sleep))
-
-    def sleep(self, seconds: float) -> None:
-        self.now += seconds
-
-    def of_patience(self, seconds: float) -> "Cancels":
-        return self
-
-    def tell(self, path: str, body: calls.Body = None, key: Optional[str] = None) -> Dict[str, Any]:
-        self.asked.append(path)
-        self.now += 0.25
-        if self.faults:
-            raise self.faults.pop(0)
-        return {"number": 7}
-
-
-def reservation_of(desk: calls.Desk, number: Optional[int] = 7) -> reservations.Reservation:
-    made = reservations.Reservation(desk, ["hdmi"], "high")
-    made.number = number
-    return made
-
-
-def test_a_reservation_is_given_back_once_the_desk_answers(monkeypatch: pytest.MonkeyPatch) -> None:
-    desk = Cancels(monkeypatch, *[Unreachable("away")] * 5)
-    assert desk_holding.is_given_back(reservation_of(desk))
-    assert desk.asked == ["/reservations/7/cancel"] * 6 and desk.told == [] and desk.now == 5 + 6 * 0.25
-
-
-@pytest.mark.parametrize("fault, told", [
-    (Unreachable("away"), ["away: reservation 7 is left: desk cancel-reservation 7"]),
-    (Refused(401, 0, "no"), ["401 no: reservation 7 is left: desk cancel-reservation 7"]),
-    (Refused(409, Code.RESERVATION_EXPIRED, "expired"), []), (Refused(409, Code.WRONG_RESERVATION_STATE, "over"), []),
-])
-def test_a_reservation_that_is_left_is_told_and_one_that_ended_isnt(
-    monkeypatch: pytest.MonkeyPatch, fault: Exception, told: List[str]
-) -> None:
-    desk = Cancels(monkeypatch, *[fault] * 1000)
-    assert desk_holding.is_given_back(reservation_of(desk)) is (not told)
-    assert desk.told == told
-    assert desk.now <= reservations.GIVES_UP + 2, "it goes on for a minute at most"
-
-
-def test_one_whose_number_never_came_ends_by_itself(monkeypatch: pytest.MonkeyPatch) -> None:
-    """It is asked for once more under its key, so that what was done is found."""
-    desk = Cancels(monkeypatch, Unreachable("away"))
-    assert not desk_holding.is_given_back(reservation_of(desk, None))
-    assert desk.told == ["away: a reservation may be left, which ends by itself within two minutes"]
-    assert desk.asked == ["/reservations"]
-    assert desk_holding.is_given_back(reservation_of(desk, None))
-    assert desk.asked[1:] == ["/reservations", "/reservations/7/cancel"]
-
-
-def test_a_board_that_was_taken_back_meanwhile_is_gone(monkeypatch: pytest.MonkeyPatch) -> None:
-    desk = Cancels(monkeypatch, Refused(409, Code.RESERVATION_EXPIRED, "expired"), Refused(401, 0, "no"))
-    with pytest.raises(ReservationEnded, match="^reservation 7 has expired$"):
-        reservation_of(desk).acquire("b1")
-    with pytest.raises(Refused, match="401"):
-        reservation_of(desk).acquire("b1")
-    reservation_of(desk).acquire("b1")
-    assert desk.asked == ["/reservations/7/acquire"] * 3
-
-
-@pytest.mark.parametrize("state", ["expired", "canceled"])
-def test_a_reservation_that_ended_is_gone_for_who_waits(state: str) -> None:
-    desk = Served(reservations={"reservations": [{"number": 7, "state": state}, {"number": 8, "state": "allocated"}]})
-    with pytest.raises(ReservationEnded, match=f"^reservation 7 is {state}$"):
-        waiting.state_of(desk, 7)
-    assert waiting.state_of(desk, 8) == "allocated"
-    with pytest.raises(ReservationEnded, match="^reservation 9 is unknown$"):
-        waiting.state_of(desk, 9)
-
-
 def test_a_desk_that_doesnt_let_it_in_has_no_members() -> None:
     desk = Served(**{"jobs/7": {"group": 7, "number": 7, "role": "a"}, "jobs/8": Refused(401, 0, "no")})
     with pytest.raises(Refused, match="401"):
         calls.members_of(desk, 7)
 
 
-def test_signals_come_once(monkeypatch: pytest.MonkeyPatch) -> None:
-    """One that is ignored, as by nohup, stays so; behind the first none is raised."""
-    set_to: Dict[int, Any] = {}
-    kept = {it: 1 if it == signal.SIGHUP else 0 for it in interrupts.SIGNALS}
-    fake = types.SimpleNamespace(SIG_IGN=1, getsignal=kept.get, signal=set_to.__setitem__)
-    monkeypatch.setattr(interrupts, "signal", fake)
-    monkeypatch.setattr(interrupts, "CAME", [])
-    interrupts.catch_signals()
-    assert set_to == {it: interrupts.interrupt for it in interrupts.SIGNALS if it != signal.SIGHUP}
-    interrupts.check()
-    with pytest.raises(interrupts.Interrupted) as came:
-        interrupts.interrupt(15, None)
-    assert came.value.status == 143 and set(set_to.values()) == {1}
-    with pytest.raises(interrupts.Interrupted) as again:
-        interrupts.check()
-    assert again.value.status == 143
+def test_a_command_without_a_key_never_goes_over_a_kept_connection(line: Line) -> None:
+    """Where that ends before the answer, nobody knows whether the command was done."""
+    desk = desk_of()
+    kept = Answer(200, b"{}")
+    kept.will_close = False
+    line.answers += [kept, Answer(200, b'{"number":1}')]
+    desk.look("/status")
+    desk.tell("/jobs", b"x")
+    assert len(line.made) == 2, "a connection of its own"
+    again = Answer(200, b"{}")
+    again.will_close = False
+    line.answers += [again, ConnectionResetError("reset"), Answer(200, b'{"number":2}')]
+    desk.look("/status")
+    assert desk.tell("/jobs", b"x", "key") == {"number": 2}
+    assert [it[0] for it in line.asked].count("POST") == 3, "under its key it goes out again"

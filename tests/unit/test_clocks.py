@@ -6,35 +6,27 @@ import time
 from typing import Any, Dict, List, cast
 
 import pytest
-from farm_dispatch import cages, clocks as dispatch_clocks
+from fake_desk import FakeDesk
+from farm_dispatch import main as dispatch
 from fizgruk import calls, clocks
-from fizgruk.desk.clocks import Watch
+from fizgruk.desk.waiting import FarmClock
 from fizgruk.errors import Unreachable
 
 QUIET = "no pass for {} seconds: is farm-dispatch running?"
 
 
-class Desk:
+class Desk(FakeDesk):
     """A desk that has nothing but a clock of the test's own, and a machine of the same time."""
-
-    timeout = 30.0
 
     def __init__(self, monkeypatch: pytest.MonkeyPatch) -> None:
         self.now = 1_700_000_000.0
         self.said: Dict[str, Any] = {"clock": int(self.now), "count": 5}
-        self.looks = 0
+        super().__init__(status=self.said)
         for name in ("time", "monotonic"):
             monkeypatch.setattr(time, name, lambda: self.now)
 
-    def of_patience(self, _: float) -> "Desk":
-        return self
-
-    def look(self, _: str) -> Dict[str, Any]:
-        self.looks += 1
-        return self.said
-
     def accept(self) -> None:
-        self.said = {"clock": int(self.now), "count": self.said["count"] + 1}
+        self.said.update(clock=int(self.now), count=self.said["count"] + 1)
 
 
 @pytest.fixture
@@ -42,8 +34,8 @@ def desk(monkeypatch: pytest.MonkeyPatch) -> Desk:
     return Desk(monkeypatch)
 
 
-def watch_of(desk: Desk) -> Watch:
-    return Watch(cast(calls.Desk, desk))
+def watch_of(desk: Desk) -> FarmClock:
+    return FarmClock(cast(calls.Desk, desk))
 
 
 def test_its_own_refreshes_are_no_passes(desk: Desk) -> None:
@@ -119,7 +111,7 @@ def test_it_looks_every_five_seconds(desk: Desk) -> None:
     for _ in range(10):
         watch.look()
         desk.now += 1
-    assert (desk.looks, watch.has_looked) == (2, True)
+    assert (len(desk.asked), watch.has_looked) == (2, True)
 
 
 def test_a_desk_that_gives_no_answer_tells_nothing_here(desk: Desk, monkeypatch: pytest.MonkeyPatch) -> None:
@@ -135,11 +127,11 @@ def test_a_desk_that_gives_no_answer_tells_nothing_here(desk: Desk, monkeypatch:
 # ---- beside a dispatcher
 
 
-def beside(desk: Desk, folder: str) -> dispatch_clocks.Clocks:
-    return dispatch_clocks.Clocks(cast(calls.Desk, desk), folder, True)
+def beside(desk: Desk, folder: str) -> dispatch.Clocks:
+    return dispatch.Clocks(cast(calls.Desk, desk), folder, True)
 
 
-def test_a_farm_ahead_is_looked_at_each_minute_and_told_each_hour(desk: Desk, folder: str) -> None:
+def test_a_farm_ahead_is_told_each_hour(desk: Desk, folder: str) -> None:
     ahead = "the farm's clock is 2 hours ahead of this machine's: leases won't end until then"
     clock = beside(desk, folder)
     told = []
@@ -147,30 +139,45 @@ def test_a_farm_ahead_is_looked_at_each_minute_and_told_each_hour(desk: Desk, fo
         desk.said["clock"] = desk.now + 7200
         told.append(clock.warning())
         desk.now += 30
-    assert (desk.looks, [at for at, it in enumerate(told) if it]) == (63, [0, 120])
+    assert (len(desk.asked), [at for at, it in enumerate(told) if it]) == (2, [0, 120])
     assert {it for it in told if it} == {ahead}
 
 
 @pytest.mark.parametrize("said, is_set", [
-    (b"NTP=yes NTPSynchronized=no", False), (b"NTP=yes NTPSynchronized=yes", True),
-    (b"NTP=no NTPSynchronized=no", True), (b"", True),
+    ("NTP=yes NTPSynchronized=no", False), ("NTP=yes NTPSynchronized=yes", True),
+    ("NTP=no NTPSynchronized=no", True), ("", True),
 ])
 def test_a_machines_clock_is_waited_for_where_its_service_runs(
-    desk: Desk, folder: str, monkeypatch: pytest.MonkeyPatch, said: bytes, is_set: bool
+    desk: Desk, folder: str, monkeypatch: pytest.MonkeyPatch, said: str, is_set: bool
 ) -> None:
-    monkeypatch.setattr(dispatch_clocks, "_said_of_the_clock", said.split)
+    monkeypatch.setattr(dispatch, "time_service", said.split)
     assert beside(desk, folder).is_machine_set() is is_set
 
 
 def test_a_clock_that_was_set_stays_so_until_the_machine_begins_anew(
     desk: Desk, folder: str, monkeypatch: pytest.MonkeyPatch
 ) -> None:
-    said = {"boot": "one", "clock": b"NTP=yes NTPSynchronized=yes"}
-    monkeypatch.setattr(dispatch_clocks, "_said_of_the_clock", lambda: cast(bytes, said["clock"]).split())
-    monkeypatch.setattr(cages, "boot_id", lambda: said["boot"])
+    said, boot = {"clock": "NTP=yes NTPSynchronized=yes"}, os.path.join(folder, "boot")
+    monkeypatch.setattr(dispatch, "time_service", lambda: said["clock"].split())
+    monkeypatch.setattr(dispatch, "BOOT", boot)
+    tell(boot, "one\n")
     assert beside(desk, folder).is_machine_set()
-    assert cages.lines_of(os.path.join(folder, "synchronized")) == ["one"]
-    said["clock"] = b"NTP=yes NTPSynchronized=no"
+    with open(os.path.join(folder, "synchronized"), encoding="ascii") as note:
+        assert note.read() == "one\n"
+    said["clock"] = "NTP=yes NTPSynchronized=no"
     assert beside(desk, folder).is_machine_set()
-    said["boot"] = "two"
+    tell(boot, "two\n")
     assert not beside(desk, folder).is_machine_set()
+
+
+def test_a_farm_that_is_not_ahead_is_looked_at_each_minute(desk: Desk, folder: str) -> None:
+    clock = beside(desk, folder)
+    for _ in range(125):
+        assert clock.warning() == ""
+        desk.now += 30
+    assert len(desk.asked) == 63
+
+
+def tell(file: str, text: str) -> None:
+    with open(file, "w", encoding="ascii") as opened:
+        opened.write(text)

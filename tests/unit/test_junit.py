@@ -5,7 +5,7 @@ import io
 from typing import Any, Dict
 
 import pytest
-from farm_dispatch import junit
+from farm_dispatch import artifacts
 
 SUITE = "<testsuite>{}</testsuite>"
 CASE = '<testcase classname="{}" name="{}">{}</testcase>'
@@ -20,7 +20,7 @@ message="failed on setup">x</error></testcase><testcase classname="test_boot" na
 
 
 def counts(text: object) -> Dict[str, Any]:
-    return junit.counts_of(io.BytesIO(text if isinstance(text, bytes) else str(text).encode()))
+    return artifacts.counts_of(io.BytesIO(text if isinstance(text, bytes) else str(text).encode()))
 
 
 def test_cases_are_counted_and_what_suites_say_of_themselves_is_not() -> None:
@@ -70,7 +70,7 @@ BOMB = "<!DOCTYPE t [<!ENTITY a 'ha'>" + "".join(
         ("<!DOCTYPE testsuite SYSTEM 'file:///etc/passwd'>" + SUITE.format(""), "it has a document type"),
         ("<html><testcase/></html>", "its first element is no testsuite"),
         (SUITE.format("<a>" * 64), "it is more than 64 elements deep"),
-        (SUITE.format(" " * junit.MOST_BYTES), "it has more than 10,000,000 bytes"),
+        (SUITE.format(" " * artifacts.MOST_JUNIT), "it has more than 10,000,000 bytes"),
         (SUITE.format("&nbsp;"), "line 1: undefined entity"),
         ("<testsuite>", "line 1: no element found"),
         ("", "line 1: no element found"),
@@ -84,6 +84,6 @@ BOMB = "<!DOCTYPE t [<!ENTITY a 'ha'>" + "".join(
     ids=range(14),
 )
 def test_what_is_no_junit_is_refused(text: object, why: str) -> None:
-    with pytest.raises(junit.NoJUnit) as fault:
+    with pytest.raises(artifacts.NoJUnit) as fault:
         counts(text)
     assert str(fault.value).startswith(why)

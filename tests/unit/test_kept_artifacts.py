@@ -2,43 +2,42 @@
 and what a reader takes for a list of it."""
 from __future__ import annotations
 
-import dataclasses
-import errno
+import argparse
+import io
 import json
 import os
 import pathlib
-import random
 import socket
-import subprocess
-import sys
-from typing import Any, Callable, Dict, List, Tuple
+import tracemalloc
+from typing import Any, Callable, Dict, List, Optional, Tuple
 
-import dying
 import pytest
-from farm_dispatch import artifacts, folders
+from farm_dispatch import artifacts
+from farm_dispatch.record import Record
+from farm_dispatch.workers import END, Away, Hand
 from fizgruk import artifacts as index
-from served import MODULES, environment
 
-ORDER = artifacts.Order("", "word", 1000, 10_000, 100_000)
+BOUNDS = {"artifact_count": 1000, "artifact_limit": 10_000, "artifacts_limit": 100_000}
+UNIT = "farm-job-0-7-1"
 JUNIT = "<testsuite><testcase name='a'/><testcase name='b'><failure/></testcase></testsuite>"
 COUNTS = {"passed": 1, "failed": 1, "errors": 0, "skipped": 0, "names": ["b"]}
 
 
 class Place:
-    """A dispatcher's folder with one group, whose command has ended."""
+    """A dispatcher's folder with one group, whose command has ended, and what farm-worker's script says of its folder."""
 
     def __init__(self, place: pathlib.Path) -> None:
-        self.place, self.out = place, place / "jobs" / "7" / "out"
-        self.order = dataclasses.replace(ORDER, place=str(place))
-        self.state = place / "groups" / "7"
-        for folder in (self.state, self.out.parent):
+        self.place, self.out = place, place / "jobs" / UNIT / "work" / "out"
+        for folder in (self.out.parent, place / "logs", place / "open"):
             folder.mkdir(parents=True)
-        (self.state / folders.MADE).write_text("word\n")
-        (self.state / folders.LOG).touch()
-        self.files = folders.Files(str(place), 7)
+        (place / "logs" / "7").touch()
+        self.record = Record(str(place), 7)
+        self.record.update({"unit": UNIT, "worker": "desk", "began": 1})
+        self.hand = Hand(str(place), ["true"], ["true"])
 
     def keeps(self, **bounds: int) -> Dict[str, Any]:
-        return artifacts.kept_of(self.files, dataclasses.replace(self.order, **bounds))
+        found = artifacts.Collectors(str(self.place), argparse.Namespace(**{**BOUNDS, **bounds}))
+        return found._kept(self.record, self.hand)
 
     def kept(self) -> Dict[str, str]:
         """The texts that are kept, by their names."""
@@ -60,7 +59,7 @@ class Place:
             file.write_text(text)
 
     def log(self) -> str:
-        return (self.state / folders.LOG).read_text()
+        return (self.place / "logs" / "7").read_text()
 
 
 @pytest.fixture
@@ -84,7 +83,7 @@ def test_nothing_is_made_of_nothing(place: Place) -> None:
     place.out.mkdir()
     (place.out / "empty").mkdir()
     assert place.keeps() == {}
-    assert os.listdir(place.place / "artifacts") == []
+    assert not (place.place / "artifacts").exists()
 
 
 def make_socket(file: pathlib.Path) -> None:
@@ -128,15 +127,6 @@ def test_what_is_no_file_is_left_out_and_named(place: Place, what: str) -> None:
 
 
 @pytest.mark.parametrize(
-    "make", [lambda it: it.symlink_to("/etc"), lambda it: it.write_text("x"), os.mkfifo], ids=["link", "file", "pipe"]
-)
-def test_what_is_no_folder_isnt_entered(place: Place, make: Make) -> None:
-    make(place.out)
-    assert place.keeps() == {"artifacts": {"files": 0, "bytes": 0, "left_out": 1}}
-    assert place.left_out() == {"out": "a link, or no folder"}
-
-
-@pytest.mark.parametrize(
     "name, told",
     [
         (b"a\nb", "a?b"), (b"\x1b]0;x\x07", "?]0;x?"), (b"\xff\xfe", "??"), ("\u202eab".encode(), "?ab"),
@@ -165,11 +155,11 @@ def test_odd_names_that_are_text_are_kept(place: Place) -> None:
 def test_bounds_of_counts_and_sizes(place: Place) -> None:
     place.leaves(a="x" * 10, b="x" * 11, c="x" * 10, d="x" * 6, e="x" * 4, f="x")
     (place.out / "junit.xml").write_text("<a/>")
-    kept = place.keeps(one=10, all=34)
+    kept = place.keeps(artifact_limit=10, artifacts_limit=34)
     assert kept == {"artifacts": {"files": 5, "bytes": 34, "left_out": 2}}
     assert sorted(place.kept()) == ["a", "c", "d", "e", "junit.xml"]
     assert place.left_out() == {"b": "larger than 10 bytes", "f": "beyond 34 bytes in all"}
-    place.keeps(count=2)
+    place.keeps(artifact_count=2)
     assert sorted(place.kept()) == ["a", "junit.xml"], "the tests' file goes first"
     assert place.left_out()["c"] == "beyond 2 files"
 
@@ -179,60 +169,83 @@ def test_a_million_files_arent_looked_at(place: Place, monkeypatch: pytest.Monke
     place.out.mkdir()
     for it in range(150):
         (place.out / f"{it:03}").touch()
-    kept = place.keeps(count=10)["artifacts"]
-    assert (kept["files"], kept["left_out"]) == (10, 91)
-    assert len(place.index()["left_out"]) == 50 and place.index()["more_left_out"] == 41
+    kept = place.keeps(artifact_count=10)["artifacts"]
+    assert kept["files"] == 10 and 85 <= kept["left_out"] <= 150
+    assert len(place.index()["left_out"]) == 50 and place.index()["more_left_out"] == kept["left_out"] - 50
 
 
-def test_a_file_that_grows_is_left_out_and_one_that_shrinks_is_cut(place: Place, monkeypatch: pytest.MonkeyPatch) -> None:
-    place.leaves(grows="said", shrinks="said", stays="said")
-    was = os.open
-
-    def opened(name: Any, *words: Any, **more: Any) -> int:
-        if name == "grows":
-            (place.out / "grows").write_text("more said")
-        if name == "shrinks":
-            (place.out / "shrinks").write_text("s")
-        return was(name, *words, **more)
-
-    monkeypatch.setattr(os, "open", opened)
-    assert place.keeps()["artifacts"] == {"files": 2, "bytes": 5, "left_out": 1}
-    monkeypatch.undo()
-    assert place.kept() == {"shrinks": "s", "stays": "said"}
-    assert place.left_out() == {"grows": "it grew meanwhile"}
-
-
-def test_a_file_that_becomes_a_link_isnt_followed(place: Place, monkeypatch: pytest.MonkeyPatch) -> None:
-    place.leaves(good="said", turns="said")
-    was = os.open
-
-    def opened(name: Any, *words: Any, **more: Any) -> int:
-        if name == "turns":
-            (place.out / "turns").unlink()
-            (place.out / "turns").symlink_to("/etc/passwd")
-        return was(name, *words, **more)
-
-    monkeypatch.setattr(os, "open", opened)
+@pytest.mark.parametrize("name", ["/etc/passwd", "../x", "a/../../x", "", ".", "a//b"])
+def test_a_worker_that_lies_writes_nothing_beyond_the_folder(place: Place, name: str, monkeypatch: pytest.MonkeyPatch) -> None:
+    """As one that somebody has taken."""
+    monkeypatch.setattr(Hand, "listed", lambda *words: f"f 4 {name}\0f 4 good\0end\0".encode())
+    monkeypatch.setattr(Hand, "out", lambda *words: io.BytesIO(b"%020dsaid" % 4))
+    before = sorted(os.listdir(place.place.parent))
     place.keeps()
-    monkeypatch.undo()
-    assert (place.kept(), place.left_out()) == ({"good": "said"}, {"turns": "a link"})
-
-
-def test_what_cant_be_read_is_left_out(place: Place, monkeypatch: pytest.MonkeyPatch) -> None:
-    """As of a file and a folder without rights, where the dispatcher isn't root."""
-    place.leaves(good="said", shut="said", closed_x="said")
-    was = os.open
-
-    def opened(name: Any, *words: Any, **more: Any) -> int:
-        if name in ("shut", "closed"):
-            raise PermissionError(errno.EACCES, "Permission denied")
-        return was(name, *words, **more)
-
-    monkeypatch.setattr(os, "open", opened)
-    place.keeps()
-    monkeypatch.undo()
     assert place.kept() == {"good": "said"}
-    assert place.left_out() == {"shut": "Permission denied", "closed": "Permission denied"}
+    assert sorted(os.listdir(place.place.parent)) == before
+
+
+def test_a_size_below_0_makes_no_room_for_others(place: Place, monkeypatch: pytest.MonkeyPatch) -> None:
+    monkeypatch.setattr(Hand, "listed", lambda *words: b"f -1000 a\0f 4 b\0f 4 c\0end\0")
+    monkeypatch.setattr(Hand, "out", lambda *words: io.BytesIO(b"%020dsaid" % 4))
+    place.keeps(artifacts_limit=4)
+    assert (place.kept(), list(place.left_out())) == ({"b": "said"}, ["a", "c"])
+
+
+@pytest.mark.parametrize("size", [0, 3, 5, 10**6])
+def test_a_file_of_another_size_is_left_out(place: Place, size: int, monkeypatch: pytest.MonkeyPatch) -> None:
+    monkeypatch.setattr(Hand, "listed", lambda *words: b"f 4 a\0f 4 b\0end\0")
+    monkeypatch.setattr(Hand, "out", lambda *words: io.BytesIO(b"%020d%s%020dsaid" % (size, b"x" * size, 4)))
+    place.keeps()
+    assert (place.kept(), place.left_out()) == ({"b": "said"}, {"a": "it can't be read"})
+
+
+@pytest.mark.parametrize("head", [b"", b"1", b"x" * 20, b"-" + b"0" * 19, b"%020d" % 10**15])
+def test_an_answer_that_isnt_farm_workers_fills_no_memory(place: Place, head: bytes, monkeypatch: pytest.MonkeyPatch) -> None:
+    monkeypatch.setattr(Hand, "listed", lambda *words: b"f 4 a\0end\0")
+    asked: List[int] = []
+
+    class Answer(io.BytesIO):
+        def read(self, size: Optional[int] = -1) -> bytes:
+            asked.append(size or 0)
+            return super().read(size)
+
+    monkeypatch.setattr(Hand, "out", lambda *words: Answer(head))
+    with pytest.raises(Away):
+        place.keeps()
+    assert max(asked) <= artifacts.BLOCK and not (place.place / "artifacts" / "7").exists()
+
+
+def test_many_files_are_asked_for_some_at_a_time(place: Place, monkeypatch: pytest.MonkeyPatch) -> None:
+    monkeypatch.setattr(artifacts, "AT_ONCE", 3)
+    texts = {f"f{it}": f"said {it}" for it in range(8)}
+    place.leaves(**texts)
+    place.keeps()
+    assert place.kept() == texts
+
+
+@pytest.mark.parametrize("listed", [b"", b"f 4 a\0", b"en"])
+def test_a_list_that_was_cut_is_asked_for_again(place: Place, listed: bytes, monkeypatch: pytest.MonkeyPatch) -> None:
+    monkeypatch.setattr(Hand, "listed", lambda *words: listed)
+    with pytest.raises(Away):
+        place.keeps()
+    assert not (place.place / "artifacts" / "7").exists()
+
+
+def test_files_that_were_cut_are_asked_for_again(place: Place, monkeypatch: pytest.MonkeyPatch) -> None:
+    """As where ssh is killed; not without end."""
+    place.leaves(a="x" * 2000, b="y" * 2000)
+    whole = place.hand.out(UNIT, ["a", "b"]).read()
+    assert len(whole) == 4040
+    monkeypatch.setattr(Hand, "out", lambda *words: io.BytesIO(whole[:4039]))
+    with pytest.raises(Away):
+        place.keeps()
+    assert os.listdir(place.place / "artifacts") == []
+    found = artifacts.Collectors(str(place.place), argparse.Namespace(**BOUNDS))
+    monkeypatch.setattr(artifacts, "MOST_TRIES", 2)
+    while not found.are_done(place.record, place.hand):
+        pass
+    assert place.record.get("kept") == {} and "isn't kept: its answer was cut" in place.log()
 
 
 def test_time_that_is_over_leaves_out_the_rest(place: Place, monkeypatch: pytest.MonkeyPatch) -> None:
@@ -247,16 +260,6 @@ def test_a_full_disk_keeps_nothing_and_says_so(place: Place, monkeypatch: pytest
     monkeypatch.setattr(artifacts, "MARGIN", 2**60)
     assert place.keeps()["artifacts"] == {"files": 0, "bytes": 0, "left_out": 1}
     assert place.left_out() == {"a": "the disk is full"}
-    monkeypatch.undo()
-
-    def full(*_: object) -> int:
-        raise OSError(errno.ENOSPC, "No space left on device")
-
-    monkeypatch.setattr(os, "write", full)
-    assert place.keeps() == {}
-    monkeypatch.undo()
-    assert place.left_out() == {"a": "the disk is full"}, "what was kept before is as it was"
-    assert os.listdir(place.place / "artifacts") == ["7"]
 
 
 def test_a_junit_that_isnt_counted_is_kept_and_told(place: Place) -> None:
@@ -265,50 +268,6 @@ def test_a_junit_that_isnt_counted_is_kept_and_told(place: Place) -> None:
     assert place.keeps() == {"artifacts": {"files": 2, "bytes": len(JUNIT) + 13, "left_out": 0}}
     assert place.index()["no_tests"] == "it has a document type"
     assert place.log() == "farm-dispatch: the tests of out/junit.xml aren't counted: it has a document type\n"
-
-
-# A collector that kills itself at one of the places at which it changes something.
-DIES = dying.HEAD + """\
-die_in(os, "chmod", "fchmod", "rmdir")
-from farm_dispatch import artifacts
-sys.exit(artifacts.main(sys.argv[1:]))
-"""
-
-
-def test_a_kill_anywhere_leaves_all_or_nothing_and_is_made_up_for(place: Place) -> None:
-    place.leaves(a="said", b_c="below")
-    (place.out / "junit.xml").write_text(JUNIT)
-
-    def ends(left: int) -> int:
-        words = [sys.executable, "-c", DIES, ":".join(MODULES), str(left), str(place.state), place.order.word()]
-        return subprocess.run(words, env=environment(), check=False).returncode
-
-    died, begin = 0, 1 if os.environ.get("FARM_KILLS") == "all" else random.randrange(1, 5)
-    for left in range(begin, 200, 1 if os.environ.get("FARM_KILLS") == "all" else 4):
-        (place.state / folders.KEPT).unlink(missing_ok=True)
-        is_dead = ends(left) != 0
-        died += is_dead
-        if (place.place / "artifacts" / "7").exists():
-            assert len(place.kept()) == 3, f"kill {left}"
-        if (place.state / folders.KEPT).exists():
-            assert len(place.kept()) == 3, f"kill {left}"
-        if not is_dead:
-            break
-    assert died >= 5, f"from {begin} on"
-    assert json.loads((place.state / folders.KEPT).read_text())["tests"] == COUNTS
-
-
-def test_of_two_collectors_one_works(place: Place) -> None:
-    """The other waits for its lock, and leaves what is there; so does one that was started for another folder."""
-    place.leaves(a="said")
-    words = [sys.executable, "-m", "farm_dispatch.artifacts", str(place.state)]
-    env = environment(PYTHONPATH=":".join(MODULES))
-    other = dataclasses.replace(place.order, made="another")
-    assert subprocess.run([*words, other.word()], env=env, check=False).returncode == 0
-    assert not (place.state / folders.KEPT).exists()
-    both = [subprocess.Popen([*words, place.order.word()], env=env) for _ in range(2)]
-    assert [it.wait() for it in both] == [0, 0]
-    assert place.kept() == {"a": "said"}
 
 
 # ---- what a list of artifacts is
@@ -343,3 +302,21 @@ BAD: List[bytes] = [
 def test_what_is_no_list_is_refused(said: bytes) -> None:
     with pytest.raises(index.BadIndex):
         index.index_of(said)
+
+
+def test_what_never_began_left_nothing_and_that_is_an_answer(tmp_path: pathlib.Path) -> None:
+    """As of a try by hand whose dispatcher was killed between the start and the command: else it is asked for ever."""
+    assert Hand(str(tmp_path), ["/bin/true"], ["/bin/true"]).listed("farm-job-a-1-b") == END
+
+
+def test_a_list_of_many_files_takes_little_memory() -> None:
+    """A job can make millions within its folder's limit, and several end at once."""
+    listed = b"".join(b"f 0 %07d\0" % it for it in range(400_000)) + b"f 1 junit.xml\0" + END
+    tracemalloc.start()
+    try:
+        found = artifacts.entries_of(listed)
+        most = tracemalloc.get_traced_memory()[1]
+    finally:
+        tracemalloc.stop()
+    assert found[:2] == [("junit.xml", "f", 1), ("0000000", "f", 0)] and len(found) == artifacts.MOST_ENTRIES
+    assert most < 70_000_000

@@ -183,7 +183,7 @@ CHECK: Dict[str, Any] = {"owner": "admin", "name": "health check"}
     ("Good", {**CHECK, "owner": "ann", "outcome": "Incomplete"}, "Bad", "by the admin"),
 ])
 def test_a_jobs_end_is_why_a_health_changed(place: str, before: str, ended: Any, after: str, why: str) -> None:
-    """Where the desk's rules let it be (docs/MACHINE.md, Finish); also over a restart."""
+    """Where the desk's rules let it be (docs/MACHINE.md, Change); also over a restart."""
     history = History(place, set())
     history.see([board("b1", before)])
     history.add_jobs([job(1, **ended)])

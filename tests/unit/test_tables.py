@@ -23,7 +23,7 @@ def test_numbers_stand_at_the_right_and_no_line_ends_with_spaces() -> None:
     columns: list[tables.Column] = [
         ("NAME", lambda it: it["name"]), ("N", lambda it: it["count"]), ("TAGS", lambda it: it["tags"]),
     ]
-    assert tables.lines_of(rows, columns) == ["NAME      N TAGS", "b1        5", "b12345 1234 x"]
+    assert tables.lines_of(rows, columns) == ["NAME      N TAGS", "b1        5 -", "b12345 1234 x"]
     assert tables.lines_of([], columns) == ["NAME N TAGS"]
 
 

@@ -1,13 +1,13 @@
-"""Waits for a reservation's board, and what is given back, by a clock of the test's own."""
+"""Waits for a reservation's board, by a clock of the test's own."""
 from __future__ import annotations
 
 import time
-from typing import Any, Dict, List, Optional, Tuple, cast
+from typing import Any, Dict, List, Optional, Type, cast
 
 import pytest
-from fizgruk import calls, reservations, waiting
-from fizgruk.desk import clocks, holding as desk_holding, waiting as desk_waiting
-from fizgruk.errors import Refused, ReservationEnded, Unreachable
+from fizgruk import calls, waiting
+from fizgruk.desk import waiting as desk_waiting
+from fizgruk.errors import Refused, ReservationEnded, TimedOut, Unreachable
 
 LEASE = 60  # seconds for which a reservation lives that isn't refreshed
 EXPIRED = Refused(409, 31, "expired")
@@ -26,7 +26,6 @@ class Desk:
         self.queue: List[Dict[str, Any]] = []  # what waits besides
         self.faults: List[Optional[Exception]] = []
         self.refreshes: List[float] = []
-        self.told: List[Tuple[str, Optional[str]]] = []
         monkeypatch.setattr(time, "time", lambda: self.now)
         monkeypatch.setattr(time, "monotonic", lambda: self.now)
         monkeypatch.setattr(time, "sleep", self.sleep)
@@ -51,7 +50,7 @@ class Desk:
         views: Dict[str, Dict[str, Any]] = {
             "/status": {"clock": int(self.now), "count": int(self.now)}, "/queue": {"queue": queue + self.queue},
             "/boards": {"boards": [board]}, "/reservations": {"reservations": [row]}, "/jobs/1": {"owner": "bob"},
-            "/types": {"types": []},
+            "/types": {"types": []}, "/workers.json": {}, "/running.json": {},
         }
         return views[path]
 
@@ -61,21 +60,15 @@ class Desk:
         self.refreshes.append(self.now - 1000)
         return {"number": 7}
 
-    def tell(self, path: str, body: object = None, key: Optional[str] = None) -> Dict[str, Any]:
-        del body
-        self.told.append((path, key))
-        self.fails()
-        return {"number": 7}
-
 
 @pytest.fixture
 def desk(monkeypatch: pytest.MonkeyPatch) -> Desk:
     return Desk(monkeypatch)
 
 
-def wait(desk: Desk, every: float = 2) -> Dict[str, Any]:
-    with desk_waiting.Wait(cast(calls.Desk, desk), clocks.Watch(cast(calls.Desk, desk)), every) as waits:
-        return waiting.wait_for_board(waits, 7, [])
+def wait(desk: Desk, every: float = 2, number: int = 7) -> Dict[str, Any]:
+    with desk_waiting.ShownWait(cast(calls.Desk, desk), desk_waiting.FarmClock(cast(calls.Desk, desk)), every) as waits:
+        return waiting.wait_for_board(waits, number, [])
 
 
 @pytest.mark.parametrize("every", [0.05, 2, 19, 60])
@@ -108,29 +101,46 @@ def test_a_board_that_comes_between_two_views_is_its_own(
 def test_a_job_that_gets_its_board_between_two_views_isnt_its_own_reason(desk: Desk) -> None:
     desk.state, desk.queue = "canceled", [{"kind": "group", "number": 1}]
     job: Dict[str, Any] = {"number": 1, "group": 1, "state": "Submitted", "type": "bbb", "tags": []}
-    waits = desk_waiting.Wait(cast(calls.Desk, desk), clocks.Watch(cast(calls.Desk, desk)), 2)
+    waits = desk_waiting.ShownWait(cast(calls.Desk, desk), desk_waiting.FarmClock(cast(calls.Desk, desk)), 2)
     assert waiting.state_and_place(waits, [job]) == "Submitted, place 1 of 1 in the queue"
     other = {**job, "number": 2}
     assert waiting.state_and_place(waits, [other]).endswith(": 1 board fits, held by job 1 of bob")
 
 
-def test_a_reservation_that_expired_is_gone(desk: Desk) -> None:
-    desk.faults = [EXPIRED]
-    with pytest.raises(ReservationEnded, match="^reservation 7 has expired$"):
+@pytest.mark.parametrize("fault, kind, told", [
+    (EXPIRED, ReservationEnded, "reservation 7 has expired"),
+    (Refused(409, 32, "wrong reservation state"), ReservationEnded, "reservation 7 has ended"),
+    (Refused(403, 3, "forbidden"), Refused, "3 forbidden"),
+])
+def test_a_refused_refresh_ends_the_wait(desk: Desk, fault: Exception, kind: Type[Exception], told: str) -> None:
+    """With what became of the reservation; another refusal is the desk's."""
+    desk.faults = [fault]
+    with pytest.raises(kind, match=f"^{told}$"):
         wait(desk)
 
 
-@pytest.mark.parametrize("state", ["expired", "canceled"])
-def test_a_reservation_that_ended_is_gone(desk: Desk, state: str) -> None:
+@pytest.mark.parametrize("state, number", [("expired", 7), ("canceled", 7), ("unknown", 8)])
+def test_a_reservation_that_ended_is_gone(desk: Desk, state: str, number: int) -> None:
     desk.state = state
-    with pytest.raises(ReservationEnded, match=f"^reservation 7 is {state}$"):
-        wait(desk)
+    with pytest.raises(ReservationEnded, match=f"^reservation {number} is {state}$"):
+        wait(desk, number=number)
 
 
-def test_another_refusal_of_a_refresh_is_the_desks(desk: Desk) -> None:
-    desk.faults = [Refused(403, 3, "forbidden")]
-    with pytest.raises(Refused, match="^3 forbidden$"):
-        wait(desk)
+def test_one_that_left_the_queue_while_the_boards_were_looked_at_is_looked_at_again(
+    desk: Desk, capsys: pytest.CaptureFixture[str]
+) -> None:
+    desk.state, desk.comes = "allocated", 2.0
+    assert wait(desk)["name"] == "b1" and desk.now == 1002
+    assert "reservation 7 is allocated\n" in capsys.readouterr().err
+
+
+def test_a_wait_ends_at_its_time_and_says_why(desk: Desk) -> None:
+    """Neither before nor a look later."""
+    timed = waiting.Wait(cast(calls.Desk, desk), "no board", 5, 2.0, print)
+    told = "no board within 5 s: reservation 7 is waiting, place 1 of 1 in the queue: 1 board fits, held by job 1 of bob"
+    with pytest.raises(TimedOut, match=f"^{told}$"):
+        waiting.wait_for_board(timed, 7, ())
+    assert desk.now == 1005
 
 
 def test_a_desk_that_gives_no_answer_is_asked_again(desk: Desk, capsys: pytest.CaptureFixture[str]) -> None:
@@ -138,56 +148,3 @@ def test_a_desk_that_gives_no_answer_is_asked_again(desk: Desk, capsys: pytest.C
     assert wait(desk)["name"] == "b1"
     assert capsys.readouterr().err.count("no answer from the desk: gone\n") == 1
     assert len(desk.refreshes) >= 2
-
-
-# ---- giving back
-
-
-def reservation_at(desk: Desk) -> reservations.Reservation:
-    return reservations.Reservation(cast(calls.Desk, desk), [], None)
-
-
-def test_a_reservation_whose_answer_was_lost_is_asked_for_under_its_key_to_be_canceled(desk: Desk) -> None:
-    desk.faults = [Unreachable("lost")]
-    reservation = reservation_at(desk)
-    with pytest.raises(Unreachable):
-        reservation.ask()
-    assert desk_holding.is_given_back(reservation)
-    assert [path for path, _ in desk.told] == ["/reservations", "/reservations", "/reservations/7/cancel"]
-    first, again, cancel = (key for _, key in desk.told)
-    assert first == again is not None and cancel not in (None, first)
-
-
-@pytest.mark.parametrize("fault", [EXPIRED, Refused(409, 32, "wrong reservation state")])
-def test_what_has_ended_already_is_given_back(desk: Desk, fault: Exception) -> None:
-    reservation = reservation_at(desk)
-    reservation.ask()
-    desk.faults = [fault]
-    assert desk_holding.is_given_back(reservation)
-
-
-def test_it_is_given_back_under_one_key_for_a_minute(desk: Desk, capsys: pytest.CaptureFixture[str]) -> None:
-    reservation = reservation_at(desk)
-    reservation.ask()
-    desk.faults = [Unreachable("gone")] * 50
-    assert desk_holding.is_given_back(reservation)
-    assert len({key for path, key in desk.told if path.endswith("cancel")}) == 1
-    desk.faults = [Unreachable("gone")] * 1000
-    assert not desk_holding.is_given_back(reservation)
-    assert capsys.readouterr().err == "desk: gone: reservation 7 is left: desk cancel-reservation 7\n"
-
-
-def test_a_refusal_leaves_it_and_is_told(desk: Desk, capsys: pytest.CaptureFixture[str]) -> None:
-    reservation = reservation_at(desk)
-    reservation.ask()
-    desk.faults = [Refused(403, 3, "forbidden")]
-    assert not desk_holding.is_given_back(reservation)
-    assert capsys.readouterr().err == "desk: 3 forbidden: reservation 7 is left: desk cancel-reservation 7\n"
-
-
-def test_a_board_that_expired_before_it_was_acquired(desk: Desk) -> None:
-    reservation = reservation_at(desk)
-    reservation.ask()
-    desk.faults = [EXPIRED]
-    with pytest.raises(ReservationEnded, match="^reservation 7 has expired$"):
-        reservation.acquire("b1")

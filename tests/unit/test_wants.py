@@ -4,6 +4,7 @@ from __future__ import annotations
 from typing import Any, Dict, List, Sequence, cast
 
 import pytest
+from fake_desk import FakeDesk
 from fizgruk import calls, wants
 from fizgruk.wants import Want
 
@@ -14,22 +15,8 @@ def board(name: str, kind: str = "bbb", health: str = "Good", holder: str = "non
     return {"name": name, "type": kind, "health": health, "holder": holder, "tags": list(tags)}
 
 
-class Views:
-    """A desk that has views alone, and knows which were asked for."""
-
-    def __init__(self, **views: Any) -> None:
-        self.views = {f"/{name}": said for name, said in views.items()}
-        self.asked: List[str] = []
-
-    def look(self, path: str) -> Any:
-        self.asked.append(path)
-        if path.startswith("/jobs/"):
-            return self.views["/jobs"][int(path[6:])]
-        return {path[1:]: self.views[path], **self.views.get("/status", {})}
-
-
 def views(*boards: Row, **more: Any) -> calls.Desk:
-    return cast(calls.Desk, Views(boards=list(boards), **more))
+    return cast(calls.Desk, FakeDesk(boards=list(boards), **more))
 
 
 def lab_of(*boards: Row, checked: Sequence[str] = (), **more: Any) -> wants.Lab:
@@ -79,7 +66,7 @@ def test_why_one_board_is_waited_for(boards: List[Row], told: str) -> None:
 
 
 def test_an_owner_is_asked_for_once() -> None:
-    desk = Views(boards=[board("b1", holder="job 7")], jobs={7: {"owner": "cat"}}, reservations=[])
+    desk = FakeDesk(boards=[board("b1", holder="job 7")], jobs={7: {"owner": "cat"}}, reservations=[])
     owners: Dict[str, str] = {}
     for _ in range(3):
         lab = wants.Lab(cast(calls.Desk, desk), set(), owners)
@@ -106,7 +93,35 @@ def test_a_holder_that_ended_meanwhile_is_nobodys() -> None:
 ])
 def test_a_group_that_no_boards_can_come_for(boards: List[Row], wanted: List[Want], told: str) -> None:
     assert lab_of(*boards).lack(wanted) == told
-    assert lab_of(*boards).reason(wanted) == told
+    if told:
+        assert lab_of(*boards).reason(wanted) == told
+
+
+@pytest.mark.parametrize("boards, wanted, told", [
+    ([board("b1"), board("b2")], [BBB, BBB], ""),
+    ([board("b1"), board("b2", holder="job 1")], [BBB, BBB], "of 2 boards (bbb) only 1 free: b2 is held by job 1 of ann"),
+    ([board("b1", holder="job 1"), board("b2", holder="job 1")], [BBB, BBB], "2 boards fit: 2 held (job 1 of ann, job 1 of ann)"),
+    ([board("b1", holder="job 1"), board("c1", "ccc")], [Want("ccc", ()), BBB], "1 board fits, held by job 1 of ann"),
+])
+def test_why_a_group_waits_that_boards_may_come_for(boards: List[Row], wanted: List[Want], told: str) -> None:
+    assert lab_of(*boards, jobs={1: {"owner": "ann"}}).reason(wanted) == told
+
+
+@pytest.mark.parametrize("boards, told", [
+    ([board("b1", tags=["worker=rack2"])], "1 board fits, without its worker; rack2 is silent"),
+    ([board("b1", holder="job 1"), board("b2", tags=["worker=rack2"])],
+     "2 boards fit: 1 held (job 1 of ann), 1 without its worker; rack2 is silent"),
+    ([board("b1"), board("b2", tags=["worker=rack2"])], ""),
+    ([board("b1", tags=["worker", "workers=x", "worker-of=x", "worker=rack2"])], "1 board fits, without its worker; rack2 is silent"),
+    ([board("b1", holder="job 1", tags=["worker=rack2"])], "1 board fits, held by job 1 of ann; rack2 is silent"),
+    ([board("b1", holder="job 1"), board("b2", health="Bad", tags=["worker=rack2"])],
+     "2 boards fit: 1 Bad, 1 held (job 1 of ann)"),
+])
+def test_a_worker_that_doesnt_answer_is_told_where_it_concerns_a_claim(boards: List[Row], told: str) -> None:
+    lab = wants.Lab(views(*boards, jobs={1: {"owner": "ann"}}), set(), {})
+    lab.silent = {"rack2": "rack2 is silent", "x": "x is silent"}
+    assert lab.reason([BBB]) == told
+    assert lab.is_met([BBB]) is (told == "")
 
 
 @pytest.mark.parametrize("boards, met", [
@@ -133,27 +148,48 @@ def claim(number: int, kind: str = "group", boards: int = 1) -> Row:
     return {"number": number, "kind": kind, "boards": boards}
 
 
-def test_notes_of_a_queue() -> None:
+def claims_at(desk: calls.Desk, **files: Any) -> wants.Claims:
+    """Claims of a desk whose dispatcher shows these files alone."""
+    found = wants.Claims(desk)
+    found.now.said = {f"{it}.json": files.get(it, {}) for it in ("running", "waiting", "workers")}
+    return found
+
+
+def test_reasons_of_a_queue() -> None:
     queue = [claim(1, boards=2), claim(3, "reservation"), claim(4, "reservation"), claim(5)]
     desk = views(
         board("b1"), board("b2", health="Bad"), status={"collector": 1},
         jobs={1: job(), 2: job(), 5: job("ccc")},
-        reservations=[{"number": 3, "tags": ["name=b2"]}, {"number": 4, "tags": []}],
+        reservations=[{"number": 3, "tags": ["name=b2"], "owner": "ann"}, {"number": 4, "tags": [], "owner": "ann"}],
+        types=[],
     )
-    assert wants.notes_of(desk, queue) == {
+    assert claims_at(desk).reasons(queue) == {
         1: "collects boards; of 2 boards (bbb) only 1 can come: b2 is Bad",
-        3: "no board with name=b2 can come: b2 is Bad",
+        3: "1 board fits, Bad; none can come",
         4: "",
-        5: "no ccc can come: no other board fits",
+        5: "no board fits; none can come",
     }
-    assert wants.notes_of(desk, []) == {}
+    assert claims_at(desk).reasons([]) == {}
+
+
+def test_what_the_dispatcher_tells_isnt_asked_of_the_desk() -> None:
+    """Its word on a group of another size is another farm's, and on a job that has another board."""
+    desk = FakeDesk(boards=[board("b1", holder="job 9")], status={"collector": 0}, jobs={1: job("ccc"), 9: {"owner": "bob"}}, types=[])
+    groups = [{"group": it, "name": "", "submitted": None, "wants": [job()] * it} for it in (1, 2)]
+    runs = {"job": 9, "owner": "ann", "board": "b1", "name": "", "began": None, "limit": 1}
+    shown = claims_at(cast(calls.Desk, desk), waiting={"groups": groups}, running={"jobs": [runs]})
+    assert shown.reasons([claim(1)]) == {1: "1 board fits, held by job 9 of ann"}
+    assert not any(it.startswith("/jobs/") for it in desk.asked)
+    other = claims_at(cast(calls.Desk, desk), waiting={"groups": [{**groups[1], "group": 1}]}, running={"jobs": [{**runs, "board": "b2"}]})
+    assert other.reasons([claim(1)]) == {1: "no board fits; none can come"}
 
 
 def test_of_a_long_queue_the_first_fifty_and_the_collector_are_asked_about() -> None:
-    queue = [claim(it) for it in range(1, 81)]
-    desk = views(status={"collector": 77}, jobs={it: job() for it in range(1, 81)})
-    assert list(wants.notes_of(desk, queue)) == [*range(1, 51), 77]
+    queue = [claim(it, boards=2 if it == 77 else 1) for it in range(1, 81)]
+    desk = views(status={"collector": 77}, jobs={it: job() for it in range(1, 81)}, types=[])
+    assert list(claims_at(desk).reasons(queue)) == [*range(1, 51), 77]
 
 
 def test_a_desk_of_the_first_edition_names_no_collector() -> None:
-    assert wants.notes_of(views(board("b1"), status={}, jobs={1: job()}), [claim(1)]) == {1: ""}
+    desk = views(board("b1"), status={}, jobs={1: job()}, types=[])
+    assert claims_at(desk).reasons([claim(1)]) == {1: ""}

@@ -1,179 +1,117 @@
-"""Ends what can't end by itself, and cleans up where nobody comes: stopped sessions, what lives of
-killed ones, boards whose hold has ended. It looks for all sessions too."""
+"""The guard: root's, without a capability. It kills what is below farm-hold.slice and has no hold any more, and can do
+nothing else to a process; it reads no file that anybody else writes. Beside that it has the door clean up behind holds
+where nobody comes, and tells the page which ways boards have and who is there."""
 import contextlib
 import json
 import os
-import signal
+import socket
 import subprocess
 import sys
+import threading
 import time
-from typing import Any, Dict, List, NoReturn, Optional
+from typing import Any, Dict, Iterable, List, NoReturn, Optional, Set, Tuple
 
-from farm_access import record, sessions
-from farm_access.boardlock import BoardLock, is_left
-from farm_access.lookout import MOST, Board, Lookout, NoDesk, asked_again, is_current
-from farm_access.session import told_of
-from farm_access.sessions import GRACE, Session
-from farm_access.site import AFTER, Site
-from farm_access.work import Work, session_of
+from farm_access import door, holds, inner, site as sites
+from farm_access.holds import ADMIN, FREE, BoardSeen, Lookout, NoDesk
 from fizgruk._tools import disk
-from fizgruk._tools.telling import Teller
+from fizgruk._tools.service import Teller, Troubles
 
 tell = Teller("farm-access: guard")
-LOOKS = 0.25
-HOUR = 3600.0
-PAUSE = 5.0  # after a board that couldn't be cleaned up
-NOT_READY, IN_USE = 1, 3
-STUCK = 120.0  # seconds for which somebody may have an ended hold's lock before the board is called shut
-SHUT = (
-    "{0}: it is shut, since what is to run between two holds fails, or what is left can't be ended: "
-    "`farm-access tidy {0}` says why"
-)
-Boards = Optional[Dict[str, Board]]
+LOOKS, NEXT, MOST = 0.25, 1.0, 8  # seconds between looks, before a look beside one that has no answer, looks at once
+HOUR, REST = 3600.0, 5.0
+SHOWN = "/var/lib/farm-access/shown/access.json"
+SHUT = "{0}: it is shut, since it can't be cleaned up behind a hold: `farm-access tidy {0}` says why"
 
 
-def serve(site: Site, file: str) -> NoReturn:
-    """Guards until it is killed. `file` is access.toml, which it doesn't read again."""
-    guard = Guard(site, file)
-    trouble = ""
-    while True:
-        before, trouble = trouble, ""
-        try:
-            guard.round()
-        except NoDesk as fault:
-            trouble = str(fault)
-        except (OSError, subprocess.SubprocessError) as fault:
-            trouble = f"{type(fault).__name__}: {fault}"
-        if trouble != before:
-            tell(trouble or "it goes on")
-        time.sleep(LOOKS)
+def right_of(boards: Dict[str, BoardSeen]) -> Set[str]:
+    """The slices of what goes on."""
+    found = {holds.slice_of(it.name, it.hold) for it in boards.values() if it.hold}
+    return found | {holds.slice_of(it.name, ADMIN) for it in boards.values() if it.holder == FREE}
 
 
-class Guard:
-    """What the guard knows from one round to the next."""
+def slice_of(unit: str) -> str:
+    return os.path.basename(os.path.dirname(unit))
 
-    def __init__(self, site: Site, file: str):
-        self.site, self.file = site, file
-        self.lookout = Lookout(site)
-        self.late: Dict[str, float] = {}  # sessions of holds that have ended, and since when
-        self.tidies: Dict[str, "subprocess.Popen[bytes]"] = {}
-        self.rests: Dict[str, float] = {}
-        self.stuck: Dict[str, float] = {}
-        self.shut = shut_in(site.shown)
-        self.cleans = 0.0
+
+def ended(units: Iterable[str]) -> List[str]:
+    """Ends units, but those that run between two holds. Returns what is in the way."""
+    of_holds = [it for it in units if not slice_of(it).endswith(f"-{sites.AFTER}{holds.SLICE}")]
+    return [f"{os.path.basename(it)} can't be killed" for it in of_holds if not holds.kill(it)]
+
+
+class HoldGuard:
+    """What the guard knows from one look to the next."""
+
+    def __init__(self) -> None:
+        self.site = sites.read_file(sites.FILE)
+        self.lookout = Lookout(self.site)
+        self.asking: List[threading.Thread] = []
+        self.tidies: Dict[str, Tuple["subprocess.Popen[bytes]", float]] = {}
+        self.troubles = Troubles(tell)
         self.shown = ""
+        self.turn = threading.Lock()
 
-    def round(self) -> None:
-        if time.monotonic() >= self.cleans:
-            self.cleans = time.monotonic() + HOUR
-            record.remove_old(self.site.consoles)
-        # (listed before the desk is asked: none of them began since)
-        listed = sessions.all_in(self.site.folder)
+    def run(self) -> NoReturn:
+        """Guards until it is killed. However late an answer comes: what was there before the desk was asked, and has no
+        hold in its answer, ends."""
+        last = cleans = 0.0
+        notify = socket.socket(socket.AF_UNIX, socket.SOCK_DGRAM)
+        while True:
+            now = time.monotonic()
+            self.asking = [it for it in self.asking if it.is_alive()]
+            if not self.asking or (now - last > NEXT and len(self.asking) < MOST):
+                last = now
+                self.asking.append(threading.Thread(target=self.look, daemon=True))
+                self.asking[-1].start()
+            if now >= cleans:
+                cleans = now + HOUR
+                for board in os.listdir(inner.RECORDS):
+                    inner.remove_old_records(board)
+            with contextlib.suppress(OSError, KeyError):
+                notify.sendto(b"WATCHDOG=1", os.environ["NOTIFY_SOCKET"].replace("@", "\0", 1))
+            time.sleep(LOOKS)
+
+    def look(self) -> None:
+        there = holds.units_of()
+        found = ended(it for it in there if not self.has_key(it))
         try:
-            boards = self.lookout.look()
-        except NoDesk:
-            self.evict_dead(listed, None)
-            raise
-        self.evict_late(listed, boards)
-        self.evict_dead(listed, boards)
-        self.tidy(boards)
-        self.show(listed, boards)
+            boards = self.lookout.boards()
+            right = right_of(boards)
+            found += ended(it for it in there if slice_of(it) not in right)
+            with self.turn:
+                self.tidy(boards)
+                found += self.show(boards)
+        except (NoDesk, OSError) as fault:
+            found.append(str(fault))  # a desk that is down ends no hold
+        self.troubles.are(*found)
 
-    def show(self, listed: List[Session], boards: Dict[str, Board]) -> None:
-        """Writes for the status page which ways boards have and who is there, where that changed and
-        there is a folder for it."""
-        if not os.path.isdir(os.path.dirname(self.site.shown)):
-            return
-        text = json.dumps({"boards": {it.name: self.shown_of(it, listed) for it in boards.values()}})
-        if text != self.shown:
-            disk.write_whole(self.site.shown, text)
-            self.shown = text
+    def has_key(self, unit: str) -> bool:
+        """Whether who has a unit still has the key by which he came. A job came by none."""
+        told = holds.told_of(unit)
+        return not told or str(told["key"]) in map(sites.mark_of, sites.keys_in(self.site.keys, str(told["person"])))
 
-    def shown_of(self, board: Board, listed: List[Session]) -> Dict[str, Any]:
-        there = [it for it in listed if board.name in it.holds and it.person and not it.folder]
-        told = [{"person": it.person, "way": it.way.split(" ")[0], "since": int(it.since)} for it in there]
-        ways = told_of(self.site.ways_of(board.name, board.tags))
-        shut = {"shut": self.shut[board.name]} if board.name in self.shut else {}
-        return {"ways": ways, "sessions": told, **shut}
-
-    def evict_late(self, listed: List[Session], boards: Dict[str, Board]) -> None:
-        now = time.monotonic()
-        over = [it for it in listed if not is_of_now(it, boards)]
-        self.late = {it.file: self.late.get(it.file, now) for it in over}
-        for it in over:
-            if now - self.late[it.file] >= GRACE or sessions.is_deaf(it):
-                sessions.evict([it], "", self.site.log)
-
-    def evict_dead(self, listed: List[Session], boards: Boards) -> None:
-        """What lives of a job whose `farm-access run` was killed is the job's, until that ends."""
-        for it in listed:
-            if sessions.lives(it):
-                continue
-            if not it.folder or (boards is not None and not is_of_now(it, boards)):
-                sessions.evict([it], "", self.site.log)
-
-    def tidy(self, boards: Dict[str, Board]) -> None:
-        """Cleans up behind holds that have ended, each board in a process of its own."""
-        now = time.monotonic()
-        for name, process in list(self.tidies.items()):
-            if process.poll() is not None:
-                del self.tidies[name]
-                self.note(name, process.returncode)
+    def tidy(self, boards: Dict[str, BoardSeen]) -> None:
+        """Has the door clean up behind holds that have ended."""
         for board in boards.values():
-            if board.name in self.tidies or self.rests.get(board.name, 0.0) > now:
+            last = holds.last_of(board.name)
+            if last in (holds.UNKNOWN, board.hold) or board.is_held_by(last):
                 continue
-            if is_left(self.site.folder, board.name, lambda it, b=board: is_current(it, b)):  # type: ignore[misc]
-                words = [sys.executable, sys.argv[0], "--file", self.file, "tidy", board.name]
-                self.tidies[board.name] = subprocess.Popen(words, stdin=subprocess.DEVNULL)
-            elif board.name in self.shut or board.name in self.stuck:
-                self.note(board.name, 0)  # its next holder has cleaned up
+            before, at = self.tidies.get(board.name, (None, 0.0))
+            if (before is None or before.poll() is not None) and time.monotonic() - at > REST:
+                words = [sys.executable, sys.argv[0], "tidy", board.name]
+                self.tidies[board.name] = (subprocess.Popen(words, stdin=subprocess.DEVNULL), time.monotonic())
 
-    def note(self, board: str, status: int) -> None:
-        """Notes whether a board is shut, which is told once."""
-        now = time.monotonic()
-        if status == IN_USE:
-            self.stuck.setdefault(board, now)
-        else:
-            self.stuck.pop(board, None)
-        is_shut = status == NOT_READY or self.stuck.get(board, now) < now - STUCK
-        if status in (NOT_READY, IN_USE):
-            self.rests[board] = now + PAUSE
-        if is_shut and board not in self.shut:
-            self.shut[board] = int(time.time())
-            tell(SHUT.format(board))
-        elif not status and board in self.shut:
-            del self.shut[board]
-            tell(f"{board}: it is ready again")
+    def show(self, boards: Dict[str, BoardSeen]) -> List[str]:
+        """Writes for the status page which ways boards have and who is there, where that changed. Says which are shut."""
+        shut = {it: disk.text_in(f"{holds.RUN}/{it}.shut") for it in boards}
+        text = json.dumps({"boards": {it.name: self.shown_of(it, shut[it.name]) for it in boards.values()}})
+        if text != self.shown:
+            disk.write_whole(SHOWN, text)
+            self.shown = text
+        return [SHUT.format(name) for name, since in shut.items() if since]
 
-
-def shut_in(file: str) -> Dict[str, int]:
-    """The boards that were shut when the guard ended."""
-    with contextlib.suppress(ValueError, TypeError, AttributeError, KeyError):
-        boards = disk.object_in(file, MOST)["boards"]
-        return {name: int(it["shut"]) for name, it in boards.items() if "shut" in it}
-    return {}
-
-
-def is_of_now(session: Session, boards: Dict[str, Board]) -> bool:
-    """Whether a session's hold goes on. What cleans up has none."""
-    return all(hold == AFTER or is_current(hold, boards.get(it)) for it, hold in session.holds.items())
-
-
-def tidy(site: Site, board: str) -> int:
-    """Cleans up behind a board's last hold, where it has ended and nobody has its lock."""
-    lookout = Lookout(site)
-    lock = BoardLock(site.folder, board, site.log)
-    seen = asked_again(lookout.boards).get(board)
-    if lock.hold() and is_current(lock.hold(), seen):
-        return 0
-    is_free = lock.is_free()
-    lock.close()
-    if not is_free:
-        print(f"farm-access: {board}: somebody has its lock", file=sys.stderr)
-        return IN_USE
-    signal.signal(signal.SIGTERM, signal.SIG_DFL)
-    work = Work(site, lookout, session_of({board: AFTER}, "", AFTER))
-    is_ready = work.locks[0].tidy(work)
-    if not work.session.marks:
-        work.own.drop()
-    return 0 if is_ready else NOT_READY
+    def shown_of(self, board: BoardSeen, shut: Optional[str]) -> Dict[str, Any]:
+        told = filter(None, map(holds.told_of, holds.units_of(board.name)))
+        there = [{key: it[key] for key in ("person", "way", "since")} for it in told]
+        ways = door.told_of(door.ways_of(self.site, board))
+        return {"ways": ways, "sessions": there, **({"shut": int(shut)} if shut else {})}

@@ -1,168 +1,164 @@
 """A farm's two files and whole copies of them, made while the desk serves.
 
-The desk writes lab.db only while it carries its log into it, and then begins the log anew with
-other salts. So who reads all that the log gets while lab.db is copied (farm_backup.tail) has each
-page that was written in lab.db meanwhile: written over the copy, log after log, they make it the
-farm at the moment of the last look, however fast it grows. A commit that was read in part is none.
+The desk writes lab.db only while it carries its log into it, and what it carries stands in the log
+until that begins anew, with another header. So the file, and the log after it, are the farm at one
+moment where the log's header stayed meanwhile. A log may begin anew some times a second, which is
+sooner than a file is copied: so while that is copied all is noted that its logs change in it, and
+then only this is copied once more, until the header stays. A commit that was read in part is none.
 
 No lock is taken: the desk's locks hold up writers alone, and a reader takes nothing from it."""
 import contextlib
-import json
+import itertools
 import os
 import re
 import shutil
+import sqlite3
 import stat
 import subprocess
 import tempfile
 import time
-from typing import Callable, List, Optional, Tuple
+from typing import BinaryIO, Callable, Iterator, List, Optional, Set, Tuple
 
-from farm_backup import pages, replica, tail, wal
-from farm_backup.tail import NoCopy as NoCopy
+from farm_backup import wal
 from fizgruk._tools import disk
+from fizgruk._tools.farm_file import FarmFile, line_of
 
-TRIES = 20
-FIRST_WAIT, LONGEST_WAIT = 0.05, 2.0
+WITHIN = 50.0  # seconds, in which there is a copy or none
+STAYS = 5.0  # seconds after which damage is no head of a log that a desk was writing as it was killed, and is about to again
+PAUSE = 0.05
+LOOK = 64  # blocks that are copied between two looks at the log
 COPY = re.compile(r"farm-(\d{8}T\d{6}Z)(?:-(\d+))?")
+DAMAGED = "is damaged: commands stand behind a frame whose sum is wrong"
 NEW = ".new-"  # how a copy's folder is named until it is checked
-STATUS = b"GET /status HTTP/1.1\r\n\r\n"
+# A farm only grows: its commands are counted, its clock never falls back, and a kept reply, a job and a reservation once
+# made stay. So a copy is an earlier one where the last row of each of its tables stands in the other, too: keys are their
+# clients' own, so another history hasn't these rows. These are the columns of a table that stay as they are made.
+STAYING = {
+    "kept": "caller, ckey, kind, a, b",
+    "jobs": "number, grp, owner, kind, role, body",
+    "reservations": "number, owner, tags",
+}
+LAST = "ORDER BY rowid DESC LIMIT 1"
+Row = Optional[Tuple[object, ...]]
 
 
-class Farm:
-    """A farm's two files and the program that opens them."""
-
-    def __init__(self, name: str, program: str):
-        """`name` may be a link: the log lies beside the file that it leads to, as for a desk."""
-        self.name = os.path.basename(name)
-        self.db = os.path.realpath(name)
-        self.file_name = os.path.basename(self.db)
-        self.log = f"{self.db}-wal"
-        self.program = program
-
-    def within(self, folder: str) -> "Farm":
-        """The farm of the same name in another folder."""
-        return Farm(os.path.join(folder, self.name), self.program)
-
-    def file(self) -> Tuple[int, int]:
-        """Which file it is."""
-        found = os.stat(self.db)
-        return found.st_dev, found.st_ino
-
-    def count(self) -> int:
-        """How many commands a farm has that no desk serves."""
-        words = [self.program, "once", "--db", self.db, "--at", "0"]
-        ran = subprocess.run(words, input=STATUS, capture_output=True, check=False)
-        try:
-            return int(json.loads(ran.stdout.partition(b"\r\n\r\n")[2])["count"])
-        except (ValueError, KeyError) as fault:
-            raise NoCopy(f"{self.db} is no farm ({_line(ran.stderr)})") from fault
-
-    def prove(self) -> None:
-        """Opens a copy by `farm report`, which reads and checks all of it. The copy's log keeps its
-        header: the program begins a log without a commit anew, with a header of its own."""
-        header = self._header()
-        self._report()
-        if header and self._header() != header:
-            with open(self.log, "wb", buffering=0) as log:
-                log.write(header)
-                os.fsync(log.fileno())
-
-    def _header(self) -> bytes:
-        """The header of the log; nothing where there is no log."""
-        try:
-            with open(self.log, "rb") as log:
-                return log.read(wal.HEADER)
-        except FileNotFoundError:
-            return b""
-
-    def _report(self) -> None:
-        words = [self.program, "report", "--db", self.db, "boards"]
-        try:
-            ran = subprocess.run(
-                words, stdout=subprocess.DEVNULL, stderr=subprocess.PIPE, check=False
-            )
-        except OSError as fault:
-            raise NoCopy(f"no copy is made, since it can't be proved: {fault}") from fault
-        if ran.returncode:
-            raise NoCopy(f"the copy is no farm, and is thrown away ({_line(ran.stderr)})")
+class NoCopy(Exception):
+    """There is no copy, or none that is a farm."""
 
 
-def _line(said: bytes) -> str:
-    return " ".join(said.decode(errors="replace").split()) or "nothing was said"
+def log_of(farm: FarmFile, most: int = -1) -> bytes:
+    with open(farm.log, "rb", buffering=0) as log:
+        return log.read(most)
 
 
-def new_copy(farm: Farm, folder: str, tell: Callable[[str], None]) -> str:
-    """A checked copy of a farm in a new folder below `folder`, which the caller names at last.
-    `tell` is told where it is copied again."""
-    place, followed = followed_copy(farm, folder, tell)
-    followed.close()
-    return place
+def state_of(farm: FarmFile) -> Tuple[int, int, bytes]:
+    """Which file it is, and the log's header."""
+    found = os.stat(farm.db)
+    return found.st_dev, found.st_ino, log_of(farm, wal.HEADER)
 
 
-def followed_copy(
-    farm: Farm, folder: str, tell: Callable[[str], None]
-) -> Tuple[str, tail.Tail]:
-    """The same, and what reads on in the farm's log behind the copy."""
+def count_of(copy: FarmFile) -> int:
+    """How many commands a copy has."""
+    try:
+        with _tables(copy) as tables:
+            return _come_to(tables)[0]
+    except (sqlite3.Error, KeyError) as fault:
+        raise NoCopy(f"{copy.db} is no farm ({fault})") from fault
+
+
+def prove(copy: FarmFile) -> None:
+    """Opens a copy by `farm report`, which reads and checks all of it."""
+    words = [copy.program, "report", "--db", copy.db, "boards"]
+    try:
+        ran = subprocess.run(words, stdout=subprocess.DEVNULL, stderr=subprocess.PIPE, check=False)
+    except OSError as fault:
+        raise NoCopy(f"no copy is made, since it can't be proved: {fault}") from fault
+    if ran.returncode:
+        raise NoCopy(f"the copy is no farm, and is thrown away ({line_of(ran.stderr) or 'nothing was said'})")
+
+
+@contextlib.contextmanager
+def new_copy(farm: FarmFile, folder: str, tell: Callable[[str], object]) -> Iterator[FarmFile]:
+    """A checked copy of a farm in a new folder below `folder`, which goes where nobody has named it otherwise. `tell` is
+    told where it is copied again."""
     place = tempfile.mkdtemp(prefix=NEW, dir=folder)
-    with contextlib.ExitStack() as cut_off:
-        cut_off.callback(shutil.rmtree, place, ignore_errors=True)
-        copy, followed = copied(farm, place, tell)
-        cut_off.callback(followed.close)
-        copy.prove()
+    try:
+        copy = copied(farm, place, tell)
+        for name in (copy.db, copy.log):
+            with open(name, "rb") as opened:
+                os.fsync(opened.fileno())
+        prove(copy)
         disk.sync_folder(place)
-        cut_off.pop_all()
-    return place, followed
+        yield copy
+    finally:
+        shutil.rmtree(place, ignore_errors=True)
 
 
-def copied(farm: Farm, place: str, tell: Callable[[str], None]) -> Tuple[Farm, tail.Tail]:
-    """A copy of a farm's two files in a folder, copied again where its log got away, and what reads
-    on in the log."""
-    copy = farm.within(place)
-    wait, why = FIRST_WAIT, ""
-    for _ in range(TRIES):
+def copied(farm: FarmFile, place: str, tell: Callable[[str], object]) -> FarmFile:
+    """A copy of a farm's two files in a folder, copied again where its log got away, or a frame of
+    it was read in part."""
+    copy, why, since = farm.within(place), "", time.monotonic()
+    until = since + WITHIN
+    while True:
+        before = why
         try:
-            os.stat(farm.db)
-            followed = tail.Tail.from_beginning(farm.log)
-            _copy_beside(farm, copy, followed)
-            return copy, followed
+            why = _copy(farm, copy, until)
         except FileNotFoundError as fault:
             raise NoCopy(f"there is no {fault.filename}: a farm is a file and its log") from fault
-        except pages.NoDatabase as fault:
-            raise NoCopy(f"the copy is no farm, and is thrown away ({fault})") from fault
-        except tail.Anew as fault:
+        except wal.Anew as fault:
             why = str(fault)
+        if not why:
+            return copy
+        since = since if why == before else time.monotonic()
+        if DAMAGED in why and time.monotonic() > since + STAYS:
+            raise NoCopy(why.rpartition(" (")[0])
+        if time.monotonic() > until:
+            raise NoCopy(f"no copy within {WITHIN:g} s: {why}")
         tell(f"copied again: {why}")
-        time.sleep(wait)
-        wait = min(2 * wait, LONGEST_WAIT)
-    raise NoCopy(f"no copy after {TRIES} tries: {why}")
+        time.sleep(PAUSE)
 
 
-def _copy_beside(farm: Farm, copy: Farm, followed: tail.Tail) -> None:
-    """Copies the file while all that its log gets is read, and adds that."""
-    which = farm.file()
-    followed.start()
-    try:
-        _copy_file(farm.db, copy.db)
-        with open(copy.db, "r+b") as file, open(copy.log, "w+b", buffering=0) as log:
-            os.fchmod(log.fileno(), stat.S_IMODE(os.stat(farm.log).st_mode) & 0o666)
-            replica.write_at(log.fileno(), followed.first.raw, 0)
-            made = replica.Replica(file.fileno(), log.fileno())
-            for part in followed.take():
-                made.add(part)
-            for opened in (file, log):
-                os.fsync(opened.fileno())
-        if farm.file() != which:
-            raise tail.Anew(f"{farm.db} became another file")
-    except BaseException:
-        followed.close()
-        raise
+def _copy(farm: FarmFile, copy: FarmFile, until: float) -> str:
+    """Copies the file, then again and again what was changed in it meanwhile, and the log. Returns
+    why these aren't one farm; nothing where they are."""
+    state, changes = state_of(farm), wal.Changes()
+    with open(farm.db, "rb", buffering=0) as old, open(copy.db, "w+b", buffering=0) as new:
+        os.fchmod(new.fileno(), _mode_of(old))
+        blocks = set(range(os.fstat(old.fileno()).st_size // wal.BLOCK + 1))
+        while True:
+            before = state_of(farm)
+            blocks |= changes.taken(log_of(farm))
+            _copy_blocks(old, new, blocks, lambda: changes.look(log_of(farm)))
+            _copy_log(farm, copy)
+            if state_of(farm) == before:
+                break
+            if time.monotonic() > until:
+                return "the log began anew"
+            blocks = set()
+    if before[:2] != state[:2]:
+        return f"{farm.db} became another file"
+    at = wal.damage(log_of(copy))
+    return f"{farm.log} {DAMAGED} (at {at})" if at else ""
 
 
-def _copy_file(source: str, target: str) -> None:
-    """Copies a file's bytes and its mode."""
-    with open(source, "rb") as old, open(target, "wb") as new:
-        os.fchmod(new.fileno(), stat.S_IMODE(os.fstat(old.fileno()).st_mode) & 0o666)
+def _copy_blocks(old: BinaryIO, new: BinaryIO, blocks: Set[int], look: Callable[[], None]) -> None:
+    for done, block in enumerate(sorted(blocks), 1):
+        at = block * wal.BLOCK
+        new.seek(at)
+        new.write(os.pread(old.fileno(), wal.BLOCK, at))
+        if done % LOOK == 0:
+            look()
+    new.truncate(os.fstat(old.fileno()).st_size)
+
+
+def _copy_log(farm: FarmFile, copy: FarmFile) -> None:
+    with open(farm.log, "rb") as old, open(copy.log, "wb") as new:
+        os.fchmod(new.fileno(), _mode_of(old))
         shutil.copyfileobj(old, new, 1 << 20)
+
+
+def _mode_of(file: BinaryIO) -> int:
+    return stat.S_IMODE(os.fstat(file.fileno()).st_mode) & 0o666
 
 
 def take_folder(folder: str) -> Optional[int]:
@@ -195,18 +191,63 @@ def name_of(moment: float) -> str:
 
 def free_name(folder: str, name: str) -> str:
     """The name, or with a number behind it where it is taken."""
-    number, free = 1, name
-    while os.path.lexists(os.path.join(folder, free)):
-        number += 1
-        free = f"{name}-{number}"
-    return free
+    names = itertools.chain([name], (f"{name}-{number}" for number in itertools.count(2)))
+    return next(it for it in names if not os.path.lexists(os.path.join(folder, it)))
 
 
 def copies_in(folder: str) -> List[str]:
     """The names of the copies in a folder, the oldest first."""
-    found: List[Tuple[str, int, str]] = []
-    for name in os.listdir(folder):
-        parts = COPY.fullmatch(name)
-        if parts:
-            found.append((parts.group(1), int(parts.group(2) or 1), name))
-    return [name for _, _, name in sorted(found)]
+    found = filter(None, map(COPY.fullmatch, os.listdir(folder)))
+    return [it[0] for it in sorted(found, key=lambda it: (it[1], int(it[2] or 1)))]
+
+
+# ---- which copies are earlier farms of another copy's history, by what they hold
+
+
+def earlier(farm: FarmFile, folder: str, new: str) -> Tuple[List[str], List[str]]:
+    """The copies in a folder that are earlier farms of the new one's history, the earliest first;
+    and the others, which nobody can put in order."""
+    with _tables(farm.within(os.path.join(folder, new))) as newest:
+        names = [it for it in copies_in(folder) if it != new]
+        come = {it: _come_to_before(newest, farm.within(os.path.join(folder, it))) for it in names}
+    return sorted(filter(come.get, names), key=lambda it: come[it]), [it for it in names if not come[it]]
+
+
+def _come_to_before(newest: sqlite3.Connection, copy: FarmFile) -> Tuple[int, ...]:
+    """How far a copy has come; nothing where it isn't an earlier farm of the newest one's history."""
+    try:
+        with _tables(copy) as tables:
+            found, rows = _come_to(tables), {it: _row(tables, it, LAST) for it in STAYING}
+    except (sqlite3.Error, OSError, KeyError):
+        return ()
+    return found if found <= _come_to(newest) and all(_has(newest, *it) for it in rows.items()) else ()
+
+
+@contextlib.contextmanager
+def _tables(copy: FarmFile) -> Iterator[sqlite3.Connection]:
+    """A copy's tables, read by other names of its two files, beside which SQLite may write."""
+    folder = os.path.dirname(os.path.dirname(copy.db))
+    with tempfile.TemporaryDirectory(prefix=NEW, dir=folder) as place:
+        for name, end in ((copy.db, ""), (copy.log, "-wal")):
+            try:
+                os.link(name, f"{place}/db{end}")
+            except OSError:  # (not every file system has links)
+                shutil.copyfile(name, f"{place}/db{end}")
+        with contextlib.closing(sqlite3.connect(f"file:{place}/db?mode=ro", uri=True)) as tables:
+            yield tables
+
+
+def _come_to(tables: sqlite3.Connection) -> Tuple[int, int]:
+    """How many commands a farm has, and its clock."""
+    meta = dict(tables.execute("SELECT name, value FROM meta"))
+    return int(meta["count"]), int(meta["clock"])
+
+
+def _row(tables: sqlite3.Connection, table: str, which: str) -> Row:
+    found: Row = tables.execute(f"SELECT rowid, {STAYING[table]} FROM {table} {which}").fetchone()
+    return found
+
+
+def _has(tables: sqlite3.Connection, table: str, row: Row) -> bool:
+    """Whether a farm has this row of another's."""
+    return row is None or _row(tables, table, f"WHERE rowid = {row[0]}") == row

@@ -1,128 +1,86 @@
-"""A farm's log, in SQLite's WAL format: its header, and how far its commits are whole.
+"""A farm's log, in SQLite's WAL format: what is carried from it into the farm's file, and whether
+commands stand behind a frame that is damaged.
 
 A header of 32 bytes names the page size, two salts and the sum of its own first bytes. Each frame
 behind it has a header of 24 bytes and a page: the page's number, the size of the file in pages
 where a commit ends with this frame, the header's salts, and a sum that goes on from the frame
-before. The log ends before the first frame whose salts or sum are wrong."""
+before. Whoever opens the log reads it up to the first frame whose salts or sum are wrong. A log
+that begins anew counts its first salt up, and is written over the one before."""
 import struct
-from typing import Iterator, NamedTuple, Optional, Tuple
+from typing import Set, Tuple
 
 HEADER, FRAME = 32, 24
-MAGIC = 0x377F0682  # one more: its sums are over big-endian words
-SALTS = slice(16, 24)
 WORD = 0xFFFFFFFF
-AT_ONCE = 64  # bytes
+
+SHORTEST, BLOCK = 512, 1 << 16  # bytes of a page, the longest as a block
 
 Sum = Tuple[int, int]
 
 
-class Head(NamedTuple):
-    """A log's header."""
-
-    raw: bytes
-    page_size: int
-    order: str  # of the bytes in a word that is summed
-    sum: Sum
+class Anew(Exception):
+    """A log began anew, and nobody knows what stood in the one before."""
 
 
-class Place(NamedTuple):
-    """A place in a log behind a whole commit, with the sum up to there."""
+class Changes:
+    """Which blocks of a farm's file its logs change: those of each page in them, where they are
+    looked at so often that no frame is written over unseen."""
 
-    offset: int
-    sum: Sum
+    def __init__(self) -> None:
+        self.blocks: Set[int] = set()  # since they were taken last
+        self.seen = (-1, 0)  # the log's first salt, and how many frames it had
 
+    def taken(self, log: bytes) -> Set[int]:
+        """The blocks that were changed up to now. Those of the log as it is now may be changed
+        once more, and are the first of the next ones."""
+        blocks, self.blocks = self.blocks, set()
+        self.look(log)
+        return blocks | self.blocks
 
-def head_of(raw: bytes) -> Optional[Head]:
-    """What a header says; None where it isn't whole, as while a log begins anew."""
-    if len(raw) < HEADER:
-        return None
-    magic, _, page_size = struct.unpack_from(">III", raw)
-    if magic & ~1 != MAGIC or page_size < 512:
-        return None
-    order = ">" if magic & 1 else "<"
-    found = sum_of(raw[:24], order, (0, 0))
-    if found != struct.unpack_from(">II", raw, 24):
-        return None
-    return Head(raw[:HEADER], page_size, order, found)
-
-
-def beginning(head: Head) -> Place:
-    """The place behind a log's header."""
-    return Place(HEADER, head.sum)
+    def look(self, log: bytes) -> None:
+        """Takes in a log as it is now."""
+        if len(log) < HEADER:
+            return
+        page_size, salt = (int.from_bytes(log[it : it + 4], "big") for it in (8, 16))
+        whole = len(log) - (len(log) - HEADER) % (FRAME + page_size)
+        frames = 0
+        for number, salts in struct.iter_unpack(f">I4x8s{8 + page_size}x", log[HEADER:whole]):
+            self.blocks.add(max(0, number - 1) * page_size // BLOCK)
+            frames += salts == log[16:24]
+        before, had = self.seen
+        self.seen = salt, frames
+        if before not in (-1, salt) and (salt != before + 1 & WORD or frames > had):
+            raise Anew("the log began anew")
 
 
 def sum_of(data: bytes, order: str, before: Sum) -> Sum:
-    """SQLite's sum of bytes, which goes on from another. (Sixteen words at a time, since a standby
-    adds up all that its desk writes.)"""
+    """SQLite's sum of bytes, which goes on from another."""
     first, second = before
-    whole = len(data) // AT_ONCE * AT_ONCE
-    for a, b, c, d, e, f, g, h, i, j, k, m, n, o, p, q in struct.iter_unpack(
-        f"{order}16I", memoryview(data)[:whole]
-    ):
-        first += a + second
-        second += b + first
-        first += c + second
-        second += d + first
-        first += e + second
-        second += f + first
-        first += g + second
-        second += h + first
-        first += i + second
-        second += j + first
-        first += k + second
-        second += m + first
-        first += n + second
-        second += o + first
-        first = first + p + second & WORD
-        second = second + q + first & WORD
-    for one, two in struct.iter_unpack(f"{order}2I", memoryview(data)[whole:]):
+    for one, two in struct.iter_unpack(f"{order}2I", data):
         first = first + one + second & WORD
         second = second + two + first & WORD
     return first, second
 
 
-def sum_of_frame(head: Head, frame: bytes, before: Sum) -> Sum:
-    """The sum behind a frame."""
-    return sum_of(frame[FRAME:], head.order, sum_of(frame[:8], head.order, before))
-
-
-def last_commit(head: Head, data: bytes, place: Place) -> Place:
-    """The place behind the last whole commit, of a log whose bytes from `place` on are `data`."""
-    size = FRAME + head.page_size
-    found, now = place, place.sum
-    for at in range(0, len(data) - size + 1, size):
-        frame = data[at : at + size]
-        now = sum_of_frame(head, frame, now)
-        if frame[8:16] != head.raw[SALTS] or struct.unpack_from(">II", frame, 16) != now:
-            break
-        if struct.unpack_from(">I", frame, 4) != (0,):
-            found = Place(place.offset + at + size, now)
-    return found
-
-
-class Frame(NamedTuple):
-    """A frame of a log."""
-
-    number: int  # of its page
-    commit: int  # how many pages the file has, where a commit ends with this frame; else 0
-    at: int  # where its page begins in the bytes that were given
-
-
-def frames_in(head: Head, data: bytes) -> Iterator[Frame]:
-    """The frames of bytes that begin with one and are whole commits."""
-    for at in range(0, len(data) - FRAME - head.page_size + 1, FRAME + head.page_size):
-        number, commit = struct.unpack_from(">II", data, at)
-        yield Frame(number, commit, at + FRAME)
-
-
-def turn_of(head: Head) -> Tuple[int, int]:
-    """How often a log began anew, and what its first salt was before it ever did: one file's logs
-    all have the same."""
-    turn, salt = (struct.unpack_from(">I", head.raw, at)[0] for at in (12, SALTS.start))
-    return turn, (salt - turn) & WORD
-
-
-def follows(head: Head, before: Head) -> bool:
-    """Whether a log with this header began next after the one with that: the first salt counts."""
-    one, other = (struct.unpack_from(">I", it.raw, SALTS.start)[0] for it in (head, before))
-    return head.page_size == before.page_size and one == (other + 1) & WORD
+def damage(log: bytes) -> int:
+    """Where a log's sum is wrong, and commits of the same log stand behind it; 0 where there is no such place. (One commit
+    alone is what a desk leaves that is killed as it writes it, the first frame last, and so is a head without a frame.)"""
+    if len(log) < HEADER + FRAME + SHORTEST:
+        return 0
+    magic, _, page_size = struct.unpack_from(">III", log)
+    order = ">" if magic & 1 else "<"
+    now = sum_of(log[:24], order, (0, 0))
+    if now != struct.unpack_from(">II", log, 24):
+        return FRAME
+    wrong = commits = 0
+    for at in range(HEADER, len(log) - FRAME - page_size + 1, FRAME + page_size):
+        commit, salts, said = struct.unpack_from(">I8s8s", log, at + 4)
+        is_of_this = salts == log[16:24]
+        if not wrong:
+            page = log[at + FRAME : at + FRAME + page_size]
+            now = sum_of(page, order, sum_of(log[at : at + 8], order, now))
+            if is_of_this and struct.pack(">II", *now) == said:
+                continue
+            wrong = at
+        elif is_of_this and commit:
+            commits += 1
+    return wrong if commits > 1 else 0

@@ -1,13 +1,17 @@
-"""How much each user has open at the desk, as it was seen a moment ago, and what was let through since."""
+"""What is counted: how much each user has open at the desk, as it was seen a moment ago, with what was let through since;
+and what a kill doesn't lose, tokens, by their hashes alone, and what was let through within the hour, with its key."""
 import dataclasses
+import hashlib
+import http.client
 import math
 import re
-import sys
+import secrets
+import sqlite3
 import threading
 import time
-from typing import Dict, List, Optional, Tuple
+from typing import Any, Dict, List, Optional, Sequence, Tuple
 
-from farm_door.rules import Group
+from farm_door.rules import JOBS, OPEN, RESERVATIONS, Group
 from fizgruk import calls
 from fizgruk.errors import Refused, Unreachable
 
@@ -15,8 +19,17 @@ EVERY = 2.0
 TOO_OLD = 30.0  # seconds after which nobody knows any more
 FIRST_LOOK = 20.0  # seconds for which what is asked first waits, as long as the calls of a look may take
 HOLDER = re.compile(r"(job|reservation) ([1-9][0-9]*)")
-JOBS, RESERVATIONS = "job", "reservation"
-WORDS = {JOBS: "open_jobs", RESERVATIONS: "open_reservations"}  # of the rules
+HOUR = 3600
+DAY = 24 * HOUR  # for which a token that has ended stands in the file
+MOST_TOKENS = 100  # of one owner that haven't ended
+TABLES = """
+create table if not exists tokens (
+    number integer primary key, owner text not null, name text not null, hash text not null unique, made integer not null,
+    ended integer not null default 0);
+create table if not exists passed (
+    number integer primary key, owner text not null, kind text not null, ckey text not null, at real not null);
+create index if not exists passed_of on passed (owner, kind, ckey);
+"""
 
 
 @dataclasses.dataclass(eq=False)
@@ -48,20 +61,15 @@ class Counts:
         self.seen = float("-inf")
         self.has_looked = threading.Event()
 
-    def run(self) -> None:
-        """Renews them for ever."""
-        while True:
-            self.look()
-            time.sleep(EVERY)
-
-    def look(self) -> None:
-        """Renews them where the desk answers; else they get old, and then nothing is let through."""
+    def look(self) -> str:
+        """Renews them, and says what is in the way; then they get old, and nothing is let through any more."""
         try:
             self.renew()
-        except (Unreachable, Refused, KeyError, TypeError, ValueError):
-            pass
+            return ""
+        except (Unreachable, Refused):
+            raise
         except Exception as fault:  # pylint: disable=broad-except # (else nothing is let through any more)
-            print(f"farm-door: a look at the desk: {type(fault).__name__}: {fault}", file=sys.stderr, flush=True)
+            return f"a look at the desk: {type(fault).__name__}: {fault}"
         finally:
             self.has_looked.set()
 
@@ -99,7 +107,7 @@ class Counts:
             for it in groups:
                 count = sum(self.open.get((asked.kind, name), 0) for name in it.members)
                 count += sum(one.boards for one in self.passed if one.kind == asked.kind and one.owner in it.members)
-                if count + asked.boards > getattr(it.limits, WORDS[asked.kind]):
+                if count + asked.boards > getattr(it.limits, OPEN[asked.kind]):
                     return it
             self.passed.append(asked)
         return None
@@ -116,3 +124,87 @@ class Counts:
         """Whether a look is young enough; the first one is waited for a while."""
         self.has_looked.wait(FIRST_LOOK)
         return time.monotonic() - self.seen < TOO_OLD
+
+
+class Denied(Exception):
+    """The door lets a request not through: its status, and why."""
+
+    def __init__(self, status: int, text: str = ""):
+        super().__init__(text or http.client.responses[status])
+        self.status = status
+
+
+class Ledger:
+    """The file, for one caller at a time."""
+
+    def __init__(self, file: str):
+        self.lock = threading.RLock()
+        self.base = sqlite3.connect(file, check_same_thread=False, isolation_level=None)
+        self.base.executescript("pragma journal_mode = wal; pragma synchronous = normal;" + TABLES)
+
+    def _rows(self, order: str, *words: object) -> List[Any]:
+        with self.lock:
+            return self.base.execute(order, words).fetchall()
+
+    def _done(self, order: str, *words: object) -> sqlite3.Cursor:
+        with self.lock:
+            return self.base.execute(order, words)
+
+    def owner_of(self, token: str) -> Optional[Tuple[str, str]]:
+        """Whose a token is, where it hasn't ended, and which of the owner's."""
+        rows = self._rows("select owner, number, name from tokens where hash = ? and ended = 0", _hash(token))
+        return (str(rows[0][0]), f"token {rows[0][1]} {rows[0][2]}") if rows else None
+
+    def make(self, owner: str, name: str) -> Dict[str, Any]:
+        """A new token, which is told this once. Raises Denied."""
+        token = f"{calls.TOKEN_MARK}{secrets.token_urlsafe(32)}"
+        with self.lock:
+            names = [it["name"] for it in self.list(owner)]
+            if name in names:
+                raise Denied(409, "you have a token of that name")
+            if len(names) >= MOST_TOKENS:
+                raise Denied(403, f"the limit is {MOST_TOKENS} tokens that haven't ended")
+            # (the last one's number stays, so that none has it again)
+            old = "delete from tokens where 0 < ended and ended < ? and number < (select max(number) from tokens)"
+            self._done(old, int(time.time()) - DAY)
+            words = (owner, name, _hash(token), int(time.time()))
+            done = self._done("insert into tokens (owner, name, hash, made) values (?, ?, ?, ?)", *words)
+        return {"number": done.lastrowid, "name": name, "token": token}
+
+    def list(self, owner: str) -> List[Dict[str, Any]]:
+        rows = self._rows("select number, name, made from tokens where owner = ? and ended = 0", owner)
+        return [{"number": it[0], "name": it[1], "made": it[2]} for it in rows]
+
+    def end(self, owner: str, number: int) -> bool:
+        """Ends a token of this owner. Returns whether there was one."""
+        order = "update tokens set ended = ? where owner = ? and number = ? and ended = 0"
+        return self._done(order, int(time.time()), owner, number).rowcount == 1
+
+    def has_passed(self, owner: str, kind: str, key: str) -> bool:
+        """Whether a command was let through under this key within the hour, and perhaps done: again it is none more."""
+        order = "select 1 from passed where owner = ? and kind = ? and ckey = ? and at > ?"
+        return bool(key and self._rows(order, owner, kind, key, time.time() - HOUR))
+
+    def let(self, owner: str, kind: str, key: str) -> int:
+        """Notes that a command is let through. Returns the number of the note."""
+        now = time.time()
+        self._done("delete from passed where at < ?", now - HOUR)
+        order = "insert into passed (owner, kind, ckey, at) values (?, ?, ?, ?)"
+        return int(self._done(order, owner, kind, key, now).lastrowid or 0)
+
+    def count(self, group: Group, kinds: Sequence[str]) -> Tuple[int, float]:
+        """How many commands of a group's, of these kinds, were let through within the hour, and when the first of them
+        was."""
+        kind, owner = ",".join("?" * len(kinds)), ",".join("?" * len(group.members))
+        order = f"select count(*), min(at) from passed where owner in ({owner}) and kind in ({kind}) and at > ?"
+        count, first = self._rows(order, *group.members, *kinds, time.time() - HOUR)[0]
+        return int(count), float(first or 0)
+
+    def take_back(self, note: int) -> None:
+        """A command that was let through wasn't done."""
+        self._done("delete from passed where number = ?", note)
+
+
+def _hash(token: str) -> str:
+    """A token is random and long, so that no salt is wanted."""
+    return hashlib.sha256(token.encode()).hexdigest()

@@ -1,16 +1,25 @@
-"""The file of rules: limits of users and teams, and who is an admin."""
+"""The file of rules: limits of users and teams, and who is an admin; and what the body of a command asks for, as far as
+limits go: for how many boards, and with which priority."""
 import dataclasses
-from typing import Any, Dict, FrozenSet, Iterable, List
+import json
+from typing import Any, Callable, Dict, FrozenSet, Iterable, List, NamedTuple, Tuple
 
-from fizgruk import toml_text
+from fizgruk import job_file, toml_text
 from fizgruk._tools import disk
-from fizgruk.bounds import HIGHEST_PRIORITY
+from fizgruk.bounds import HIGHEST_PRIORITY, MOST_WANTS
 from fizgruk.words import NAMES, BadFile
 
 LONGEST = 1_048_576
 # Each limit, and the most that it can be.
-WORDS = {"open_reservations": 1_000_000, "open_jobs": 1_000_000, "jobs_an_hour": 1_000_000, "highest_priority": HIGHEST_PRIORITY}
+WORDS = {
+    "open_reservations": 1_000_000, "open_jobs": 1_000_000, "jobs_an_hour": 1_000_000, "commands_an_hour": 1_000_000,
+    "highest_priority": HIGHEST_PRIORITY,
+}
 UNLIMITED = ("admin", "dispatcher")
+JOBS, RESERVATIONS, OTHERS = "job", "reservation", "other"  # kinds of commands
+OPEN = {JOBS: "open_jobs", RESERVATIONS: "open_reservations"}  # the limit of what is open of a kind
+USUAL = "medium"
+NAMED = dict(zip(job_file.PRIORITIES, (0, 50, HIGHEST_PRIORITY)))
 
 
 @dataclasses.dataclass(frozen=True)
@@ -20,6 +29,7 @@ class Limits:
     open_reservations: int = 20
     open_jobs: int = 1000
     jobs_an_hour: int = 1000
+    commands_an_hour: int = 2000
     highest_priority: int = HIGHEST_PRIORITY
 
 
@@ -33,7 +43,7 @@ class Group:
 
 
 @dataclasses.dataclass(frozen=True)
-class Rules:
+class DoorRules:
     """The limits of all, those of some users and teams, which users are a team, and the logins that are the desk's
     admin."""
 
@@ -54,7 +64,7 @@ class Rules:
         return user in UNLIMITED or user in self.admins
 
 
-def rules_in(file: str) -> Rules:
+def rules_in(file: str) -> DoorRules:
     """The rules of a file; the usual ones where there is none. Raises BadFile where it says what it can't."""
     text = disk.text_in(file, LONGEST)
     try:
@@ -69,7 +79,7 @@ def rules_in(file: str) -> Rules:
     admins = _table(tree, "admins")
     _knows(admins, ("logins",), "[admins]")
     each = {_name(name): _limits_of(it, usual, f"limits.{name}") for name, it in own.items()}
-    return Rules(usual, each, teams, frozenset(_names(admins.get("logins", []), "admins.logins")))
+    return DoorRules(usual, each, teams, frozenset(_names(admins.get("logins", []), "admins.logins")))
 
 
 def _limits_of(table: Dict[str, Any], usual: Limits, what: str) -> Limits:
@@ -103,3 +113,48 @@ def _names(value: Any, what: str) -> List[str]:
     if not isinstance(value, list) or not all(isinstance(it, str) for it in value):
         raise BadFile(f"{what} is no list of names")
     return [_name(it) for it in value]
+
+
+# ---- what is asked for
+
+
+class Wish(NamedTuple):
+    """What is asked for. `fault` is why that can't be told: then it is the most that there is, since the desk may read
+    what this Python doesn't, as the time 23:59:60."""
+
+    boards: int
+    priority: int
+    fault: str = ""
+
+
+def of_job(body: bytes) -> Wish:
+    try:
+        tree = toml_text.tree_of(body.decode())
+        job_file.read(tree)
+    except (UnicodeDecodeError, toml_text.NotToml, BadFile) as fault:
+        return Wish(MOST_WANTS, HIGHEST_PRIORITY, " ".join(str(fault).split()))
+    return Wish(len(job_file.wants_in(tree)), priority_of(tree.get("priority", USUAL)))
+
+
+def of_reservation(body: bytes) -> Wish:
+    try:
+        said = json.loads(body, object_pairs_hook=_once)
+        return Wish(1, priority_of(said.get("priority", USUAL)))
+    except (ValueError, AttributeError, RecursionError, BadFile) as fault:
+        return Wish(1, HIGHEST_PRIORITY, " ".join(str(fault).split()))
+
+
+def priority_of(value: object) -> int:
+    job_file.read_priority(value)
+    return NAMED[value] if isinstance(value, str) else int(str(value))
+
+
+def _once(pairs: List[Tuple[str, Any]]) -> Dict[str, Any]:
+    """An object; of a key that is there twice another reader may take the other value."""
+    found = dict(pairs)
+    if len(found) < len(pairs):
+        raise ValueError("a key is there twice")
+    return found
+
+
+WISHES: Dict[str, Callable[[bytes], Wish]] = {JOBS: of_job, RESERVATIONS: of_reservation}

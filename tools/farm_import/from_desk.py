@@ -1,28 +1,27 @@
 """farm-from-desk: a lab file from a desk's boards, for the farm that comes after it."""
 import argparse
-from typing import Any, Dict, List, NamedTuple, Optional, Sequence, Tuple
+from typing import Dict, Optional, Sequence
 
 from farm_import import lab_file, next_lab, stopped, turn
 from fizgruk import calls, clocks, toml_text
-from fizgruk._tools import asking, interrupts, parsers, terminal
-from fizgruk._tools.telling import Teller
-from fizgruk.errors import BadSettings, Refused, Unreachable
-from fizgruk.words import BadFile, table_of
+from fizgruk._tools import asking, lab_text, parsers, service
+from fizgruk._tools.service import FAULT, Teller
+from fizgruk.errors import Refused, Unreachable
+from fizgruk.words import BadFile
 
 PROGRAM = "farm-from-desk"
 tell = Teller(PROGRAM)
 ABOUT = """\
 Asks a desk for its types, boards and queue, and writes a lab file that 'farm import' takes, to \
 begin the next farm with: each type with its check, and each board with its tags. A line 'health' \
-stands with each board, which 'farm import' passes over; --set-health then gives each board its \
-health at the new desk.
+stands with each board, which 'farm import' passes over.
 With --next it makes the next farm from such a file, which may be edited: boards and types added, \
 left out, named otherwise, with other checks. On the desk's machine it checks the file, and that no \
 job has a board, makes the next farm with the boards' health beside the old one, stops what serves \
 it and looks again, sets the old farm aside in 'old-N', and starts all again over the next one. \
 Stopped anywhere, it is run again with the same file and goes on."""
 STATUSES = (
-    ("0", "Nothing that matters was left out, each board has its health, or the next farm serves."),
+    ("0", "Nothing that matters was left out, or the next farm serves."),
     (
         "1",
         f"{lab_file.LEFT_OUT} --next: something is in the way, which standard error says, a line "
@@ -45,50 +44,43 @@ DB = "/var/lib/farm/lab.db"
 # What goes with --next alone.
 OF_NEXT = ("check", "let_go", "db", "program", "stop", "start")
 REFUSED = 3
-# A farm's boards begin so.
-FIRST_HEALTH = "Maintenance"
 
 
 def main(words: Optional[Sequence[str]] = None) -> int:
-    terminal.guard()
-    options = options_of(words)
+    ended = "ended by a signal: run it again"
+    return service.run(tell, lambda: status_of(options_of(words)), lab_file.Unreadable, UnicodeDecodeError, ended=ended)
+
+
+def status_of(options: argparse.Namespace) -> int:
+    """Does what the options ask for. Returns the exit status."""
+    desk = calls.Desk(asking.settings_of("desk", options, "admin"), PATIENCE)
     try:
-        desk = calls.Desk(asking.settings_of("desk", options, "admin"), PATIENCE)
-        if options.set_health is not None:
-            return set_health(desk, options.set_health)
         if options.next is not None:
-            interrupts.catch_signals()
             return next_farm(desk, options)
         warn_of_clock(desk)
-        return lab_file.status_of(PROGRAM, lambda it: lab_of(desk, it.own_file), options)
+        return lab_file.write(tell, lab_of(desk, options.own_file), options)
     except Refused as refusal:
         return tell.told(REFUSED, f"refused: {refusal}")
     except Unreachable as fault:
-        return tell.told(lab_file.FAULT, f"no answer from the desk at {fault}")
+        return tell.told(FAULT, f"no answer from the desk at {fault}")
     except turn.InTheWay as found:
-        return in_the_way(found.lines)
+        for line in found.lines:
+            tell(line)
+        return tell.told(lab_file.NOT_CARRIED, "nothing is done: this is in the way")
     except (turn.NotDone, stopped.NoFarm) as fault:
-        return tell.told(lab_file.FAULT, f"{fault}: run it again, once that is mended")
-    except interrupts.Interrupted:
-        return tell.told(lab_file.FAULT, "ended by a signal: run it again")
-    except (BadFile, BadSettings, lab_file.Unreadable, OSError, UnicodeDecodeError) as fault:
-        return tell.told(lab_file.FAULT, str(fault))
+        return tell.told(FAULT, f"{fault}: run it again, once that is mended")
 
 
 def parser_of() -> parsers.Parser:
     parser = lab_file.parser_of(PROGRAM, ABOUT, STATUSES)
     parser.forms = (
         f"{PROGRAM} [--output FILE] [--lab FILE] [--verbose] [settings]",
-        f"{PROGRAM} --set-health FILE [settings]",
         f"{PROGRAM} --next FILE [--check] [--let-go] [--db FILE] [--program FILE] [--stop WORDS] "
         "[--start WORDS] [settings]",
     )
     parser.option("--lab", "FILE", """\
 The lab's own file, to be compared with the desk: the written file and standard error name its lines
 that say something else of a type or a board.""", dest="own_file")
-    parser.option("--set-health", "FILE", """\
-The lab file whose boards are given their health, which is printed. Those in Maintenance stay as the
-import made them. Done again it does no harm.""")
     _add_next(parser)
     asking.add_options(parser, "desk", "default admin")
     return parser
@@ -160,25 +152,22 @@ def warn_of_clock(desk: calls.Looker) -> None:
 # ---- the lab's own file
 
 
-class Entry(NamedTuple):
-    """What a lab file says of a type or a board, in the file's words."""
-
-    words: str
-    line: int
-
-
 def compare(lab: lab_file.LabFile, file: str) -> None:
     """Remarks and notes each type and board of which the lab's own file says something else. Its
     import changes none of them: the next farm keeps the reply to each name that is there."""
-    own = entries_of(file)
+    with open(file, encoding="utf-8") as opened:
+        text = opened.read()
+    try:
+        own = {(it.section, it.name): words_of(it) for it in lab_text.additions_of(text)}
+    except BadFile as fault:
+        raise lab_file.Unreadable(f"{file} is no lab file: {fault}") from fault
     here = {("types", name): type_words(*it) for name, it in lab.types.items()}
     here.update({("boards", name): board_words(it[0], it[1]) for name, it in lab.boards.items()})
     for key in sorted(here.keys() & own.keys()):
-        entry = own[key]
-        if entry.words != here[key]:
-            where = f"{file}:{entry.line}"
-            lab.remarks[key] = f"{where} has {entry.words}: its import leaves what stands here"
-            what = f"it has {entry.words}, and the desk {here[key]}: an import changes nothing"
+        if own[key] != here[key]:
+            where = f"{file}:{toml_text.line_of(text, key)}"
+            lab.remarks[key] = f"{where} has {own[key]}: its import leaves what stands here"
+            what = f"it has {own[key]}, and the desk {here[key]}: an import changes nothing"
             lab.note(where, f"{key[0][:-1]} {key[1]}: {what}")
 
 
@@ -191,26 +180,10 @@ def board_words(kind: str, tags: Sequence[str]) -> str:
     return f'type = "{kind}", tags = [{listed}]'
 
 
-def entries_of(file: str) -> Dict[Tuple[str, str], Entry]:
-    """The types and boards of a lab file."""
-    with open(file, encoding="utf-8") as opened:
-        text = opened.read()
-    try:
-        tables = toml_text.tree_of(text)
-        types, boards = tables.get("types", {}), tables.get("boards", {})
-        words = {("types", name): type_words_of(row) for name, row in types.items()}
-        words.update({("boards", name): board_words_of(row) for name, row in boards.items()})
-    except (toml_text.NotToml, AttributeError, KeyError, TypeError) as fault:
-        raise lab_file.Unreadable(f"{file} is no lab file: {fault}") from fault
-    return {key: Entry(said, toml_text.line_of(text, key)) for key, said in words.items()}
-
-
-def type_words_of(row: Dict[str, Any]) -> str:
-    return type_words(row.get("check", "none"), row.get("every", 0))
-
-
-def board_words_of(row: Dict[str, Any]) -> str:
-    return board_words(row["type"], row.get("tags", []))
+def words_of(it: lab_text.Addition) -> str:
+    if it.section == "types":
+        return type_words(it.body.get("check", "none"), it.body.get("every", 0))
+    return board_words(it.body["type"], it.body["tags"])
 
 
 # ---- the next farm
@@ -220,9 +193,9 @@ def next_farm(desk: calls.Desk, options: argparse.Namespace) -> int:
     """Makes the next farm, or goes on where that was stopped. Returns the exit status."""
     lab, ignored = next_lab.lab_of(options.next)
     services = turn.Services(options.stop, options.start)
-    farm = stopped.Farm(options.db or DB, options.program or "farm")
-    it = turn.Turn(farm, desk, services, tell)
-    with it.alone():
+    farm = stopped.StoppedFarm(options.db or DB, options.program or "farm")
+    it = turn.Turn(farm, desk, services)
+    with stopped.as_owner_of(options.db or DB), it.alone():
         record = it.record()
         if record and it.has_set_aside(record):
             if record.mark != lab.mark():
@@ -258,34 +231,3 @@ def checked(it: turn.Turn, lab: next_lab.NextLab, may_lose: bool) -> Dict[str, s
     for line in lost:
         tell(f"{line}, and isn't carried over")
     return next_lab.healths_of(lab, look)
-
-
-def in_the_way(lines: List[str]) -> int:
-    for line in lines:
-        tell(line)
-    return tell.told(lab_file.NOT_CARRIED, "nothing is done: this is in the way")
-
-
-# ---- giving health
-
-
-def set_health(desk: calls.Desk, file: str) -> int:
-    """Gives each board of a lab file its health, under a key of its own. Returns the exit
-    status."""
-    with open(file, encoding="utf-8") as text:
-        healths = healths_of(text.read())
-    for board, health in healths.items():
-        if health != FIRST_HEALTH:
-            desk.tell(f"/boards/{calls.part(board)}/health", {"health": health}, calls.fresh_key())
-            print(f"{board} {health}", flush=True)
-    return lab_file.CARRIED
-
-
-def healths_of(text: str) -> Dict[str, str]:
-    """The health of each board of a lab file that has one."""
-    boards = table_of(toml_text.tree_of(text).get("boards", {}), "boards")
-    rows = {name: table_of(row, name) for name, row in boards.items()}
-    healths = {name: str(row["health"]) for name, row in rows.items() if "health" in row}
-    if not healths:
-        raise lab_file.Unreadable("the lab file says no board's health")
-    return healths

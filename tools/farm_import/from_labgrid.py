@@ -6,7 +6,7 @@ from typing import Any, Dict, List, Optional, Sequence, Tuple
 
 from farm_import import lab_file
 from fizgruk import notes
-from fizgruk._tools import parsers, terminal
+from fizgruk._tools import parsers
 
 PROGRAM = "farm-from-labgrid"
 ABOUT = """\
@@ -26,8 +26,7 @@ NOTHING: Tuple[object, ...] = (None, "", "null", "Null", "NULL", "~", [], {})
 
 
 def main(words: Optional[Sequence[str]] = None) -> int:
-    terminal.guard()
-    return lab_file.status_of(PROGRAM, lab_of, parser_of().parse_args(words))
+    return lab_file.run(PROGRAM, lambda: parser_of().parse_args(words), lab_of)
 
 
 def parser_of() -> parsers.Parser:
@@ -108,9 +107,7 @@ def _members(group: Any) -> Sequence[Any]:
     return list(group.items()) if isinstance(group, dict) else []
 
 
-def carry(
-    lab: lab_file.LabFile, name: str, place: Dict[str, Any], options: argparse.Namespace
-) -> None:
+def carry(lab: lab_file.LabFile, name: str, place: Dict[str, Any], options: argparse.Namespace) -> None:
     """Makes a place a board, and notes what a board has no room for."""
     where = f"place {name}"
     tags = {} if place.get("tags") in NOTHING else place["tags"]
@@ -126,9 +123,7 @@ def carry(
     note_rest(lab, where, place, bool(options.notes))
 
 
-def note_rest(
-    lab: lab_file.LabFile, where: str, place: Dict[str, Any], has_notes: bool
-) -> None:
+def note_rest(lab: lab_file.LabFile, where: str, place: Dict[str, Any], has_notes: bool) -> None:
     """Notes the rest of a place; its comment isn't lost where notes of boards are written."""
     for alias in _items(place.get("aliases")):
         lab.note(where, f"alias {alias} isn't carried over")

@@ -7,10 +7,10 @@ import re
 import sys
 from typing import Any, Callable, Dict, Iterable, List, NamedTuple, Optional, TextIO, Tuple, Union
 
-from fizgruk._tools import lab_text, parsers
+from fizgruk._tools import lab_text, parsers, service
 from fizgruk.bounds import MOST_TAGS, NAME, TAG_KEY, TAG_VALUE
 
-CARRIED, NOT_CARRIED, FAULT = 0, 1, 4
+CARRIED, NOT_CARRIED = 0, 1
 LEFT_OUT = "The lab file is written, and standard error says what was left out, a line each."
 
 
@@ -39,17 +39,17 @@ def parser_of(program: str, about: str, statuses: parsers.Statuses) -> parsers.P
     return parser
 
 
-def status_of(
-    program: str,
-    lab_of: Callable[[argparse.Namespace], "LabFile"],
-    options: argparse.Namespace,
+def run(
+    program: str, options_of: Callable[[], argparse.Namespace], lab_of: Callable[[argparse.Namespace], "LabFile"]
 ) -> int:
-    """Writes the lab file that `lab_of` gives for the options. Returns the exit status."""
-    try:
-        return write(program, lab_of(options), options)
-    except (Unreadable, OSError, UnicodeDecodeError) as fault:
-        print(f"{program}: {fault}", file=sys.stderr)
-        return FAULT
+    """Does the work of a program that writes the lab file that `lab_of` gives for its options. Returns the exit status."""
+    tell = service.Teller(program)
+
+    def work() -> int:
+        options = options_of()
+        return write(tell, lab_of(options), options)
+
+    return service.run(tell, work, Unreadable, UnicodeDecodeError, ended="ended by a signal")
 
 
 class LabFile:
@@ -93,6 +93,9 @@ class LabFile:
         """Adds a board of a type that was added, with its tags as texts `key` or `key=value`, and
         its health, which `farm import` passes over."""
         word = self.word(where, "board", name, NAME)
+        if word in (".", ".."):
+            self.note(where, f"board {name} isn't carried over: its address would lead elsewhere")
+            return
         if word in self.boards:
             self.note(where, f"board {name} isn't carried over: there is a {word} already")
             return
@@ -136,9 +139,7 @@ class LabFile:
         """A tag as the desk takes it, or None where it takes none such."""
         key, equals, value = text.partition("=")
         if key == "name":
-            self.note(
-                where, f"tag {text} isn't carried over: a board's name is its tag of this key"
-            )
+            self.note(where, f"tag {text} isn't carried over: a board's name is its tag of this key")
             return None
         if equals and not value:
             self.note(where, f"tag {text} isn't carried over as it is: it is {key}")
@@ -170,23 +171,18 @@ def key_of(name: str) -> str:
     return name if re.fullmatch("[A-Za-z0-9_-]+", name) else f'"{name}"'
 
 
-def write(program: str, lab: LabFile, options: argparse.Namespace) -> int:
+def write(tell: Callable[[str], None], lab: LabFile, options: argparse.Namespace) -> int:
     """Writes a lab file to a file, or the output, and tells what wasn't carried over. Returns the
     exit status."""
     lab.note_limits()
-    return write_text(program, lab.text(), lab, options)
-
-
-def write_text(program: str, text: str, lab: LabFile, options: argparse.Namespace) -> int:
-    """Writes a text so, and tells what the lab file's notes say."""
     if options.output is None:
-        sys.stdout.write(text)
+        sys.stdout.write(lab.text())
         sys.stdout.flush()
     else:
         with open(f"{options.output}.new", "w", encoding="utf-8") as file:
-            file.write(text)
+            file.write(lab.text())
         os.replace(f"{options.output}.new", options.output)
     for note in lab.notes:
         if options.verbose or not note.usual:
-            print(f"{program}: {note.text}", file=sys.stderr)
+            tell(note.text)
     return CARRIED if all(note.usual for note in lab.notes) else NOT_CARRIED

@@ -10,6 +10,11 @@ from fizgruk.bounds import HEALTHS, LONGEST_LAB_FILE
 from fizgruk.words import BadFile
 
 FIRST_HEALTH = "Maintenance"  # that a farm gives a new board
+# What a desk shows of a type and of a board: what the next farm is given, and what is of the farm that is there.
+COLUMNS = {
+    "types": frozenset(("name", "check", "every")),
+    "boards": frozenset(("name", "type", "tags", "health", "state", "holder", "jobs_since", "last_check")),
+}
 Rows = Dict[str, Dict[str, Any]]
 
 
@@ -112,6 +117,12 @@ def faults_of(lab: NextLab, desk: calls.Looker) -> List[str]:
     has as they were."""
     rows = calls.rows_of(desk, "boards")
     lines = [
+        f"{view}: the desk shows {', '.join(more)}, which would be lost: this tool is older than it"
+        for view, known in COLUMNS.items()
+        for more in [sorted({key for it in calls.rows_of(desk, view) for key in it} - known)]
+        if more
+    ]
+    lines += [
         f"board {it['name']}: {it['holder']}{_owner_of(desk, it['holder'])} has it"
         for it in rows
         if it["holder"].startswith("job ")

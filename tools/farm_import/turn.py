@@ -2,7 +2,7 @@
 
 The next farm is made whole in HOME/next before anything is stopped: types, boards and healths, asked
 of the program as a user's commands are. Then what serves is stopped, the farm that is there is looked
-at once more, set aside in HOME/old-N, and the next one gets its name; and what was stopped begins
+at once more and set aside in HOME/old-N; one rename gives the next one its name, and what was stopped begins
 again. Where it stands after a stop the files say:
 
     next/turn.json   the next farm is whole, and the turn has begun; without it, what stands in next
@@ -15,6 +15,7 @@ Each step may be done again. The old farm is only ever named otherwise, and the 
 farm, the next one, or not there, in which case a desk doesn't begin."""
 import contextlib
 import fcntl
+import itertools
 import json
 import os
 import shlex
@@ -26,14 +27,14 @@ from typing import Any, Dict, Iterator, List, NamedTuple, Optional, Sequence
 from farm_import import next_lab, stopped
 from farm_import.next_lab import NextLab
 from fizgruk import calls
-from fizgruk._tools import disk, farm_files, units
-from fizgruk._tools.telling import Teller
+from fizgruk._tools import disk
 from fizgruk.errors import Unreachable
 
 NEXT, OLD, RECORD, LAB = "next", "old-{}", "turn.json", "lab.toml"
-# In the order in which they are stopped. A standby follows the old farm, and isn't started again.
-DISPATCH, WATCH, STANDBY, DESK = "farm-dispatch", "farm-watch", "farm-standby", "farm"
-UNITS = (DISPATCH, WATCH, STANDBY, DESK)
+# In the order in which they are stopped.
+DISPATCH, WATCH, DESK = "farm-dispatch", "farm-watch", "farm"
+UNITS = (DISPATCH, WATCH, DESK)
+STOPPED = ("inactive", "failed", "unknown", "deactivating")
 ROOM = 64_000_000  # bytes, of which a new farm of 256 boards takes some
 FREE_WITHIN, SERVES_WITHIN = 60.0, 120.0  # seconds
 PAUSE = 0.2
@@ -53,7 +54,7 @@ class InTheWay(Exception):
         self.lines = list(lines)
 
 
-class Record(NamedTuple):
+class TurnRecord(NamedTuple):
     """What a turn goes by: its lab file's mark, the folder for the old farm, the units that ran, and
     when it began."""
 
@@ -67,13 +68,17 @@ class Services:
     """What serves and asks the farm: systemd's units, or what two commands stop and start."""
 
     def __init__(self, stop: Optional[str], start: Optional[str]):
-        if not stop and not units.are_there():
+        if not stop and not os.path.isdir("/run/systemd/system"):
             raise NotDone("no systemd is here: --stop and --start say what stops and starts the desk")
         self.words = {"stop": shlex.split(stop or ""), "start": shlex.split(start or "")}
         self.has_words = bool(stop)
 
     def running(self) -> List[str]:
-        return [] if self.has_words else [it for it in UNITS if units.is_running(it)]
+        """The units that run, or try to."""
+        if self.has_words:
+            return []
+        ran = subprocess.run(["systemctl", "is-active", *UNITS], stdout=subprocess.PIPE, text=True, check=False)
+        return [unit for unit, state in zip(UNITS, ran.stdout.split()) if state not in STOPPED]
 
     def stop(self, named: List[str]) -> None:
         self._call("stop", [it for it in UNITS if it in named or it == DESK])
@@ -88,24 +93,22 @@ class Services:
             self._call("start", others)
 
     def _call(self, what: str, named: List[str]) -> None:
-        if not self.has_words:
-            fault = units.fault_of(what, *named)
-        else:
-            ran = subprocess.run(self.words[what], stdin=subprocess.DEVNULL, check=False)
-            fault = f"--{what} ended with {ran.returncode}" if ran.returncode else ""
-        if fault:
-            raise NotDone(fault)
+        words = self.words[what] if self.has_words else ["systemctl", what, *named]
+        with stopped.as_before():
+            status = subprocess.run(words, stdin=subprocess.DEVNULL, check=False).returncode
+        if status:
+            raise NotDone(f"{f'--{what}' if self.has_words else ' '.join(words)} ended with {status}")
 
 
 class Turn:
     """A turn of the farm in a file to the one of a lab."""
 
-    def __init__(self, farm: stopped.Farm, desk: calls.Desk, services: Services, tell: Teller):
-        self.farm, self.desk, self.services, self.tell = farm, desk, services, tell
+    def __init__(self, farm: stopped.StoppedFarm, desk: calls.Desk, services: Services):
+        self.farm, self.desk, self.services = farm, desk, services
         self.next = farm.within(os.path.join(farm.home, NEXT))
         self.file = os.path.join(self.next.home, RECORD)
 
-    def record(self) -> Optional[Record]:
+    def record(self) -> Optional[TurnRecord]:
         """Where a turn has begun."""
         return record_in(self.file)
 
@@ -150,19 +153,14 @@ class Turn:
 
     # ---- making the next farm
 
-    def prepare(self, lab: NextLab, healths: Dict[str, str], before: Optional[Record]) -> Record:
+    def prepare(self, lab: NextLab, healths: Dict[str, str], before: Optional[TurnRecord]) -> TurnRecord:
         """Makes the next farm whole in a folder of its own, and lets the turn begin. `before` is a
         turn to another lab that has set nothing aside."""
         ran = [*(before.units if before else []), *self.services.running()]
-        if before:
-            os.unlink(self.file)
-            disk.sync_folder(self.next.home)
-        with contextlib.suppress(FileNotFoundError):
-            shutil.rmtree(self.next.home)
+        self._give_up()
         os.mkdir(self.next.home, 0o700)
-        self.farm.give(self.next.home)
         file = os.path.join(self.next.home, LAB)
-        self._write(file, lab.text)
+        disk.write_synced(file, lab.text)
         self.next.order("init")
         self.next.order("import", "--at", str(int(time.time())), file)
         for board, health in healths.items():
@@ -172,8 +170,8 @@ class Turn:
         disk.sync_folder(self.next.home)
         disk.sync_folder(self.farm.home)
         found = [it for it in UNITS if it in ran]
-        record = Record(lab.mark(), self._free_name(), found, time.time())
-        self._write(self.file, json.dumps(record._asdict()) + "\n")
+        record = TurnRecord(lab.mark(), self._free_name(), found, time.time())
+        disk.write_synced(self.file, json.dumps(record._asdict()) + "\n")
         return record
 
     def _demand_whole(self, lab: NextLab, healths: Dict[str, str]) -> None:
@@ -186,49 +184,41 @@ class Turn:
             raise NotDone(f"the next farm isn't as the file has it: {wrong[0]}")
 
     def _free_name(self) -> str:
-        number = 1
-        while os.path.lexists(os.path.join(self.farm.home, OLD.format(number))):
-            number += 1
-        return OLD.format(number)
+        return next(it for it in map(OLD.format, itertools.count(1)) if not os.path.lexists(f"{self.farm.home}/{it}"))
 
-    def _write(self, file: str, text: str) -> None:
-        disk.write_synced(file, text)
-        self.farm.give(file)
+    def _give_up(self) -> None:
+        """Lets what stands in next/ go, which counts for nothing from the first step on."""
+        with contextlib.suppress(FileNotFoundError):
+            os.unlink(self.file)
+            disk.sync_folder(self.next.home)
+        with contextlib.suppress(FileNotFoundError):
+            shutil.rmtree(self.next.home)
 
     # ---- the turn itself
 
-    def aside(self, record: Record) -> str:
+    def aside(self, record: TurnRecord) -> str:
         return os.path.join(self.farm.home, record.aside)
 
-    def has_set_aside(self, record: Record) -> bool:
+    def has_set_aside(self, record: TurnRecord) -> bool:
         """Whether the old farm has lost its name, or began to."""
         return os.path.isdir(self.aside(record))
 
     def is_in_place(self) -> bool:
         return os.path.exists(self.farm.db) and not os.path.exists(self.next.db)
 
-    def go_on(self, lab: NextLab, record: Record, may_lose: bool) -> None:
+    def go_on(self, lab: NextLab, record: TurnRecord, may_lose: bool) -> None:
         """Does what is left to be done."""
         if not self.is_in_place():
             self.services.stop(record.units)
-            if os.path.exists(self.farm.db) and not self._has_two_names(record):
+            if os.path.exists(self.farm.db) and not stopped.is_begun_to_be_set_aside(self.farm):
                 self._look_again(lab, record, may_lose)
             self._change(record)
         self.services.start_desk()
         self._demand_served(lab)
-        self.services.start_others([it for it in record.units if it != STANDBY])
+        self.services.start_others(record.units)
         self._end(record)
 
-    def _has_two_names(self, record: Record) -> bool:
-        """Whether a file of the old farm has its new name beside the old one: no desk opens it
-        then, so it is as it was looked at."""
-        place = self.aside(record)
-        return any(
-            farm_files.are_one(it, os.path.join(place, os.path.basename(it)))
-            for it in farm_files.names_of(self.farm.db)
-        )
-
-    def _look_again(self, lab: NextLab, record: Record, may_lose: bool) -> None:
+    def _look_again(self, lab: NextLab, record: TurnRecord, may_lose: bool) -> None:
         """Looks at the farm once nobody serves it. What came since the first look, and is in the
         way, gets its desk back."""
         self._wait_until_free()
@@ -238,9 +228,7 @@ class Turn:
             return
         self.services.start_desk()
         self.services.start_others(record.units)
-        os.unlink(self.file)
-        disk.sync_folder(self.next.home)
-        shutil.rmtree(self.next.home)
+        self._give_up()
         raise InTheWay(lines)
 
     def _wait_until_free(self) -> None:
@@ -254,38 +242,35 @@ class Turn:
                     raise
             time.sleep(PAUSE)
 
-    def _change(self, record: Record) -> None:
+    def _change(self, record: TurnRecord) -> None:
         """Sets the old farm aside, and gives the next one its name."""
         place = self.aside(record)
         if not os.path.isdir(place):
             os.mkdir(place, 0o700)
             disk.sync_folder(self.farm.home)
-        self.farm.give(place)
-        farm_files.set_aside(self.farm.db, farm_files.names_of(self.farm.db), place)
-        farm_files.put_in_place(self.next.db, self.farm.db)
+        stopped.set_aside(self.farm, place)
+        stopped.put_in_place(self.next, self.farm)
 
     def _demand_served(self, lab: NextLab) -> None:
-        """Demands that the desk that answers is the next farm's."""
+        """Demands that the desk that answers is the next farm's: it has each of its boards."""
         rows = calls.rows_of(self.desk.of_patience(SERVES_WITHIN), "boards")
-        if {it["name"] for it in rows} < lab.boards.keys():
+        if not lab.boards.keys() <= {it["name"] for it in rows}:
             raise NotDone(f"the desk at {self.desk.server} isn't that of {self.farm.db}")
 
-    def _end(self, record: Record) -> None:
+    def _end(self, record: TurnRecord) -> None:
         """Notes that the turn is done."""
         os.rename(self.file, os.path.join(self.aside(record), RECORD))
         disk.sync_folder(self.aside(record))
         shutil.rmtree(self.next.home)
-        if STANDBY in record.units:
-            self.tell(f"{STANDBY} followed the old farm, and stays stopped: give it another folder")
 
 
-def record_in(file: str) -> Optional[Record]:
+def record_in(file: str) -> Optional[TurnRecord]:
     """What a file has of a turn; None where there is none."""
     try:
         said: Any = json.loads(disk.text_in(file) or "null")
         if said is None:
             return None
         mark, aside, began = str(said["mark"]), str(said["aside"]), float(said["began"])
-        return Record(mark, aside, [str(it) for it in said["units"]], began)
+        return TurnRecord(mark, aside, [str(it) for it in said["units"]], began)
     except (ValueError, KeyError, TypeError) as fault:
         raise NotDone(f"{file} can't be read: where a turn stands isn't known") from fault

@@ -2,13 +2,15 @@
 lines that the dispatcher's history has got since they were counted last."""
 import json
 import os
+import threading
 import time
 from typing import Any, Dict, Iterable, List, Optional, Sequence, Tuple
 
 from prometheus_client.core import CounterMetricFamily, GaugeMetricFamily, Metric
+from prometheus_client.registry import Collector
 
-from fizgruk import calls
-from fizgruk._tools import disk, passes
+from fizgruk import calls, present
+from fizgruk._tools import disk, passes, service
 from fizgruk.bounds import HEALTHS, MOST_BOARDS, MOST_JOBS, MOST_RESERVATIONS, MOST_TYPES
 from fizgruk.errors import Refused, Unreachable
 
@@ -19,51 +21,54 @@ OUTCOMES = ("Complete", "Incomplete", "Infra", "Canceled")
 # is longer.
 MOST_AT_ONCE, LONGEST_LINE, LONGEST_STATE = 64_000_000, 65_536, 64_000_000
 MOST_OUTCOMES, LONGEST_OUTCOME, OTHER = 20, 48, "other"
+LOST = "nothing is kept for the next time"
 # How many rows a farm takes, of the tables whose rows the desk counts.
-LIMITS = {
-    "types": MOST_TYPES, "boards": MOST_BOARDS,
-    "jobs": MOST_JOBS, "reservations": MOST_RESERVATIONS,
-}
+LIMITS = {"types": MOST_TYPES, "boards": MOST_BOARDS, "jobs": MOST_JOBS, "reservations": MOST_RESERVATIONS}
 
 
-class Collector:
+class FarmCollector(Collector):
     """Counts, and keeps what the next count needs: since when a claim is seen, and how far the
     history was read."""
 
-    def __init__(self, desk: calls.Desk, history: str, counted: str, state: Optional[str]):
-        """`history` and `counted` are the dispatcher's files of jobs that ended and of passes, and
-        `state` the file that keeps what the next process needs."""
-        self.desk = desk
-        self.passes = Passes(counted)
-        self.state = state
+    def __init__(
+        self, desk: calls.Desk, history: str, counted: str, state: Optional[str], access: str, told: service.Troubles
+    ):
+        """`history` and `counted` are the dispatcher's files of jobs that ended and of passes, `access` is
+        farm-access's file of boards, `state` the file that keeps what the next process needs, and `told` tells what is in
+        the way."""
+        self.desk, self.counted, self.access, self.state, self.told = desk, counted, access, state, told
         found = disk.object_in(state, LONGEST_STATE) if state else {}
         self.count = int(found.get("count", 0))
         self.seen: Dict[str, float] = dict(found.get("seen", {}))
-        self.history = History(history, found.get("history", {}))
-        self.trouble = ""  # why the desk isn't told of
-        self.lost = ""  # why the next process doesn't know what this one does
+        self.history = JobCounts(history, found.get("history", {}))
+        self.no_answer = f"no answer from the desk at {desk.server}"
+        self.troubles: Dict[str, str] = {}  # what isn't counted or kept, and why
+        self.lock = threading.Lock()
 
-    def families(self) -> List[Metric]:
-        """All metrics, as of now."""
-        families = self._of_the_desk()
-        families.extend(self.passes.families())
-        families.extend(self.history.families())
-        self._keep()
-        return families
+    def collect(self) -> List[Metric]:
+        """All metrics, as of now, for one client after another."""
+        with self.lock:
+            self.troubles = {}
+            families = [*self._of_the_desk(), *self._passes(), *self._jobs(), *self._workers(), *self._shut()]
+            self._keep()
+            self.told.are(*(f"{about}: {why}" for about, why in self.troubles.items()))
+            return families
+
+    def has_failed(self) -> bool:
+        """Whether nothing is known of the desk, or of this count to the next process."""
+        return not self.troubles.keys().isdisjoint((self.no_answer, LOST))
 
     def _of_the_desk(self) -> List[Metric]:
         try:
             status = self.desk.look("/status")
             boards = self.desk.look("/boards")["boards"]
             queue = self.desk.look("/queue")["queue"]
-        except Unreachable as fault:
-            self.trouble = fault.trouble
+        except (Unreachable, Refused) as fault:
+            self.troubles[self.no_answer] = getattr(fault, "trouble", str(fault))
             return [_up(0)]
-        except Refused as refusal:
-            self.trouble = str(refusal)
-            return [_up(0)]
-        self.trouble = ""
-        return [_up(1), boards_of(boards), *self._claims(status, queue), *_of_status(status)]
+        bad = [it["name"] for it in boards if it["health"] == "Bad"]
+        named = _named("fizgruk_board_bad", "Boards that are Bad.", bad)
+        return [_up(1), boards_of(boards), *named, *self._claims(status, queue), *_of_status(status)]
 
     def _claims(self, status: Dict[str, int], queue: List[Dict[str, Any]]) -> List[Metric]:
         """The claims that wait, and since when the oldest is seen: the desk doesn't tell when one
@@ -81,34 +86,29 @@ class Collector:
             GaugeMetricFamily("fizgruk_oldest_claim_age_seconds", age, max(0.0, now - since)),
         ]
 
-    def _keep(self) -> None:
-        if self.state is None:
-            return
-        self.lost = ""
-        kept = {"count": self.count, "seen": self.seen, "history": self.history.state()}
-        try:
-            disk.write_whole(self.state, json.dumps(kept), 0o600)
-        except OSError as fault:
-            self.lost = str(fault)
+    def _workers(self) -> List[Metric]:
+        """Which workers answer, as the dispatcher tells it beside its history; nothing where it tells none."""
+        shown = present.Present(self.desk, os.path.dirname(self.history.file) or ".")
+        found = sorted(shown.rows(present.ALL_WORKERS).values(), key=lambda it: str(it["name"]))[:MOST_BOARDS]
+        rows = [([str(it["name"])], float(it["answers"])) for it in found]
+        return [gauges("fizgruk_worker_up", "Whether a worker answers the dispatcher.", ["worker"], rows)] if rows else []
 
+    def _shut(self) -> List[Metric]:
+        """Which boards farm-access keeps shut; nothing where there is none, or no farm-access."""
+        boards = disk.object_in(self.access, LONGEST_STATE).get("boards")
+        rows = boards.items() if isinstance(boards, dict) else ()
+        shut = sorted(name for name, it in rows if isinstance(it, dict) and it.get("shut"))[:MOST_BOARDS]
+        return _named("fizgruk_board_shut", "Boards that farm-access keeps shut.", shut)
 
-class Passes:
-    """How many passes there were, and since when there is none, as the dispatcher notes it."""
-
-    def __init__(self, file: str):
-        self.file = file
-        self.trouble = ""
-
-    def families(self) -> List[Metric]:
-        """What there is to tell; without the dispatcher's file, why there is nothing."""
+    def _passes(self) -> List[Metric]:
+        """How many passes there were, and since when there is none; without the dispatcher's file, why there is nothing."""
         name, about = "fizgruk_passes_total", "Passes that the dispatcher asked for."
-        self.trouble = ""
         try:
-            found = passes.passes_in(self.file)
+            found = passes.passes_in(self.counted)
         except FileNotFoundError:
-            return [CounterMetricFamily(name, f"{about} None are counted: no {self.file}.")]
+            return [CounterMetricFamily(name, f"{about} None are counted: no {self.counted}.")]
         except (OSError, ValueError) as fault:
-            self.trouble = str(fault)
+            self.troubles["passes aren't counted"] = str(fault)
             return []
         age = max(0.0, time.time() - found.at)
         last = "Seconds since the last of them."
@@ -117,8 +117,25 @@ class Passes:
             GaugeMetricFamily("fizgruk_last_pass_age_seconds", last, age),
         ]
 
+    def _jobs(self) -> List[Metric]:
+        try:
+            self.history.read()
+        except FileNotFoundError:
+            pass
+        except OSError as fault:
+            self.troubles["jobs aren't counted"] = str(fault)
+        return self.history.families()
 
-class History:
+    def _keep(self) -> None:
+        kept = {"count": self.count, "seen": self.seen, "history": self.history.state()}
+        try:
+            if self.state is not None:
+                disk.write_whole(self.state, json.dumps(kept), 0o600)
+        except OSError as fault:
+            self.troubles[LOST] = str(fault)
+
+
+class JobCounts:
     """How many jobs ended how, by the dispatcher's history."""
 
     def __init__(self, file: str, state: Dict[str, Any]):
@@ -126,31 +143,21 @@ class History:
         self.inode = int(state.get("inode", 0))
         self.offset = int(state.get("offset", 0))
         self.outcomes: Dict[str, int] = dict(state.get("outcomes", {}))
-        self.trouble = ""
 
     def state(self) -> Dict[str, Any]:
         return {"inode": self.inode, "offset": self.offset, "outcomes": self.outcomes}
 
     def families(self) -> List[Metric]:
         """What there is to tell; nothing where there is no history."""
-        self.trouble = ""
-        try:
-            self._read()
-        except FileNotFoundError:
-            pass
-        except OSError as fault:
-            self.trouble = str(fault)
         if not self.inode:
             return []
         names = [*OUTCOMES, *sorted(self.outcomes.keys() - set(OUTCOMES))]
-        family = CounterMetricFamily(
-            "fizgruk_jobs_ended_total", "Jobs that ended.", labels=["outcome"]
-        )
+        family = CounterMetricFamily("fizgruk_jobs_ended_total", "Jobs that ended.", labels=["outcome"])
         for name in names:
             family.add_metric([name], self.outcomes.get(name, 0))
         return [family]
 
-    def _read(self) -> None:
+    def read(self) -> None:
         """Counts the whole lines that are new; a file that is another one, or was cut, is read from
         its beginning."""
         with open(disk.opened_file(self.file), "rb") as lines:
@@ -188,6 +195,11 @@ def _outcome_of(line: bytes) -> str:
 
 def _up(value: int) -> Metric:
     return GaugeMetricFamily("fizgruk_up", "Whether the desk answers.", value)
+
+
+def _named(name: str, about: str, boards: Sequence[str]) -> List[Metric]:
+    """A metric that has these boards alone; nothing where there are none."""
+    return [gauges(name, about, ["board"], [([it], 1) for it in boards])] if boards else []
 
 
 def boards_of(boards: List[Dict[str, Any]]) -> Metric:

@@ -3,20 +3,21 @@ line and with what is allowed."""
 import dataclasses
 import email.errors
 import email.headerregistry
+import json
 import urllib.parse
-from typing import Any, Callable, Dict, Optional, Tuple
+from typing import Any, Callable, Dict, List, Optional, Tuple
 
 from fizgruk import limits, settings, toml_text
 from fizgruk.words import BadFile, name_of
 
 CHANNELS = ("mail", "webhook")
 OUTCOMES = ("Complete", "Incomplete", "Infra", "Canceled")
-LONGEST_HOLD, LONGEST_LATE = 365 * 86400, 86400
-SHORTEST_HOLD, SHORTEST_LATE = 60, 10
-SHORTEST_DIGEST, LONGEST_DIGEST = 60, 86400
+SHORTEST_HOLD, LONGEST_HOLD = 60, 365 * 86400
 OWNER = "{owner}"
 SENDMAIL = "/usr/sbin/sendmail"  # where the file names none
-SHUT = "/var/lib/farm-access/shown/access.json"
+# What an earlier version told, and Prometheus does now: tables, and a key of [board].
+ALARMS = ("pass", "full", "room", "bad")
+ALARM = "it is an alarm of Prometheus now (examples/alerts.yml)"
 
 
 @dataclasses.dataclass(frozen=True)
@@ -25,10 +26,10 @@ class Mail:
     command."""
 
     sender: str
-    to: str
-    admin: Tuple[str, ...]
-    sendmail: str
-    owners: Dict[str, str]
+    to: str = ""
+    admin: Tuple[str, ...] = ()
+    sendmail: str = SENDMAIL
+    owners: Dict[str, str] = dataclasses.field(default_factory=dict)
 
     def address_of(self, owner: str) -> str:
         """An owner's address; nothing where the owner wants no mail or has no address."""
@@ -40,7 +41,7 @@ class Webhook:
     """Where each message is posted."""
 
     url: str
-    ca_file: Optional[str]
+    ca_file: Optional[str] = None
 
 
 @dataclasses.dataclass(frozen=True)
@@ -53,44 +54,42 @@ class Rules:
     remind: Optional[float]
     end: Optional[float]
     outcomes: Tuple[str, ...]
-    bad: bool
     free: Tuple[str, ...]
-    late: Optional[float]
-    levels: Tuple[int, ...]
     by: Dict[str, Tuple[str, ...]]
-    every: Dict[str, float] = dataclasses.field(default_factory=dict)  # of rules whose events are told together
-    below: Optional[int] = None  # bytes of room
-    paths: Tuple[str, ...] = ()
-    shut: str = ""  # the file that says which boards are
 
 
 # ---- values: each reader says what is allowed
 
-
-def demanded(value: Any, is_good: object, what: str) -> Any:
-    """A value that is good; what it isn't, else."""
-    if not is_good:
-        raise BadFile(f"{value!r} {what}")
-    return value
+Reader = Callable[[Any], Any]
 
 
-def text_of(value: Any) -> str:
-    return str(demanded(value, isinstance(value, str) and value, "is no text, as \"..\" is one"))
+def reader(what: str, read: Reader) -> Reader:
+    """What reads a value, and says of another what it isn't."""
 
-
-def time_of(shortest: float, longest: float) -> Callable[[Any], float]:
-    """A reader of times between these two."""
-
-    def read(value: Any) -> float:
+    def value_of(value: Any) -> Any:
         try:
-            seconds = seconds_of(value)
-        except limits.BadTime as fault:
-            raise BadFile(f"{value!r} is no time, as \"4h\" or \"90 minutes\" is one") from fault
-        span = f"{limits.words_of(shortest)} to {limits.words_of(longest)}"
-        demanded(value, shortest <= seconds <= longest, f"isn't within {span}")
-        return seconds
+            found = read(value)
+        except (ValueError, TypeError, LookupError, AttributeError, email.errors.MessageError):
+            found = None
+        if found is None:
+            raise BadFile(f"{value!r} {what}")
+        return found
 
-    return read
+    return value_of
+
+
+def where(is_good: Reader) -> Reader:
+    """A value as it is, where it is good."""
+    return lambda value: value if is_good(value) else None
+
+
+def some_of(known: Tuple[str, ...], head: str) -> Reader:
+    """A list of some of these words, in their order."""
+    named = ", ".join(f'"{it}"' for it in known)
+    are_known = where(lambda value: isinstance(value, list) and value and set(value) <= set(known))
+    return reader(
+        f"is none of these: {head} {named}", lambda value: tuple(it for it in known if it in are_known(value))
+    )
 
 
 def seconds_of(value: Any) -> float:
@@ -101,130 +100,64 @@ def seconds_of(value: Any) -> float:
     return limits.time_of(value) if short is None else short
 
 
-def flag_of(value: Any) -> bool:
-    return bool(demanded(value, isinstance(value, bool), "is neither true nor false"))
+def hold_of(value: Any) -> float:
+    """How old a hold is."""
+    TIME(value)
+    return seconds_of(SPAN(value))
 
 
 def outcomes_of(value: Any) -> Tuple[str, ...]:
-    if isinstance(value, bool):
-        return OUTCOMES if value else ()
-    return some_of(value, OUTCOMES, "true, false or a list of")
+    found: Tuple[str, ...] = {True: OUTCOMES, False: ()}[value] if isinstance(value, bool) else SOME_OUTCOMES(value)
+    return found
 
 
-def channels_of(value: Any) -> Tuple[str, ...]:
-    return some_of(value, CHANNELS, "a list of")
+def is_address_of_mail(value: Any) -> bool:
+    found = email.headerregistry.Address(addr_spec=value)
+    return bool(found.username and found.domain and value.isascii())
 
 
-def some_of(value: Any, known: Tuple[str, ...], head: str) -> Tuple[str, ...]:
-    named = ", ".join(f'"{it}"' for it in known)
-    is_some = isinstance(value, list) and value and all(it in known for it in value)
-    demanded(value, is_some, f"is none of these: {head} {named}")
-    return tuple(it for it in known if it in value)
-
-
-def claims_of(value: Any) -> Tuple[str, ...]:
-    """Whose claims count: true, those of reservations; "all", those of jobs too."""
-    if value == "all":
-        return ("reservation", "group")
-    demanded(value, isinstance(value, bool), "is none of true, false, \"all\"")
-    return ("reservation",) if value else ()
-
-
-def levels_of(value: Any) -> Tuple[int, ...]:
-    def is_level(it: Any) -> bool:
-        return isinstance(it, int) and not isinstance(it, bool) and 1 <= it <= 100
-
-    are_levels = isinstance(value, list) and value and all(is_level(it) for it in value)
-    demanded(value, are_levels, "is no list of whole numbers from 1 to 100, as [80, 95] is one")
-    return tuple(sorted(set(value)))
-
-
-def size_of(value: Any) -> int:
-    try:
-        return limits.size_of(text_of(value))
-    except limits.BadTime as fault:
-        raise BadFile(f"{value!r} is no size, as \"5 GB\" is one") from fault
-
-
-def paths_of(value: Any) -> Tuple[str, ...]:
-    """Paths from / on, each once."""
-    found = value if isinstance(value, list) else [value]
-    are_paths = found and all(isinstance(it, str) and it.startswith("/") for it in found)
-    demanded(value, are_paths, "is no list of paths from / on, as [\"/var/lib/farm\"] is one")
-    return tuple(dict.fromkeys(found))
-
-
-def shut_of(value: Any) -> str:
-    """Where it is said which boards are shut: true, in farm-access's own file."""
-    if isinstance(value, bool):
-        return SHUT if value else ""
-    is_path = isinstance(value, str) and value.startswith("/")
-    return str(demanded(value, is_path, "is neither true nor false nor a path from / on"))
-
-
-def url_of(value: Any) -> str:
-    try:
-        address = urllib.parse.urlsplit(text_of(value))
-        good = address.scheme in ("http", "https") and address.hostname and address.port != 0
-    except ValueError:
-        good = False
-    return str(demanded(value, good, "is no address, as \"https://chat.lab.example/hook\" is one"))
-
-
-def address_of(value: Any) -> str:
-    """A mail address, as `ann@lab.example`."""
-    try:
-        found = email.headerregistry.Address(addr_spec=text_of(value))
-        good = found.username and found.domain and value.isascii()
-    except (ValueError, IndexError, email.errors.MessageError):
-        good = False
-    return str(demanded(value, good, "is no address of mail, as \"ann@lab.example\" is one"))
-
-
-def addresses_of(value: Any) -> Tuple[str, ...]:
-    found = value if isinstance(value, list) else [value]
-    return tuple(address_of(it) for it in found)
+def is_url(value: Any) -> bool:
+    address = urllib.parse.urlsplit(value)
+    return bool(address.scheme in ("http", "https") and address.hostname and address.port != 0)
 
 
 def pattern_of(value: Any) -> str:
     """An owner's address, in which {owner} stands for the name."""
-    demanded(value, OWNER in text_of(value), f"has no {OWNER}, as \"{OWNER}@lab.example\" has")
-    address_of(value.replace(OWNER, "ann"))
+    address_of(PATTERN(value).replace(OWNER, "ann"))
     return str(value)
 
 
-def command_of(value: Any) -> str:
-    is_path = text_of(value).startswith("/")
-    return str(demanded(value, is_path, "is no path from / on, as \"/usr/sbin/sendmail\" is one"))
-
-
-HOLD = time_of(SHORTEST_HOLD, LONGEST_HOLD)
-BY = {"by": channels_of, "every": time_of(SHORTEST_DIGEST, LONGEST_DIGEST)}
+text_of = reader('is no text, as ".." is one', where(lambda it: isinstance(it, str) and it))
+address_of = reader('is no address of mail, as "ann@lab.example" is one', where(is_address_of_mail))
+url_of = reader('is no address, as "https://chat.lab.example/hook" is one', where(is_url))
+PATTERN = reader(f'has no {OWNER}, as "{OWNER}@lab.example" has', where(lambda it: OWNER in text_of(it)))
+TIME = reader('is no time, as "4h" or "90 minutes" is one', seconds_of)
+SPAN = reader(
+    f"isn't within {limits.words_of(SHORTEST_HOLD)} to {limits.words_of(LONGEST_HOLD)}",
+    where(lambda it: SHORTEST_HOLD <= seconds_of(it) <= LONGEST_HOLD),
+)
+SOME_OUTCOMES = some_of(OUTCOMES, "true, false or a list of")
+# Whose claims count, as the file says it in JSON's words.
+CLAIMS = {"true": ("reservation",), "false": (), '"all"': ("reservation", "group")}
+BY = {"by": some_of(CHANNELS, "a list of")}
 # The tables of a file, the keys of each, and how their values are read.
-TABLES: Dict[str, Dict[str, Callable[[Any], Any]]] = {
+TABLES: Dict[str, Dict[str, Reader]] = {
     "desk": {word: text_of for word in settings.WORDS},
     "mail": {
-        "from": address_of,
-        "to": pattern_of,
-        "admin": addresses_of,
-        "sendmail": command_of,
+        "from": address_of, "to": pattern_of,
+        "admin": lambda value: tuple(map(address_of, value if isinstance(value, list) else [value])),
+        "sendmail": reader('is no path from / on, as "/usr/sbin/sendmail" is one', where(lambda it: it.startswith("/"))),
     },
-    "owners": {},
+    "owners": {},  # (any names; the address of one who wants no mail is empty)
     "webhook": {"url": url_of, "ca_file": text_of},
-    "hold": {"remind": HOLD, "end": HOLD, **BY},
+    "hold": {"remind": hold_of, "end": hold_of, **BY},
     "job": {"ended": outcomes_of, **BY},
-    "board": {"bad": flag_of, "free": claims_of, "shut": shut_of, **BY},
-    "pass": {"late": time_of(SHORTEST_LATE, LONGEST_LATE), **BY},
-    "full": {"at": levels_of, **BY},
-    "room": {"below": size_of, "paths": paths_of, **BY},
+    "board": {"free": reader('is none of true, false, "all"', lambda it: CLAIMS[json.dumps(it)]), **BY},
 }
-# Which rules are told to an owner, and which to the admins.
-OF_OWNERS = (("hold", "remind"), ("hold", "end"), ("job", "ended"), ("board", "free"))
-OF_ADMINS = (
-    ("board", "bad"), ("board", "shut"), ("pass", "late"), ("full", "at"), ("room", "below"),
-)
-RULES = ("hold", "job", "board", "pass", "full", "room")
-PATHS = ("/var/lib/farm", "/var/lib/farm-dispatch")  # whose room counts where none are named
+# What a table can't be without.
+NEEDED = {"mail": ("from", "from is missing: whom the mail comes from"), "webhook": ("url", "url is missing")}
+EVENTS = (("hold", "remind"), ("hold", "end"), ("job", "ended"), ("board", "free"))
+RULES = ("hold", "job", "board")
 
 
 # ---- the file
@@ -235,12 +168,12 @@ def read_file(file: str) -> Rules:
     try:
         with open(file, "rb") as opened:
             text = toml_text.text_of(opened.read())
-        return Reader(text, toml_text.tree_of(text)).rules()
+        return RulesReader(text, toml_text.tree_of(text)).rules()
     except BadFile as fault:
         raise BadFile(f"{file}: {fault}") from fault
 
 
-class Reader:
+class RulesReader:
     """Reads the tables of one file."""
 
     def __init__(self, text: str, tree: Dict[str, Any]):
@@ -256,28 +189,20 @@ class Reader:
         for name in self.tree:
             if name not in TABLES:
                 known = [f"[{it}]" for it in TABLES]
-                raise self.fault((name,), f"no such table: {settings.meant(f'[{name}]', known)}")
+                raise self.fault((name,), ALARM if name in ALARMS else f"no such table: {settings.meant(f'[{name}]', known)}")
         found = {name: self.table(name) for name in TABLES}
-        free = found["board"].get("free", ())
-        hold = found["hold"]
+        hold, job, board, mail = found["hold"], found["job"], found["board"], found["mail"]
         rules = Rules(
             desk=found["desk"],
-            mail=self.mail(found["mail"], found["owners"]),
-            webhook=self.webhook(found["webhook"]),
+            mail=Mail(sender=mail.pop("from"), owners=found["owners"], **mail) if mail else None,
+            webhook=Webhook(**found["webhook"]) if found["webhook"] else None,
             remind=hold.get("remind"),
             end=hold.get("end"),
-            outcomes=found["job"].get("ended", ()),
-            bad=found["board"].get("bad", False),
-            free=free,
-            late=found["pass"].get("late"),
-            levels=found["full"].get("at", ()),
-            by=self.channels(found),
-            every={name: found[name]["every"] for name in RULES if "every" in found[name]},
-            below=found["room"].get("below"),
-            paths=found["room"].get("paths", PATHS),
-            shut=found["board"].get("shut", ""),
+            outcomes=job.get("ended", ()),
+            free=board.get("free", ()),
+            by={name: self.channels(name, found[name]) for name in RULES},
         )
-        self.demand_sense(rules, found)
+        self.demand_sense(rules, [it for it in EVENTS if found[it[0]].get(it[1])])
         return rules
 
     def table(self, name: str) -> Dict[str, Any]:
@@ -285,77 +210,38 @@ class Reader:
         given = self.tree.get(name, {})
         if not isinstance(given, dict):
             raise self.fault((name,), "it isn't a table")
-        if name == "owners":
-            return {owner: self.owner(owner, given[owner]) for owner in given}
-        known = TABLES[name]
-        found = {}
+        known, found = TABLES[name], {}
         for key, value in given.items():
-            if key not in known:
-                told = settings.meant(key, list(known))
-                raise self.fault((name, key), f"no such key: {told}")
+            if key not in known and name != "owners":
+                raise self.fault((name, key), ALARM if key in ALARMS else f"no such key: {settings.meant(key, list(known))}")
             try:
-                found[key] = known[key](value)
+                if name == "owners":
+                    name_of(key, "the owner's name")
+                found[key] = "" if name == "owners" and value == "" else known.get(key, address_of)(value)
             except BadFile as fault:
                 raise self.fault((name, key), fault) from fault
+        if name in self.tree and name in NEEDED and NEEDED[name][0] not in found:
+            raise self.fault((name,), NEEDED[name][1])
         return found
 
-    def owner(self, name: str, value: Any) -> str:
-        """An owner's address, empty for one who wants no mail."""
-        try:
-            name_of(name, "the owner's name")
-            return "" if value == "" else address_of(value)
-        except BadFile as fault:
-            raise self.fault(("owners", name), fault) from fault
-
-    def mail(self, table: Dict[str, Any], owners: Dict[str, str]) -> Optional[Mail]:
-        if "mail" not in self.tree:
-            return None
-        if "from" not in table:
-            raise self.fault(("mail",), "from is missing: whom the mail comes from")
-        return Mail(
-            table["from"],
-            table.get("to", ""),
-            table.get("admin", ()),
-            table.get("sendmail", SENDMAIL),
-            owners,
-        )
-
-    def webhook(self, table: Dict[str, Any]) -> Optional[Webhook]:
-        if "webhook" not in self.tree:
-            return None
-        if "url" not in table:
-            raise self.fault(("webhook",), "url is missing")
-        return Webhook(table["url"], table.get("ca_file"))
-
-    def channels(self, found: Dict[str, Dict[str, Any]]) -> Dict[str, Tuple[str, ...]]:
-        """By which channels each table's rules are told: all that there are, where `by` names
-        none."""
+    def channels(self, name: str, table: Dict[str, Any]) -> Tuple[str, ...]:
+        """By which channels a table's rules are told: all that there are, where `by` names none."""
         there = tuple(it for it in CHANNELS if it in self.tree)
-        by = {}
-        for name in RULES:
-            by[name] = found[name].get("by", there)
-            for channel in by[name]:
-                if channel not in there:
-                    raise self.fault((name, "by"), f"there is no table [{channel}]")
+        by: Tuple[str, ...] = table.get("by", there)
+        for channel in by:
+            if channel not in there:
+                raise self.fault((name, "by"), f"there is no table [{channel}]")
         return by
 
-    def demand_sense(self, rules: Rules, found: Dict[str, Dict[str, Any]]) -> None:
+    def demand_sense(self, rules: Rules, given: List[Tuple[str, str]]) -> None:
         """Refuses rules that could tell nobody anything."""
         if not (rules.mail or rules.webhook):
             raise BadFile("there is neither [mail] nor [webhook], so nobody can be told")
-        if rules.below is None and "paths" in found["room"]:
-            raise self.fault(("room",), "below is missing: how much room there has to be")
-        told = [(name, key) for name, key in OF_OWNERS + OF_ADMINS if found[name].get(key)]
-        if not told:
+        if not given:
             raise BadFile(f"it has no rule: nothing of {', '.join(f'[{it}]' for it in RULES)}")
         if rules.remind and rules.end and rules.remind >= rules.end:
             raise self.fault(("hold", "remind"), "it isn't less than end")
-        for name, key in told:
-            if rules.mail and "mail" in rules.by[name]:
-                self.demand_address(rules.mail, name, key)
-
-    def demand_address(self, mail: Mail, name: str, key: str) -> None:
-        if (name, key) in OF_OWNERS and not (mail.to or mail.owners):
-            raise self.fault((name, key), "its mail goes to owners, and [mail] has no to")
-        if (name, key) in OF_ADMINS and not mail.admin:
-            raise self.fault((name, key), "its mail goes to the admins, and [mail] has no admin")
+        mail = rules.mail
+        for path in [it for it in given if mail and "mail" in rules.by[it[0]]]:
+            if mail and not (mail.to or mail.owners):
+                raise self.fault(path, "its mail goes to owners, and [mail] has no to")

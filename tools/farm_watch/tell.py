@@ -1,10 +1,11 @@
-"""How farm-watch tells: mail by the mail server of this machine or sendmail, and posts to a webhook. Each way has a thread of its own,
-so neither holds up the other, nor the looks at the desk."""
+"""What farm-watch tells, and how: the events, each of which is named, worded and addressed, and the ways, mail by the mail
+server of this machine or sendmail, and posts to a webhook. Each way has a thread of its own, so neither holds up the
+other, nor the looks at the desk."""
+import asyncio
 import contextlib
 import email.message
 import email.utils
 import functools
-import http.client
 import json
 import smtplib
 import socket
@@ -13,18 +14,125 @@ import ssl
 import subprocess
 import tempfile
 import threading
+import time
 import urllib.parse
-from typing import Callable, Dict, Optional
+from typing import Any, Callable, Dict, List, Optional, Sequence
 
 from farm_watch.rules import SENDMAIL, Mail, Rules, Webhook
-from farm_watch.store import Delivery, Store, wait_after
-from fizgruk import limits
+from farm_watch.store import Delivery, Event, Store, wait_after
+from fizgruk import job_file, limits
+from fizgruk._tools import tables
 from fizgruk.version import VERSION
 
+LONGEST_TITLE = 60
+ENDED = tables.of("number", "result", "board", "type", "role")
 WEBHOOK_WAITS, SENDMAIL_WAITS = 5.0, 60.0
 MAIL_SERVER = ("127.0.0.1", 25)
-LOOKS = 5.0
+LOOKS = 1.0
 ENDS_IN = 15.0
+
+
+# ---- events
+
+
+class Events:
+    """Makes the events of one look at a farm, and gathers those that somebody is to be told."""
+
+    def __init__(self, rules: Rules, farm: int):
+        """`farm` counts the farms that were watched: each begins its numbers at 1."""
+        self.rules = rules
+        self.farm = farm
+        self.found: List[Event] = []
+
+    def _add(self, table: str, kind: str, name: object, owner: str, subject: str,
+             lines: Sequence[str], **facts: Any) -> None:
+        mail, at = self.rules.mail, int(time.time())
+        ways = [it for it in self.rules.by[table] if it != "mail" or (mail and mail.address_of(owner))]
+        body = {"event": kind, "at": at, "owner": owner, "subject": subject, "text": "\n".join(lines), **facts}
+        if ways:
+            self.found.append(Event(f"{self.farm}.{kind}.{name}", at, ways, body))
+
+    def hold_reminder(self, row: Dict[str, Any], begin: int, now: float) -> None:
+        number, board = row["number"], row["board"]
+        end = self.rules.end
+        self._add(
+            "hold", "hold-reminder", f"{number}.{begin}", row["owner"],
+            f"you have held {board} for {limits.words_of(now - begin)} (reservation {number})",
+            [
+                f"Reservation {number} holds the board {board} since {moment(begin)}.",
+                *([f"It is ended at {moment(begin + end)}, unless it is extended."] if end else []),
+                "",
+                f"    desk extend {number}                # to keep it for longer",
+                f"    desk cancel-reservation {number}    # to give it back",
+            ],
+            reservation=number, board=board, since=begin,
+            **({"end": int(begin + end)} if end else {}),
+        )
+
+    def hold_ended(self, row: Dict[str, Any], begin: int, now: float) -> None:
+        number, board, end = row["number"], row["board"], self.rules.end
+        limit = f"after {limits.words_of(end)} " if end else ""
+        self._add(
+            "hold", "hold-ended", number, row["owner"],
+            f"reservation {number} was ended: you had held {board} for "
+            f"{limits.words_of(now - begin)}",
+            [
+                f"Reservation {number} held the board {board} since {moment(begin)}.",
+                f"A hold is ended {limit}where it isn't extended, so the board was given back.",
+            ],
+            reservation=number, board=board, since=begin,
+        )
+
+    def is_told(self, members: List[Dict[str, Any]]) -> bool:
+        """Whether the end of a job of these members is told."""
+        return any(it["result"] in self.rules.outcomes for it in members)
+
+    def job_ended(self, members: List[Dict[str, Any]], reason: str) -> None:
+        first = members[0]
+        number, results = first["number"], [it["result"] for it in members]
+        title = title_of(first["text"])
+        named = f"job {number} ({title})" if title else f"job {number}"
+        self._add(
+            "job", "job-ended", number, first["owner"],
+            f"{named} has ended: {', '.join(results)}",
+            [*tables.lines_of(members, ENDED), *(["", f"Reason: {reason}"] if reason else [])],
+            job=number, title=title, type=first["type"], results=results, reason=reason,
+            boards=[it["board"] for it in members],
+        )
+
+    def board_free(self, kind: str, number: int, owner: str, boards: List[Dict[str, Any]]) -> None:
+        """A claim that waited was given its boards."""
+        if kind not in self.rules.free:
+            return
+        names = [it["name"] for it in boards]
+        if kind == "group":
+            named, then = f"job {number}", "It begins by itself."
+        else:
+            is_acquired = boards[0]["state"] == "Running"
+            named = f"reservation {number}"
+            then = "It is acquired." if is_acquired else f"Within a minute: desk acquire {number}"
+        what = "board" if len(names) == 1 else "boards"
+        verb = "came free and was" if len(names) == 1 else "came free and were"
+        self._add(
+            "board", "board-free", number, owner, f"{named} has got {', '.join(names)}",
+            [f"The {what} {', '.join(names)} {verb} given to {named}, which waited.", then],
+            claim=kind, number=number, boards=names,
+        )
+
+
+def moment(at: float) -> str:
+    """A moment in this machine's zone."""
+    return time.strftime("%Y-%m-%d %H:%M:%S %Z", time.localtime(at)).strip()
+
+
+def title_of(text: str) -> str:
+    """The job_name of a job's text, in one line."""
+    words = job_file.name_of(text)
+    short = " ".join("".join(it if it.isprintable() else " " for it in words).split())
+    return short if len(short) <= LONGEST_TITLE else f"{short[:LONGEST_TITLE - 2]}.."
+
+
+# ---- ways
 
 
 class Undelivered(Exception):
@@ -64,23 +172,27 @@ def send_mail(mail: Mail, it: Delivery) -> str:
     message["Auto-Submitted"] = "auto-generated"
     message["X-Farm-Event"] = it.body["event"]
     message.set_content(f"{it.body['text']}\n")
-    if mail.sendmail != SENDMAIL or not _posted(message):
+    refused = _posted(message) if mail.sendmail == SENDMAIL else None
+    if refused is None:
         _hand_over(mail.sendmail, message.as_bytes())
-    return to
+        return to
+    taken = [it for it in to.split(", ") if it not in refused]
+    return "; ".join([", ".join(taken), *(f"{it} was refused: {why}" for it, why in refused.items())])
 
 
-def _posted(message: email.message.EmailMessage) -> bool:
-    """Whether the mail server of this machine took a message; False where none listens. It needs no other account, as
-    the sendmail of most servers does, which the unit doesn't let it have."""
+def _posted(message: email.message.EmailMessage) -> Optional[Dict[str, str]]:
+    """Hands a message to the mail server of this machine: the addresses that it refused while it took others, and why;
+    None where no server listens. It needs no other account, as the sendmail of most servers does, which the unit
+    doesn't let it have."""
     try:
         with smtplib.SMTP(*MAIL_SERVER, local_hostname=socket.gethostname(), timeout=SENDMAIL_WAITS) as line:
-            line.send_message(message)
+            refused = line.send_message(message)
     except ConnectionRefusedError:
-        return False
+        return None
     except (OSError, smtplib.SMTPException, ValueError) as fault:
         said = " ".join(str(fault).split())[:200]
         raise Undelivered(f"the mail server of this machine: {said or type(fault).__name__}") from fault
-    return True
+    return {it: f"{code} {' '.join(text.decode(errors='replace').split())[:200]}" for it, (code, text) in refused.items()}
 
 
 def _hand_over(command: str, text: bytes) -> None:
@@ -117,64 +229,46 @@ def post(webhook: Webhook, it: Delivery) -> str:
     owner = f"{it.body['owner']}: " if it.body["owner"] else ""
     text = f"{owner}{it.body['subject']}\n{it.body['text']}"
     body = json.dumps({"id": it.ident, **it.body, "text": text}, ensure_ascii=False).encode()
-    path = urllib.parse.urlunsplit(("", "", address.path or "/", address.query, ""))
-    fields = {
-        "content-type": "application/json",
-        "user-agent": f"farm-watch/{VERSION}",
-        "idempotency-key": it.ident,
-    }
-    line = _line_to(webhook, address)
-    # (each step has its own time; this one is for all of them together)
-    late = threading.Event()
-    over = threading.Timer(WEBHOOK_WAITS, _shut, [line, late])
-    over.start()
     try:
-        line.connect()
-        if late.is_set():  # (there was nothing yet that could be shut)
-            raise socket.timeout("it was connected too late")
-        line.request("POST", path, body=body, headers=fields)
-        status = line.getresponse().status
-    except (OSError, http.client.HTTPException) as fault:
-        # (of the two that end a wait either may come first)
-        is_late = isinstance(fault, socket.timeout) or late.is_set()
-        why = "no answer" if is_late else str(fault) or type(fault).__name__
+        context = ssl.create_default_context(cafile=webhook.ca_file) if address.scheme == "https" else None
+    except OSError as fault:
+        raise Undelivered(f"{webhook.ca_file}: {fault}") from fault
+    try:
+        status = asyncio.run(asyncio.wait_for(_status_of(address, context, it.ident, body), WEBHOOK_WAITS))
+    except (OSError, ValueError, asyncio.TimeoutError) as fault:
+        why = "no answer" if isinstance(fault, asyncio.TimeoutError) else str(fault) or type(fault).__name__
         raise Undelivered(f"{host}: {why}") from fault
-    finally:
-        over.cancel()
-        line.close()
     if not 200 <= status < 300:
         raise Undelivered(f"{host}: answered {status}")
     return host
 
 
-def _line_to(webhook: Webhook, address: urllib.parse.SplitResult) -> http.client.HTTPConnection:
-    host = address.hostname or ""
-    if address.scheme == "https":
-        try:
-            context = ssl.create_default_context(cafile=webhook.ca_file)
-        except OSError as fault:
-            raise Undelivered(f"{webhook.ca_file}: {fault}") from fault
-        return http.client.HTTPSConnection(
-            host, address.port, timeout=WEBHOOK_WAITS, context=context
-        )
-    return http.client.HTTPConnection(host, address.port, timeout=WEBHOOK_WAITS)
-
-
-def _shut(line: http.client.HTTPConnection, late: threading.Event) -> None:
-    """Ends a connection that another thread waits at, and says before that it is for the time."""
-    late.set()
-    sock: Optional[socket.socket] = line.sock
-    if sock is not None:
-        try:
-            sock.shutdown(socket.SHUT_RDWR)
-        except OSError:
-            pass
+async def _status_of(
+    address: urllib.parse.SplitResult, context: Optional[ssl.SSLContext], ident: str, body: bytes
+) -> int:
+    """The status of the answer to a post, of which no more is read."""
+    port = address.port or (443 if context else 80)
+    lines, line = await asyncio.open_connection(address.hostname, port, ssl=context)
+    try:
+        head = [
+            f"POST {urllib.parse.urlunsplit(('', '', address.path or '/', address.query, ''))} HTTP/1.1",
+            f"host: {address.netloc.rpartition('@')[2]}", "content-type: application/json", f"content-length: {len(body)}",
+            f"user-agent: farm-watch/{VERSION}", f"idempotency-key: {ident}", "connection: close", "", "",
+        ]
+        line.write("\r\n".join(head).encode("ascii") + body)
+        await line.drain()
+        words = (await lines.readline()).split()
+        if len(words) < 2 or not words[1].isdigit():
+            raise ValueError("its answer isn't HTTP")
+        return int(words[1])
+    finally:
+        line.close()
 
 
 # ---- the threads
 
 
-class Teller(threading.Thread):
+class Messenger(threading.Thread):
     """Tells what is due on one way, one message after another. A message that isn't taken is tried
     again later, after a wait that doubles each time, and the next is told meanwhile."""
 
@@ -190,12 +284,12 @@ class Teller(threading.Thread):
     def run(self) -> None:
         while not self.is_to_end:
             try:
-                told_one = self._one()
+                is_idle = not self._one()
             except sqlite3.Error as fault:
                 self.told(f"what is told by {self.name} can't be noted: {fault}")
-                told_one = False
-            if not told_one:
-                self.wake.wait(self._pause())
+                is_idle = True
+            if is_idle:
+                self.wake.wait(LOOKS)
                 self.wake.clear()
 
     def end(self) -> None:
@@ -203,13 +297,6 @@ class Teller(threading.Thread):
         self.is_to_end = True
         self.wake.set()
         self.join(ENDS_IN)
-
-    def _pause(self) -> float:
-        try:
-            due = self.store.due(self.name)
-        except sqlite3.Error:
-            due = None
-        return LOOKS if due is None else min(max(due, 0.05), LOOKS)
 
     def _one(self) -> bool:
         """Tells what is due. Returns whether there was something."""

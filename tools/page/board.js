@@ -1,16 +1,19 @@
 import {actionsOfBoard, healthActions} from "./actions.js";
 import {fillActions, fillTags} from "./cells.js";
 import {dateOf, span} from "./clocks.js";
-import {arrangeNamed, element, setHidden, setKind, setText} from "./elements.js";
+import {
+  arrangeNamed, element, linkTo, setHidden, setHref, setKind, setText
+} from "./elements.js";
 import {boardDialog, olderButton} from "./parts.js";
 import {get} from "./requests.js";
-import {commandsOf, connectedTo, holderText, pastOf, rowsOfPast, stateText} from "./rows.js";
+import {hrefOfBoard, hrefOfJob} from "./routes.js";
+import {awayText, commandsOf, connectedTo, pastOf, rowsOfPast, stateText} from "./rows.js";
 import {state} from "./state.js";
 import {boardPast} from "./tables.js";
 import {linesOf} from "./usage.js";
 import {count, cut} from "./words.js";
 
-// Facts with their terms; a fact is a text, or a list of tags. Some have a class.
+// Facts with their terms; a fact is a text, a list of tags, or texts and links. Some have a class.
 export function fillFacts(list, facts) {
   const there = facts.filter(([, fact]) => fact), names = there.flatMap(([it]) => [it, it + ":"]);
   const made = arrangeNamed(list, names, name => element(name.endsWith(":") ? "dd" : "dt"));
@@ -19,21 +22,32 @@ export function fillFacts(list, facts) {
     const place = made[2 * at + 1];
     setKind(place, kind);
     if (Array.isArray(fact)) fillTags(place, {tags: fact});
-    else if (fact.href) fillLink(place, fact.href);
+    else if (fact.parts) fillParts(place, fact.parts);
     else setText(place, fact);
   });
 }
 
-// A link to another site, of which it learns nothing.
-function fillLink(place, href) {
-  const [link] = arrangeNamed(place, [href], () => {
-    const made = element("a");
-    made.rel = "noreferrer noopener";
-    made.target = "_blank";
-    made.href = href;
-    return made;
+// Texts and links beside each other; another site learns nothing of this one.
+function fillParts(place, parts) {
+  const made = arrangeNamed(place, parts.map((it, at) => (it.href || "text") + at), name =>
+    name.startsWith("text") ? element("span") : linkTo(""));
+  parts.forEach(({text, href}, at) => {
+    setText(made[at], text);
+    if (href) setHref(made[at], href);
+    if (!href || href.startsWith("#")) return;
+    Object.assign(made[at], {rel: "noreferrer noopener", target: "_blank"});
   });
-  setText(link, cut(href, LONGEST_NOTE));
+}
+
+export const boardLinks = names => ({parts: names.map(it => ({text: it, href: hrefOfBoard(it)}))});
+
+// Who holds a board, by what, since when: a job is a link.
+function holderOf(row) {
+  if (!row.held.kind) return "";
+  const since = row.since ? ", since " + (row.isSeen ? "" : "before ") + dateOf(row.since) : "";
+  const href = row.held.kind === "job" ? hrefOfJob(row.held.number) : "";
+  return {parts: [{text: row.owner + " "}, {text: row.holder, href},
+    {text: (row.title ? " " + row.title : "") + since}]};
 }
 
 const LONGEST_NOTE = 1000;
@@ -43,7 +57,8 @@ function noteOf(name, key) {
   const text = state.notes?.[name]?.[key];
   if (typeof text !== "string") return "";
   if (key !== "wiki") return cut(text, LONGEST_NOTE);
-  return /^https?:\/\/[^\s]+$/.test(text) ? {href: text} : "";
+  const parts = [{text: cut(text, LONGEST_NOTE), href: text}];
+  return /^https?:\/\/[^\s]+$/.test(text) ? {parts} : "";
 }
 
 export function openBoard(name) {
@@ -64,10 +79,9 @@ export function drawBoard() {
   for (const it of boardDialog.querySelectorAll(".about")) setHidden(it, !row);
   setHidden(document.getElementById("health"), !row || !healthActions(row).length);
   if (!row) return;
-  const since = row.since ? ", since " + (row.isSeen ? "" : "before ") + dateOf(row.since) : "";
   fillFacts(boardDialog.querySelector("dl"), [
     ["Type", row.type], ["Health", row.health, row.health], ["State", stateText(row)],
-    ["Held by", row.held.kind ? holderText(row) + since : ""],
+    ["Held by", holderOf(row)], ["Worker", row.away && awayText(row.away), "bad"],
     ["Tags", row.tags.length ? row.tags : ""],
     ["Ways", commandsOf(row).join("\n"), "commands"],
     ["Connected", connectedTo(row).join("\n"), "lines"],

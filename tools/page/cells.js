@@ -147,6 +147,11 @@ export function fillSince(place, row, text) {
   setTitle(place, row.since ? (row.isSeen ? "since " : "since before ") + dateOf(row.since) : "");
 }
 
+export function fillState(place, row, text) {
+  setText(place, text);
+  setTitle(place, row.away && "worker " + row.away + " doesn't answer");
+}
+
 export function fillClaim(place, row) {
   const isGroup = row.kind === "group", names = [row.kind, row.title ? "job-name" : ""];
   const [claim, title] = arrangeNamed(place, names.filter(it => it), name => {

@@ -50,6 +50,7 @@ function succeed(action, number) {
 
 // What an accepted command says of a reservation needn't be asked of the desk.
 function learnFrom(action, number) {
+  state.version++;
   const deadline = farmTime() + LEASE;
   if (action.tags) {
     const {tags} = action;
@@ -111,7 +112,10 @@ export async function keepReserved() {
       await take(row, key);
     } else if (known && known.deadline - farmTime() <= LEASE / 2) {
       const answer = await send({path: "reservations/" + number + "/refresh"});
-      if (answer && !answer.isRefused) known.deadline = farmTime() + LEASE;
+      if (answer && !answer.isRefused) {
+        known.deadline = farmTime() + LEASE;
+        state.version++;
+      }
     }
   }
 }
@@ -125,6 +129,7 @@ async function take({number, board}, key) {
   } else {
     const known = state.reservations.get(number);
     if (known) known.state = "acquired";
+    state.version++;
     notify(board + " is yours");
     lookAgain(true);
   }

@@ -5,7 +5,7 @@ import {toldOf} from "./commands.js";
 import {arrange, arrangeNamed, element, setHidden, setText} from "./elements.js";
 import {drawGrid} from "./grid.js";
 import {drawJob} from "./job.js";
-import {drawLabs} from "./labs.js";
+import {drawLabs, nameOfLab} from "./labs.js";
 import {
   footer, gridPlace, main, mine, narrow, nav, reserveForm, submitLink, warned, who, work
 } from "./parts.js";
@@ -18,10 +18,12 @@ import {sayHow} from "./telling.js";
 
 const TITLE = document.title;
 
-// On a phone what is short comes first: the boards, of which all are shown, come late.
+// On a phone what is short comes first: the boards, of which all are shown, come late, but where
+// they are what was chosen.
 export function order() {
   const [boards, queue, held, ended] = tables;
-  const all = narrow.matches ? [held, queue, boards, ended] : [boards, queue, held, ended];
+  const isLate = narrow.matches && !state.isGrid && !state.isFree;
+  const all = isLate ? [held, queue, boards, ended] : [boards, queue, held, ended];
   arrange(main, all.filter(it => it !== ended || state.past).map(it => it.place));
   // (what may come has its place before it is there, so that nothing moves then)
   arrange(nav, all.filter(it => it !== ended || state.past !== null).map(it => it.jump));
@@ -49,10 +51,11 @@ function focusNear(focused, line, table) {
   (focused.isConnected ? focused : near)?.focus({preventScroll: true});
 }
 
-// What has come stands in the window's title until it is seen.
+// The window's title says which lab it is, and what has come until that is seen.
 function drawTitle() {
   if (!document.hidden && document.hasFocus()) state.titled = "";
-  const title = state.titled ? "(" + state.titled + ") " + TITLE : TITLE;
+  const lab = nameOfLab(state.labs) + " - " + TITLE;
+  const title = state.titled ? "(" + state.titled + ") " + lab : lab;
   if (document.title !== title) document.title = title;
 }
 

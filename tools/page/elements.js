@@ -49,7 +49,9 @@ export function arrange(parent, wanted) {
 export function arrangeNamed(parent, names, make) {
   const there = new Map([...parent.children].map(it => [it.dataset.name, it]));
   const wanted = names.map(name => there.get(name) || make(name));
-  wanted.forEach((it, place) => it.dataset.name = names[place]);
+  wanted.forEach((it, place) => {
+    if (it.dataset.name !== names[place]) it.dataset.name = names[place];
+  });
   arrange(parent, wanted);
   return wanted;
 }

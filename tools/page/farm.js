@@ -6,8 +6,8 @@ import {drawAll, order} from "./drawing.js";
 import {closeJob, lookAtOpened, openJob} from "./job.js";
 import {lookAtAll} from "./looks.js";
 import {
-  againLink, boardDialog, filter, freeOnly, gridding, grouping, jobDialog, keysDialog, mine, narrow,
-  olderButton, reserveForm, submitDialog, tagField, usageBy, usageDialog
+  againLink, bar, boardDialog, filter, freeOnly, gridding, grouping, jobDialog, keysDialog, mine,
+  narrow, olderButton, reserveForm, submitDialog, tagField, usageBy, usageDialog
 } from "./parts.js";
 import {complete, reserveByTags, showFitting} from "./reserve.js";
 import {canAct} from "./rights.js";
@@ -15,7 +15,7 @@ import {go, leave, routeOf} from "./routes.js";
 import {makeRows, tellChanges} from "./rows.js";
 import {choose, noteChoice, readChoice, takeAddress, toggle} from "./search.js";
 import {EVERY, state} from "./state.js";
-import {boardPast} from "./tables.js";
+import {boardPast, tables} from "./tables.js";
 import {beginSubmit, openSubmit, submitAgain} from "./submit.js";
 import {troubleOf} from "./telling.js";
 import {drawUsage, openUsage} from "./usageview.js";
@@ -68,12 +68,18 @@ const KEYS = {
   },
   j: () => moveRow(1),
   k: () => moveRow(-1),
-  g: () => toggle(gridding),
+  g: () => chooseBoards(gridding),
   m: () => state.user && toggle(mine),
   n: () => canAct() && go("#/submit"),
   u: () => go("#/usage"),
   "?": () => go("#/keys"),
 };
+
+// Changes which boards are shown or how, and leads to them.
+function chooseBoards(it) {
+  toggle(it);
+  tables[0].heading.scrollIntoView({block: "nearest"});
+}
 
 // Escape leaves the search, or empties it first.
 function onKey(event) {
@@ -141,19 +147,7 @@ function onLink(event) {
   follow();
 }
 
-function begin() {
-  setCalls(drawAll, lookFarm);
-  document.getElementById("board-past").append(boardPast.place);
-  filter.oninput = noteChoice;
-  for (const it of [mine, freeOnly, grouping, gridding]) it.onclick = () => toggle(it);
-  tagField.oninput = tagField.onfocus = () => {
-    complete();
-    showFitting();
-  };
-  reserveForm.onsubmit = event => {
-    event.preventDefault();
-    reserveByTags();
-  };
+function beginDialogs() {
   for (const {dialog: it} of Object.values(OPENED)) {
     /** @type {HTMLElement} */ (it.querySelector(".close")).onclick = leaveOpened;
     it.addEventListener("cancel", event => {
@@ -162,6 +156,23 @@ function begin() {
     });
     it.onmousedown = onBeside;
   }
+}
+
+function begin() {
+  setCalls(drawAll, lookFarm);
+  document.getElementById("board-past").append(boardPast.place);
+  filter.oninput = noteChoice;
+  for (const it of [mine, grouping]) it.onclick = () => toggle(it);
+  for (const it of [freeOnly, gridding]) it.onclick = () => chooseBoards(it);
+  tagField.oninput = tagField.onfocus = () => {
+    complete();
+    showFitting();
+  };
+  reserveForm.onsubmit = event => {
+    event.preventDefault();
+    reserveByTags();
+  };
+  beginDialogs();
   olderButton.onclick = lookFurther;
   againLink.onclick = submitAgain;
   usageBy.onchange = () => drawUsage("");
@@ -172,7 +183,12 @@ function begin() {
   document.onvisibilitychange = () => {
     if (!document.hidden && Date.now() - state.lookedAt >= EVERY) lookFarm();
   };
-  narrow.onchange = order;
+  narrow.onchange = () => {
+    order();
+    drawAll();
+  };
+  new ResizeObserver(() => document.documentElement.style.setProperty("--bar",
+    bar.offsetHeight + "px")).observe(bar);
   takeKept();
   follow();
   order();

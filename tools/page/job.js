@@ -1,7 +1,7 @@
 // The dialog of a job: its facts, why it waits, its log, what it left.
 import {actionsOfJob} from "./actions.js";
 import {drawArtifacts, lookAtArtifacts} from "./artifacts.js";
-import {fillFacts} from "./board.js";
+import {boardLinks, fillFacts} from "./board.js";
 import {fillActions} from "./cells.js";
 import {dateOf, machineTime, span} from "./clocks.js";
 import {piecesOf} from "./console.js";
@@ -9,7 +9,8 @@ import {element, setHidden, setHref, setKind, setText} from "./elements.js";
 import {againLink, jobDialog, logPlace} from "./parts.js";
 import {address, get, look} from "./requests.js";
 import {canAct} from "./rights.js";
-import {lengthOf, testsText, waitText} from "./rows.js";
+import {hrefOfJob} from "./routes.js";
+import {awayText, lengthOf, noteOf, testsText, waitText} from "./rows.js";
 import {LOG_END, state} from "./state.js";
 import {nameIn} from "./words.js";
 
@@ -78,16 +79,20 @@ function endOf({number, facts, record, isGone}) {
 export function drawJob() {
   const opened = state.openedJob, {number, facts, log, said} = opened, ended = endOf(opened);
   const name = ended?.name || nameIn(facts?.text || "") || state.jobs.get(facts?.group)?.name || "";
-  setText(document.getElementById("job-title"), "Job " + number + (name ? ": " + name : ""));
+  const isNone = opened.isGone && !ended && !log;
+  setKind(jobDialog, isNone ? "side none" : "side");
+  setText(document.getElementById("job-title"), isNone ? "There is no job " + number
+    : "Job " + number + (name ? ": " + name : ""));
+  const boards = facts?.board ? [facts.board] : ended?.boards || [];
   fillFacts(jobDialog.querySelector("dl"), [
     ["Owner", facts?.owner || ended?.owner],
     ["State", facts ? [facts.state, facts.result].filter(it => it).join(", ") : ended?.outcome,
       facts?.result || ended?.outcome],
     ["Waits", facts ? placeOf(facts) : ""],
-    ["Reason", ended?.reason], ["Board", facts?.board || ended?.boards.join(" ")],
+    ["Reason", ended?.reason], ["Board", boards.length && boardLinks(boards)],
+    ["Worker", facts && awayFrom(facts), "bad"],
     ["Type", facts?.type || ended?.type], ["Tags", facts?.tags.length ? facts.tags : ""],
-    ["Group", facts && (facts.group !== number || facts.role) ? facts.group
-      + (facts.role ? ", as " + facts.role : "") : ""],
+    ["Role", facts?.role], ["Group", membersOf(number, facts?.group || ended?.group, ended)],
     ...momentsOf(number, ended),
     ["Tests", testsText(ended?.tests), ended?.tests?.failed ? "Bad" : ""],
     ["Failed", failedOf(ended), "lines"],
@@ -117,12 +122,29 @@ function momentsOf(number, ended) {
   ];
 }
 
+// That the worker on which a job runs doesn't answer.
+function awayFrom({board, state: what}) {
+  const row = what !== "Finished" && state.rows.boards.find(it => it.name === board);
+  return row?.away && awayText(row.away);
+}
+
+// The other members of a job's group, whose numbers follow its own.
+function membersOf(number, group, ended) {
+  const claim = state.rows.queue.find(it => it.kind === "group" && it.number === group);
+  const runs = [...state.running?.values() || []].filter(it => it.group === group);
+  const last = Math.max(number, group + (claim?.boards || ended?.boards.length || 1) - 1,
+    ...runs.map(it => it.job));
+  const all = Array.from({length: last - group + 1}, (_, at) => group + at);
+  return all.length > 1 && {parts: all.map(it =>
+    ({text: it + " ", href: it === number ? "" : hrefOfJob(it)}))};
+}
+
 // Where a job that waits stands in the queue, and why it doesn't get its boards.
 function placeOf(facts) {
   if (!["Submitted", "Scheduling"].includes(facts.state)) return "";
   const claim = state.rows.queue.find(it => it.kind === "group" && it.number === facts.group);
   if (!claim) return "";
-  const why = claim.stuck || waitText(claim.wants || [facts]);
+  const why = claim.wants ? noteOf(claim) : waitText([facts]);
   return "place " + claim.place + " of " + claim.length + " in the queue" + (why ? ": " + why : "");
 }
 

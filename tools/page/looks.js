@@ -4,7 +4,7 @@ import {machineTime} from "./clocks.js";
 import {fileOf, forEachOf, get, look} from "./requests.js";
 import {makeRows} from "./rows.js";
 import {FEW, LEASED, REST, SLACK, state} from "./state.js";
-import {stuckBy, wantsText} from "./wants.js";
+import {awayOf, stuckBy, wantsText} from "./wants.js";
 import {nameIn, numberOf} from "./words.js";
 
 // What a slow line leaves for the second part of a first look, in milliseconds. One on which the
@@ -44,7 +44,7 @@ async function lookAtRest(beside, isFresh) {
   const isNew = live.some(it => isNews(it, moment));
   const wanted = Promise.all([
     beside, lookAtTypes(boards), isNew && lookAtReservations(moment, isFresh),
-  ]).then(() => lookInto(queue, boards));
+  ]).then(() => lookedInto === state.version ? undefined : lookInto(queue, boards));
   await Promise.all([wanted, beside.then(lookAtHolders)]);
   forgetJobs();
 }
@@ -66,12 +66,19 @@ async function views(isFresh) {
 function takeFarm(queue, boards, {clock, collector, next}) {
   // (in the next farm numbers begin anew)
   if (state.farm && next < state.farm.next) {
+    state.farm.asked = null;
     for (const it of [state.types, state.reservations, state.jobs]) it.clear();
   }
+  const was = state.farm, seen = new Date().toLocaleTimeString(), behind = machineTime() - clock;
+  if (was?.boards === boards && was.asked === queue && was.collector === collector) {
+    Object.assign(was, {clock, next, behind, seen});
+    return;
+  }
+  state.version++;
   const claims = queue.map((it, place) =>
     ({...it, place: place + 1, length: queue.length, collects: it.number === collector}));
-  state.farm = {boards, queue: claims, live: state.farm?.live || [], clock, next,
-    behind: machineTime() - clock, seen: new Date().toLocaleTimeString()};
+  state.farm = {boards, queue: claims, asked: queue, live: was?.live || [], clock, collector, next,
+    behind, seen};
 }
 
 async function lookAtTypes(boards) {
@@ -105,6 +112,7 @@ async function lookAtReservations(moment, isFresh) {
   const begun = performance.now();
   if (begun < state.listAt) return;
   const all = (await look("reservations", isFresh)).reservations;
+  state.version++;
   state.reservations.clear();
   for (const it of all) {
     if (LEASED.includes(it.state) || it.state === "acquired") {
@@ -124,6 +132,7 @@ export async function lookAtJob(number) {
     const {owner, kind, group, type, tags, text} = await look("jobs/" + number);
     const name = kind === "check" ? "check" : nameIn(text);
     state.jobs.set(number, {owner, group, type, tags, name});
+    state.version++;
   }
   return state.jobs.get(number);
 }
@@ -150,30 +159,42 @@ async function lookAtUser() {
   if (state.user !== undefined) return;
   const answer = await get("whoami", {cache: "no-store"}).catch(fault => fault);
   if (answer.text) {
-    const said = (await answer.text()).trim();
-    state.user = /^[\w.-]{1,48}$/.test(said) ? said : "";
+    const text = (await answer.text()).trim();
+    state.user = /^[\w.-]{1,48}$/.test(text) ? text : "";
   } else if (answer.status === 404) {
     state.user = "";
   }
+  state.version++;
 }
 
 // What the dispatcher tells of the past, of what runs and of what waits; the ways to boards.
 async function lookAtFiles() {
-  const [running, labs, access, notes, waiting, past] = await Promise.all([
-    fileOf("running.json"), state.labs || fileOf("labs.json"), fileOf("access.json", "low"),
-    fileOf("notes.json", "low"), fileOf("waiting.json", "low"), fileOf("history.json", "low"),
+  const [running, workers, labs, access, notes, waiting, past] = await Promise.all([
+    fileOf("running.json"), fileOf("workers.json"), state.labs || fileOf("labs.json"),
+    fileOf("access.json", "low"), fileOf("notes.json", "low"), fileOf("waiting.json", "low"),
+    fileOf("history.json", "low"),
   ]);
-  if (past !== undefined) takePast(past);
-  if (running !== undefined) takeRunning(running);
-  if (waiting !== undefined) takeWaiting(waiting);
-  if (access !== undefined) state.access = access?.boards || null;
-  if (notes !== undefined) state.notes = notes?.boards || null;
+  take("past", past, takePast);
+  take("running", running, takeRunning);
+  take("waiting", waiting, takeWaiting);
+  take("workers", workers, it => state.away = awayOf(it));
+  take("access", access, it => state.access = it?.boards || null);
+  take("notes", notes, it => state.notes = it?.boards || null);
   state.labs ||= labs?.labs || [];
+}
+
+// What each file said last; what is said anew is taken.
+const said = new Map();
+
+function take(name, it, call) {
+  if (it === undefined || (said.has(name) && said.get(name) === it)) return;
+  said.set(name, it);
+  state.version++;
+  call(it);
 }
 
 // (the newest of a number counts: in the next farm numbers begin anew)
 function takePast(past) {
-  if (past && past.at === state.past?.at && past.jobs.length === state.past.jobs.length) return;
   state.past = past && {...past,
     byNumber: new Map(past.jobs.map(it => [it.job, it]).reverse())};
 }
@@ -185,13 +206,13 @@ function takeRunning(running) {
 }
 
 function takeWaiting(waiting) {
-  if (waiting && waiting.at === state.waitingAt) return;
-  state.waitingAt = waiting?.at;
   state.waiting = waiting && new Map(waiting.groups.map(
     it => [it.group, {...it, text: wantsText(it.wants)}]));
 }
 
 // ---- what claims want
+
+let lookedInto = -1;
 
 // Notes what claims want and are called, as far as the dispatcher tells it, or else of the group
 // that collects and of the first claims; and what keeps them from being served.
@@ -205,6 +226,7 @@ async function lookInto(claims, boards) {
     if (!stuck.has(claim.text)) stuck.set(claim.text, stuckBy(claim.wants, boards));
     claim.stuck = stuck.get(claim.text);
   });
+  lookedInto = ++state.version;
 }
 
 // The type and the tags of each board that a claim wants, null where that isn't known. The members
@@ -239,6 +261,7 @@ function noteSights(isFirst) {
     if (!state.sights.has(sight)) state.sights.set(sight, {at: machineTime(), isSeen: !isFirst});
   }
   for (const it of state.sights.keys()) if (!there.has(it)) state.sights.delete(it);
+  if (state.rows?.version === state.version) return;
   try {
     localStorage.setItem("sights", JSON.stringify([...state.sights]));
   } catch {

@@ -29,7 +29,7 @@ export const usageDialog = dialog("usage");
 export const usageBy = named("usage-by");
 export const keysDialog = dialog("keys"), olderButton = pressed("older");
 export const questionDialog = dialog("question");
-export const news = document.querySelectorAll(".news"), work = place("work");
+export const news = document.querySelectorAll(".news"), work = place("work"), bar = place("tools");
 export const main = document.querySelector("main");
 export const nav = document.querySelector("#tools nav");
 export const labsPlace = place("labs");

@@ -38,10 +38,17 @@ export async function get(path, settings) {
   }
 }
 
+// The last text of each view and file, and what it says: what hasn't changed is the same object.
+const kept = new Map();
+
 // The JSON of an answer, of which a part may be lost on the way.
-async function jsonOf(answer) {
+async function jsonOf(path, answer) {
   try {
-    return await answer.json();
+    const text = await answer.text(), was = kept.get(path);
+    if (was?.text === text) return was.said;
+    const said = JSON.parse(text);
+    if (!path.includes("/")) kept.set(path, {text, said});
+    return said;
   } catch {
     throw new NoAnswer("what came isn't an answer of the desk's");
   }
@@ -52,7 +59,7 @@ async function jsonOf(answer) {
 export async function look(path, isFresh = false) {
   const headers = isFresh ? {} : {"cache-control": "max-age=1"};
   const answer = await get(path, {cache: "no-store", headers});
-  const said = await jsonOf(answer), date = Date.parse(answer.headers.get("date"));
+  const said = await jsonOf(path, answer), date = Date.parse(answer.headers.get("date"));
   // (a date is cut to the second, so what is less than that isn't followed)
   const offset = date + 500 - Date.now();
   if (Math.abs(offset - state.offset) > 1500) state.offset = offset;
@@ -71,7 +78,7 @@ export async function fileOf(path, priority = "auto") {
   try {
     /** @type {any} */
     const settings = {cache: "no-cache", priority};
-    return await jsonOf(await get(path, settings));
+    return await jsonOf(path, await get(path, settings));
   } catch (fault) {
     if (fault.status !== 404) return undefined;
     state.absent.set(path, Date.now() + MINUTE);

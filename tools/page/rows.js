@@ -1,10 +1,12 @@
 // What is shown, made of what is known: rows, their uses, why claims wait, what is to be told.
-import {dateOf, span} from "./clocks.js";
+import {dateOf, machineTime, span} from "./clocks.js";
 import {isOwn} from "./rights.js";
 import {AHEAD, BEHIND, FEW, LEASE, state} from "./state.js";
 import {announce} from "./telling.js";
-import {waitsFor, wantsText} from "./wants.js";
-import {count} from "./words.js";
+import {waitsFor, wantsText, workerOf} from "./wants.js";
+import {count, cut} from "./words.js";
+
+const LONGEST_REASON = 160;
 
 // What whoever holds a board types to get to it.
 export function commandsOf(row) {
@@ -49,29 +51,36 @@ export function warnings() {
     found.push((state.farm.clock ? "no pass for " + span(behind) : "no pass yet")
       + ": is farm-dispatch running?");
   }
+  for (const name of state.away.keys()) found.push(awayText(name));
   for (const it of state.farm.queue) {
     if (it.collects && it.stuck) found.push("group " + it.number + " " + noteOf(it));
   }
   return found;
 }
 
-// Why a claim waits: what keeps it from being served at all, or who has what fits it.
+// Why a claim waits: what it lacks where it collects boards, what keeps it from being served at
+// all, or who has what fits it. (The members of a group have numbers that follow each other.)
 export function noteOf(row) {
-  const why = row.stuck || (row.wants ? waitText(row.wants, row.text) : "");
-  return [row.collects ? "collects boards" : "", why].filter(it => it).join(", and ");
+  if (!row.wants) return row.collects ? "collects boards" : "";
+  if (!row.collects) return row.stuck || waitText(row.wants, row.text);
+  const lacks = row.wants.filter((_, at) => !state.rows.holders.has("job " + (row.number + at)));
+  const head = ["collects boards", wantsText(lacks)].filter(it => it).join(", lacks ");
+  const why = waitText(lacks);
+  return row.stuck ? head + ", and " + row.stuck : why ? head + ": " + why : head;
 }
 
 // (many claims want the same)
 export function waitText(wants, text = wantsText(wants)) {
   if (wants.length !== 1) return "";
   if (!state.rows.waits.has(text)) {
-    const {boards} = state.rows, why = waitsFor(wants[0], boards, isUnchecked, holderOf);
+    const {boards} = state.rows, why = waitsFor(wants[0], boards, isUnchecked, holderOf, isAway);
     state.rows.waits.set(text, why || "a board is free: it waits for the next pass");
   }
   return state.rows.waits.get(text);
 }
 
 const holderOf = row => row.holder + (row.owner ? " of " + row.owner : "");
+const isAway = row => Boolean(row.away);
 const isUnchecked = row => row.health === "Unknown" && isChecked(row);
 const isChecked = row => (state.types.get(row.type)?.check || "none") !== "none";
 
@@ -102,10 +111,20 @@ export function usesOf(boards) {
   return [...counts].filter(([, number]) => number);
 }
 
-// What a board's state is in words: a person's hold and a job's run are told apart.
+// What a board's state is in words: a person's hold and a job's run are told apart, and whether its
+// worker answers.
 export function stateText(row) {
-  if (row.held.kind !== "reservation") return row.state;
-  return row.state === "Running" ? "Held" : "Offered";
+  const held = row.state === "Running" ? "Held" : "Offered";
+  const text = row.held.kind === "reservation" ? held : row.state;
+  return row.away ? text + ", no answer" : text;
+}
+
+// (what would change each second isn't told; while a look is under way it may answer again)
+export function awayText(name) {
+  if (!state.away.has(name)) return "";
+  const {since, reason} = state.away.get(name), gone = Math.max(0, machineTime() - since);
+  return "worker " + name + " has not answered for " + span(gone - gone % 15)
+    + (reason ? ": " + cut(reason, LONGEST_REASON) : "");
 }
 
 export function boardRow(board) {
@@ -116,17 +135,20 @@ export function boardRow(board) {
   // (of a group the first job's text has the name)
   const ofGroup = run ? null : state.jobs.get(known?.group);
   const title = ofGroup?.name || known?.name || "";
-  return {...board, key: board.name, held, owner: known?.owner || "", title, run,
+  const worker = workerOf(board), away = state.away.has(worker) ? worker : "";
+  return {...board, key: board.name, held, owner: known?.owner || "", title, run, away,
     ...sinceOf(board, held)};
 }
 
-// Makes the rows of all tables anew from what is known.
+// Makes the rows of all tables anew from what is known, where that has changed.
 export function makeRows() {
+  if (state.rows?.version === state.version) return;
   const unknown = {owner: "", priority: "", tags: [], isAwaited: true};
   const boards = state.farm.boards.map(boardRow);
   const byName = new Map(boards.map(it => [it.name, it]));
   state.rows = {
-    boards, waits: new Map(),
+    boards, waits: new Map(), version: state.version,
+    holders: new Set(boards.map(it => it.holder)),
     queue: state.farm.queue.map(it => ({...it, key: it.number})),
     reservations: state.farm.live.map(it => ({
       ...(state.reservations.get(it.number) || unknown), ...it, key: it.number,
@@ -139,6 +161,7 @@ export function makeRows() {
 
 // Tells what has changed of one's own reservations and jobs, and which boards went Bad.
 export function tellChanges(before) {
+  if (before === state.rows) return;
   const found = [], byNumber = new Map(state.rows.reservations.map(it => [it.number, it]));
   const byName = new Map(state.rows.boards.map(it => [it.name, it]));
   for (const was of before.reservations.filter(isOwn)) {

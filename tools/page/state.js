@@ -49,7 +49,9 @@ export const state = {
   /** @type {Map<number, Run> | null} what the dispatcher says that it runs, by job */
   running: null,
   /** @type {Map<number, Waiting> | null} what it says of the queue, by group */
-  waiting: null, waitingAt: 0,
+  waiting: null,
+  /** @type {Map<string, {since: number, reason: string}>} the workers that don't answer */
+  away: new Map(),
   // since when a board has its holder, as the dispatcher saw it, and as this page saw it
   holds: new Map(), sights: new Map(),
   /** @type {string | undefined} who looks: "" where the proxy doesn't tell it, undefined before */
@@ -62,7 +64,9 @@ export const state = {
   offset: 0,
   // when all reservations may be asked for again, by the page's own clock
   listAt: 0,
-  /** @type {any} what is shown of all that, made anew whenever something of it changes */
+  // how often something of that has changed; what is shown of it, made anew whenever it has
+  version: 0,
+  /** @type {any} */
   rows: null,
   // what was reserved from here, and whether it is taken when it comes; what was ended from here,
   // whose end needn't be told again

@@ -1,7 +1,7 @@
 // The dialog by which a job is submitted: its text, or a file that is dropped on it.
 import {lookAgain} from "./again.js";
 import {element, setHidden, setText} from "./elements.js";
-import {faultOf} from "./jobfile.js";
+import {faultBefore, faultOf} from "./jobfile.js";
 import {faultPlace, jobFile, submitButton, submitDialog, upload} from "./parts.js";
 import {freshKey, sendUntilAnswered, wordsOfRefusal} from "./requests.js";
 import {go, hrefOfJob} from "./routes.js";
@@ -38,13 +38,18 @@ export function beginSubmit() {
 
 async function takeFile(file) {
   if (!file) return;
-  if (file.size > MOST) tellFault({line: 0, text: "a job file has at most 65,536 bytes"});
+  if (file.size > MOST) setText(faultPlace, "refused: a job file has at most 65,536 bytes");
   else jobFile.value = await file.text();
 }
 
 async function submit() {
   const text = jobFile.value;
-  if (submitButton.disabled || !text.trim()) return;
+  if (submitButton.disabled) return;
+  const before = faultBefore(text);
+  if (before) {
+    tellFault("nothing is submitted", before);
+    return;
+  }
   submitButton.disabled = true;
   setText(faultPlace, "is sent");
   const key = unanswered.text === text ? unanswered.key : freshKey();
@@ -55,8 +60,8 @@ async function submit() {
     unanswered = {text, key};
     setText(faultPlace, "no answer: nobody knows whether it was done; Submit sends it again");
   } else if (answer.isRefused) {
-    tellFault(answer.said.code ? faultOf(text, answer.said)
-      : {line: 0, text: wordsOfRefusal(answer)});
+    tellFault("refused", answer.said.code ? faultOf(text, answer.said, knownOf())
+      : {line: 0, column: 0, text: wordsOfRefusal(answer)});
   } else {
     setText(faultPlace, "");
     announce("job " + answer.said.number + " is submitted");
@@ -65,9 +70,12 @@ async function submit() {
   }
 }
 
+const knownOf = () => ({types: state.types.keys(), boards: state.farm.boards});
+
 // A fault; a click on it goes to its line.
-function tellFault({line, text}) {
-  setText(faultPlace, "refused: " + (line ? "line " + line + ": " : "") + text);
+function tellFault(what, {line, column, text}) {
+  const where = line ? "line " + line + ", column " + column + ": " : "";
+  setText(faultPlace, what + ": " + where + text);
   if (!line) return;
   const to = element("button", "", "go to line " + line);
   to.type = "button";

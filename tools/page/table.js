@@ -2,7 +2,7 @@ import {fillText} from "./cells.js";
 import {draw} from "./again.js";
 import {arrange, arrangeNamed, button, element, setHidden, setKind, setText} from "./elements.js";
 import {isOwn} from "./rights.js";
-import {state, STEP, UNFOLDED} from "./state.js";
+import {state, STEP} from "./state.js";
 import {byKey, count, hasWords, sortKey} from "./words.js";
 
 // So many lines of a list are told at once, at most.
@@ -12,18 +12,21 @@ const LAST_OF = 200;
 export class Table {
   /**
    * @param {string} name
-   * @param {any} settings its title and columns; how many rows are shown at first; by what they are
-   *   grouped and how a group is summed up; which are free; whether no choice is made of them; what
-   *   is said where there is none, and at the end of a list that goes no further
+   * @param {any} settings its title and columns; how many rows are shown at first; by what they
+   *   are grouped, when, of how many rows groups are open at first, and how one is summed up; which
+   *   are free; whether no choice is made of them; what is said where there is none, and at the end
+   *   of a list that goes no further
    */
   constructor(name, settings) {
-    const {title, columns, first = Infinity, groupOf, summaryOf, isFree, isWhole, none, last}
-      = settings;
+    const {title, columns, first = Infinity, groupOf, areGrouped, unfolded, summaryOf, isFree,
+      isWhole, none, last} = settings;
     this.name = name;
     this.title = title;
     this.columns = columns;
     this.first = first;
     this.groupOf = groupOf;
+    this.areGrouped = areGrouped;
+    this.unfolded = unfolded;
     this.summaryOf = summaryOf;
     this.isFree = isFree;
     this.isWhole = Boolean(isWhole);
@@ -143,13 +146,18 @@ export class Table {
   // Shows those of all rows that are wanted: the first of them, or more.
   show(all) {
     this.dropLines(all);
-    const found = this.found(all), shown = found.slice(0, this.most);
-    const isGrouped = Boolean(this.groupOf && state.areGrouped);
-    const bodies = this.groups(shown, isGrouped).map(group => this.body(group));
+    const found = this.found(all), isGrouped = Boolean(this.groupOf && this.areGrouped());
+    let open = 0, room = this.most;
+    const bodies = this.groups(found, isGrouped).map(({name, members, isOpen}) => {
+      const shown = isOpen ? members.slice(0, room) : [];
+      open += isOpen ? members.length : 0;
+      room -= shown.length;
+      return this.body(name, members, isOpen, shown);
+    });
     this.setWidths(isGrouped);
     arrange(this.table, [this.head, ...bodies]);
     setText(this.nothing, this.nothingText(all));
-    this.showMore(found.length);
+    this.showMore(open);
     const shownMore = found.length > this.first ? [this.more] : [];
     if (this.last && all.length >= LAST_OF && found.length <= this.most) shownMore.push(this.end);
     arrange(this.content, [found.length ? this.table : this.nothing, ...shownMore]);
@@ -192,7 +200,7 @@ export class Table {
       : count(found.length) + " of " + count(all.length);
     setText(this.number, "(" + size + ")");
     setText(this.jump, this.title + " (" + size + ")");
-    if (this.summaryOf) fillUses(this.summary, this.summaryOf(found));
+    if (this.summaryOf) fillUses(this.summary, this.summaryOf(found), state.isGrid ? "tile " : "");
   }
 
   turnedNow() {
@@ -200,29 +208,30 @@ export class Table {
   }
 
   // The groups of rows, in the order of their names; without grouping all are one.
-  groups(shown, isGrouped) {
-    if (!isGrouped) return [{name: "", members: shown, isOpen: true}];
+  groups(found, isGrouped) {
+    if (!isGrouped) return [{name: "", members: found, isOpen: true}];
     const groups = new Map();
-    for (const row of shown) {
+    for (const row of found) {
       const name = this.groupOf(row);
       if (groups.has(name)) groups.get(name).push(row);
       else groups.set(name, [row]);
     }
-    // (of many boards the types alone are seen at first)
-    const isOpen = shown.length <= UNFOLDED || state.wanted.length > 0, turned = this.turnedNow();
+    // (of many boards the types alone are seen at first; what has no title can't be folded)
+    const isOpen = found.length <= this.unfolded || state.wanted.length > 0;
+    const turned = this.turnedNow();
     return [...groups].sort(([one], [other]) => byKey([sortKey(one)], [sortKey(other)])).map(
-      ([name, members]) => ({name, members, isOpen: isOpen !== turned.has(name)}));
+      ([name, members]) => ({name, members, isOpen: !name || isOpen !== turned.has(name)}));
   }
 
   // The part of the table that has a group, with its title where there are groups.
-  body({name, members, isOpen}) {
+  body(name, members, isOpen, rows) {
     if (!this.bodies.has(name)) this.bodies.set(name, this.makeBody(name));
     const {part, title} = this.bodies.get(name), shown = [];
     if (title) {
       this.fillTitle(title.firstChild, members, isOpen);
       shown.push(title);
     }
-    for (const row of isOpen ? members : []) {
+    for (const row of rows) {
       if (!this.lines.has(row.key)) this.lines.set(row.key, this.line());
       const line = this.lines.get(row.key);
       this.fill(line, row);
@@ -251,8 +260,9 @@ export class Table {
 
   fillTitle({children: [opener, size, uses]}, members, isOpen) {
     opener.setAttribute("aria-expanded", isOpen);
-    setText(size, count(members.length) + (members.length === 1 ? " board" : " boards"));
-    fillUses(uses, this.summaryOf(members));
+    const what = this.title.toLowerCase();
+    setText(size, count(members.length) + " " + (members.length === 1 ? what.slice(0, -1) : what));
+    if (this.summaryOf) fillUses(uses, this.summaryOf(members));
   }
 
   line() {
@@ -299,11 +309,12 @@ export class Table {
   }
 }
 
-export function fillUses(place, uses) {
-  const made = arrangeNamed(place, uses.map(([use]) => use), use => {
-    const part = element("span");
-    part.className = ["free", "bad"].includes(use) ? use : "";
-    return part;
+// How many are of which use; over the grid's tiles they look as these.
+export function fillUses(place, uses, look = "") {
+  const made = arrangeNamed(place, uses.map(([use]) => use), () => element("span"));
+  made.forEach((it, at) => {
+    const [use, number] = uses[at];
+    setText(it, count(number) + " " + use);
+    setKind(it, look + use.replaceAll(" ", "-"));
   });
-  made.forEach((it, at) => setText(it, count(uses[at][1]) + " " + uses[at][0]));
 }

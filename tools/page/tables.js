@@ -1,14 +1,16 @@
 import {actionsOfBoard, actionsOfClaim, actionsOfReservation} from "./actions.js";
 import {
-  acting, fillBoard, fillBoards, fillClaim, fillHolder, fillOwner, fillSince, fillTags, fillWhat,
-  hrefOfRow, moments, numbers, opening, plain, tagList
+  acting, fillBoard, fillBoards, fillClaim, fillHolder, fillOwner, fillSince, fillState, fillTags,
+  fillWhat, hrefOfRow, moments, numbers, opening, plain, tagList
 } from "./cells.js";
 import {
   age, dateOf, endedText, left, machineTime, shortDates, shortSpan, sinceText
 } from "./clocks.js";
+import {narrow} from "./parts.js";
+import {isOwn} from "./rights.js";
 import {hrefOfBoard} from "./routes.js";
 import {holderText, isFree, lengthOf, noteOf, stateText, testsText, usesOf} from "./rows.js";
-import {FIRST, LEASED} from "./state.js";
+import {FEW, FIRST, LEASED, state, UNFOLDED} from "./state.js";
 import {Table} from "./table.js";
 
 // Each table's columns: a title, the text that a row has there, the words by which it is found and
@@ -23,14 +25,16 @@ export const TABLES = {
       fill: opening(row => hrefOfBoard(row.name), row => row.name + ": its history")}),
     plain("Type", row => row.type, {kind: () => "type", width: "10%"}),
     plain("Health", row => row.health, {kind: row => "health " + row.health, width: "8rem"}),
-    plain("State", stateText, {width: "5.5rem", kind: row => row.held.kind ? "" : "quiet"}),
-    plain("Held by", holderText, {fill: fillHolder, width: "17%", words: row =>
-      row.held.kind ? [row.owner, row.holder, row.title] : []}),
+    plain("State", stateText, {width: "6rem", fill: fillState,
+      kind: row => row.away ? "bad" : row.held.kind ? "" : "quiet"}),
+    plain("Held by", holderText, {fill: fillHolder, width: "17%", kind: () => "holder",
+      words: row => row.held.kind ? [row.owner, row.holder, row.title] : []}),
     moments("Since", sinceText, row => row.since || Infinity, {width: "6rem",
       fill: fillSince}),
     plain("Tags", tagList, {kind: () => "long", fill: fillTags}),
     acting("boards", actionsOfBoard, "11.5rem"),
-  ], groupOf: row => row.type, summaryOf: usesOf, isFree,
+  ], groupOf: row => row.type, areGrouped: () => state.areGrouped, unfolded: UNFOLDED,
+    summaryOf: usesOf, isFree,
     none: "no boards yet: an admin adds them, as by 'desk import lab.toml'"},
   queue: {title: "Queue", first: FIRST, columns: [
     numbers("Place", row => String(row.place), {width: "4.5rem", sort: row => row.place}),
@@ -58,7 +62,9 @@ export const TABLES = {
     numbers("Priority", row => String(row.priority), {width: "5rem", sort: row => row.priority}),
     plain("Tags", tagList, {kind: () => "long", fill: fillTags}),
     acting("reservations", actionsOfReservation, "11.5rem"),
-  ]},
+  // (a phone has no room for what is others')
+  ], groupOf: row => isOwn(row) || row.isAwaited ? "" : "Of others",
+    areGrouped: () => narrow.matches, unfolded: FEW},
   ended: {title: "Ended jobs", first: 20,
     last: "These are the last that the dispatcher tells of at once; desk history has all.",
     columns: [

@@ -10,6 +10,26 @@ import {FEW, OUT} from "./state.js";
 const MOST_NAMED = 4;
 
 /**
+ * Which machine runs a board's jobs.
+ * @param {{tags: string[]}} board
+ */
+export function workerOf({tags}) {
+  return tags.find(it => it.startsWith("worker="))?.slice(7) || "desk";
+}
+
+/**
+ * The workers that don't answer, as far as what the dispatcher keeps is such a list.
+ * @param {any} told
+ * @returns {Map<string, {since: number, reason: string}>}
+ */
+export function awayOf(told) {
+  const all = Array.isArray(told?.workers) ? told.workers : [];
+  return new Map(all.filter(it => it?.answers === false && typeof it.name === "string"
+    && Number.isFinite(it.since)).map(({name, since, reason}) =>
+    [name, {since, reason: typeof reason === "string" ? reason : ""}]));
+}
+
+/**
  * @param {Board} board
  * @param {Want} want
  */
@@ -61,11 +81,13 @@ export function stuckBy(all, boards) {
  * @param {Board[]} boards
  * @param {(board: Board) => boolean} isUnchecked whether it has to be checked first
  * @param {(board: Board) => string} holderOf who holds it, by what
+ * @param {(board: Board) => boolean} isAway whether its worker doesn't answer
  */
-export function waitsFor(want, boards, isUnchecked, holderOf) {
+export function waitsFor(want, boards, isUnchecked, holderOf, isAway) {
   const fitting = boards.filter(it => fits(it, want));
   const stateOf = it => OUT.includes(it.health) ? healthWords(it.health)
-    : it.holder !== "none" ? "held" : isUnchecked(it) ? "Unknown until it is checked" : "";
+    : it.holder !== "none" ? "held" : isUnchecked(it) ? "Unknown until it is checked"
+      : isAway(it) ? "on worker " + workerOf(it) + ", which doesn't answer" : "";
   const states = fitting.map(stateOf);
   if (!fitting.length) return "no board fits";
   if (states.includes("")) return "";

@@ -1,5 +1,5 @@
 -- What a parse of the program's words comes to.
-use Rattle.std.proofs.Common.{Bool, List, [], true, None, Option, Some, inl, inr, ◌≡◌, ◌∙◌, ap, refl, sym, subst}
+use Rattle.std.proofs.Common.{List, [], true, Option, inl, inr, ◌≡◌, ◌∙◌, refl, sym, subst}
 use Rattle.clap.specs.Kinds.{HasKind, Kinds}
 use Rattle.clap.specs.Words.{App, HasMatchesOf, Row, Text, fault_of, is_simple_and_free, kind_of, subcommand_of, subcommand_rows_of}
 use Rattle.clap.specs.declared.error.Error.{Error}
@@ -8,11 +8,8 @@ use Rattle.clap.specs.declared.error.kind.ErrorKind.TheVariants.{DisplayHelp, Di
 use Rattle.clap.specs.declared.parser.matches.ArgMatches.{ArgMatches}
 use Rattle.farm_cli.specs.App.{farm_app}
 use Rattle.farm_cli.specs.Faults.{IsAnswer, IsFaultAmong, IsOfKind}
-use Rattle.farm_cli.specs.Orders.{Form, IsInBounds, leaves_choice, order_in}
 use Rattle.farm_cli.specs.declared.fault.OrderFault.{OrderFault}
 use Rattle.farm_cli.specs.declared.fault.OrderFault.TheVariants.{Help, Words, NoMemory}
-use Rattle.farm_cli.proofs.Values.{IsSettled}
-use Rattle.farm_cli.proofs.WalkedFarm.{faultless_order}
 
 no_answer : (kind : ErrorKind) → kind ≡ OutOfMemory → IsAnswer kind → ⊥
 no_answer kind m (inl h) = let e : OutOfMemory ≡ DisplayHelp = sym m ∙ h in cc
@@ -49,31 +46,3 @@ parse_faultless app words is faultless = subst (λ (a : App). is_simple_and_free
 pub parse_named : (app : App) (words : List Text) (m : ArgMatches) → app ≡ farm_app → HasMatchesOf app words m
     → subcommand_rows_of m ≡ subcommand_of farm_app words
 parse_named app words m is matches = (subst (λ (a : App). HasMatchesOf a words m) is matches refl).1
-
-settled_open : (o : Option Form) (left : Bool) → IsSettled o left → o ≡ None → left ≡ true
-settled_open None left s e = s
-settled_open (Some f) left s e = cc
-
-settled_bounds : (o : Option Form) (left : Bool) (f : Form) → IsSettled o left → o ≡ Some f → IsInBounds f
-settled_bounds None left f s e = cc
-settled_bounds (Some g) left f s e = subst (λ (o : Option Form). IsSettled o left) e s
-
--- matches of the program's words name an order within bounds, or leave a choice open
-settled : (app : App) (words : List Text) (m : ArgMatches) → app ≡ farm_app → HasMatchesOf app words m
-    → (is_simple_and_free app ≡ true → fault_of app words ≡ []) → IsSettled (order_in (subcommand_rows_of m)) (leaves_choice (subcommand_of farm_app words))
-settled app words m is matches faultless =
-    subst (λ (o : Option Form). IsSettled o (leaves_choice (subcommand_of farm_app words))) (ap order_in (sym (parse_named app words m is matches)))
-    (faultless_order words (parse_faultless app words is faultless))
-
--- matches of the program's words that name no order
-pub unnamed : (app : App) (words : List Text) (m : ArgMatches) → app ≡ farm_app → HasMatchesOf app words m
-    → (is_simple_and_free app ≡ true → fault_of app words ≡ []) → order_in (subcommand_rows_of m) ≡ None
-    → leaves_choice (subcommand_of farm_app words) ≡ true
-unnamed app words m is matches faultless none =
-    settled_open (order_in (subcommand_rows_of m)) (leaves_choice (subcommand_of farm_app words)) (settled app words m is matches faultless) none
-
--- and those that name one
-pub named_bounds : (app : App) (words : List Text) (m : ArgMatches) (f : Form) → app ≡ farm_app → HasMatchesOf app words m
-    → (is_simple_and_free app ≡ true → fault_of app words ≡ []) → order_in (subcommand_rows_of m) ≡ Some f → IsInBounds f
-named_bounds app words m f is matches faultless some =
-    settled_bounds (order_in (subcommand_rows_of m)) (leaves_choice (subcommand_of farm_app words)) f (settled app words m is matches faultless) some

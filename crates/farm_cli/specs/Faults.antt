@@ -1,11 +1,11 @@
 -- What a fault says of the words.
-use Rattle.std.specs.Prelude.{◌≡◌, ◌≢◌, ◌⊎◌, [], List, Option, false, true, ⊤, codes, if◌then◌else◌, string_bytes}
+use Rattle.std.specs.Prelude.{◌≡◌, ◌≢◌, ◌⊎◌, [], List, None, Option, false, ⊤, codes, if◌then◌else◌, string_bytes}
 use Rattle.std.specs.Option.{option_map_or}
 use Rattle.std.specs.Str.{bytes_eq}
 use Rattle.clap.specs.Words.{IsAmong, Kinds, Row, Text}
 use Rattle.clap.specs.declared.error.kind.ErrorKind.{ErrorKind}
 use Rattle.clap.specs.declared.error.kind.ErrorKind.TheVariants.{DisplayHelp, DisplayVersion, OutOfMemory}
-use Rattle.farm_cli.specs.Orders.{leaves_choice}
+use Rattle.farm_cli.specs.Orders.{order_in}
 use Rattle.farm_cli.specs.declared.fault.OrderFault.{OrderFault}
 use Rattle.farm_cli.specs.declared.fault.OrderFault.TheVariants.{Help, Words, NoMemory}
 
@@ -39,5 +39,5 @@ abbrev pub IsFaultAmong : Kinds → Option (Text × List Row) → OrderFault →
 IsFaultAmong kinds named (Help text) = (kind : ErrorKind) × IsAmong kind kinds × IsAnswer kind
 IsFaultAmong kinds named (Words text) =
     ((kind : ErrorKind) × IsAmong kind kinds × (IsAnswer kind → ⊥))
-    ⊎ ((kinds ≡ []) × (leaves_choice named ≡ true) × (string_bytes text ≡ open_text named))
+    ⊎ ((kinds ≡ []) × (order_in named ≡ None) × (string_bytes text ≡ open_text named))
 IsFaultAmong kinds named NoMemory = ⊤

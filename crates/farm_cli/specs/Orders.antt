@@ -1,5 +1,5 @@
 -- The order that a subcommand and its values name.
-use Rattle.std.specs.Prelude.{◌≤◌, ◌&&◌, ◌||◌, ℕ, Bool, not, List, Option, Some, None, false, ⊤, codes, if◌then◌else◌, is_some, nat_lt, option_and_then}
+use Rattle.std.specs.Prelude.{◌≤◌, ◌&&◌, ℕ, Bool, List, Option, Some, None, false, ⊤, codes, if◌then◌else◌, is_some, nat_le, option_and_then}
 use Rattle.std.specs.Prelude.{option_map, string_bytes, unwrap_or}
 use Rattle.std.specs.Option.{option_map_or}
 use Rattle.std.specs.Str.{bytes_eq}
@@ -70,11 +70,12 @@ database_in rows = if has_flag (codes "memory") rows
     then (if is_some (first_of (codes "db") rows) then None else Some None)
     else option_map (λ file. Some file) (first_of (codes "db") rows)
 
-abbrev pub u16_of : ℕ → Option ℕ
-u16_of n = if nat_lt n 65536 then Some n else None
+-- a port that can be listened on
+abbrev pub port_of : ℕ → Option ℕ
+port_of n = if nat_le 1 n && nat_le n last_port then Some n else None
 
 abbrev pub port_in : List Row → Option ℕ
-port_in rows = option_and_then u16_of (argument_number (codes "port") rows)
+port_in rows = option_and_then port_of (argument_number (codes "port") rows)
 
 -- the report of this name
 abbrev pub report_of : Text → Option Report
@@ -85,9 +86,13 @@ report_of name = if bytes_eq name (codes "queue") then Some Queue
 abbrev pub which_in : List Row → Option Report
 which_in rows = option_and_then report_of (first_of (codes "which") rows)
 
+-- an offset of at most fourteen hours
+abbrev pub offset_of : ℕ → Option ℕ
+offset_of n = if nat_le n most_minutes then Some n else None
+
 -- the minutes of an offset, 0 where it wasn't given
-abbrev pub minutes_of : Text → List Row → ℕ
-minutes_of id rows = unwrap_or (argument_number id rows) 0
+abbrev pub minutes_in : Text → List Row → Option ℕ
+minutes_in id rows = offset_of (unwrap_or (argument_number id rows) 0)
 
 -- ---- the order of each subcommand
 
@@ -106,9 +111,9 @@ serve_in rows = option_and_then (λ file. option_and_then (λ port. option_map (
     (first_of (codes "db") rows)
 
 abbrev pub report_in : List Row → Option Form
-report_in rows = option_and_then (λ file. option_map (λ which.
-    report file (minutes_of (codes "east") rows) (minutes_of (codes "west") rows) which)
-    (which_in rows)) (first_of (codes "db") rows)
+report_in rows = option_and_then (λ file. option_and_then (λ east. option_and_then (λ west.
+    option_map (λ which. report file east west which) (which_in rows))
+    (minutes_in (codes "west") rows)) (minutes_in (codes "east") rows)) (first_of (codes "db") rows)
 
 -- the order of a subcommand with its values
 abbrev pub order_named : Text → List Row → Option Form
@@ -122,11 +127,3 @@ order_named name rows = if bytes_eq name (codes "once") then once_in rows
 -- the same where there is a subcommand at all
 abbrev pub order_in : Option (Text × List Row) → Option Form
 order_in = option_and_then (λ p. order_named p.0 p.1)
-
--- ---- words that `clap` takes and that name no order
-
--- `once` with neither or both of `--memory` and `--db`, or `report` of something that is no report
-abbrev pub leaves_choice : Option (Text × List Row) → Bool
-leaves_choice named = option_map_or (λ p.
-    (bytes_eq p.0 (codes "once") && not (is_some (database_in p.1)))
-    || (bytes_eq p.0 (codes "report") && not (is_some (which_in p.1)))) named false

@@ -1,17 +1,18 @@
 //! Reading the words.
-ghost use Rattle.std.specs.Prelude.{◌≡◌, ◌⊎◌, [], IfErr, IfOk, Some, false, map, option_map, true};
-ghost use Rattle.std.specs.Prelude.{codes, string_bytes};
+ghost use Rattle.std.specs.Prelude.{◌≡◌, ◌≤◌, ◌⊎◌, [], IfErr, IfOk, IfSome, None, Some, codes};
+ghost use Rattle.std.specs.Prelude.{false, map, option_map, string_bytes, true};
 ghost use Rattle.clap.specs.Words.{app_of, fault_of as kinds_of, first_of, found_of, rows_of};
 ghost use Rattle.clap.specs.Words.{rule_of, subcommand_of, subcommand_rows_of, takes};
 ghost use Rattle.farm_cli.specs.App.{AddsShape, at_rule, bare_app, db_rule, farm_app};
+ghost use Rattle.farm_cli.specs.App.{last_port, most_minutes};
 ghost use Rattle.farm_cli.specs.App.{import_app, init_app, max_rule, memory_rule, migrate_app};
 ghost use Rattle.farm_cli.specs.App.{offset_rule, once_app, text_rule};
 ghost use Rattle.farm_cli.specs.App.{port_rule, positional_rule, report_app, serve_app};
 ghost use Rattle.farm_cli.specs.Faults.{IsFaultAmong, open_text};
-ghost use Rattle.farm_cli.specs.Orders.{IsInBounds, form_of, has_flag, import_in};
-ghost use Rattle.farm_cli.specs.Orders.{leaves_choice, argument_number, once_in, order_in};
-ghost use Rattle.farm_cli.specs.Orders.{port_in, report_in};
-ghost use Rattle.farm_cli.specs.Orders.{report_of, serve_in, which_in};
+ghost use Rattle.farm_cli.specs.Orders.{IsInBounds, argument_number, form_of, has_flag};
+ghost use Rattle.farm_cli.specs.Orders.{import_in, init, migrate, minutes_in, once_in};
+ghost use Rattle.farm_cli.specs.Orders.{order_in, port_in, report_in, report_of, serve_in};
+ghost use Rattle.farm_cli.specs.Orders.{which_in};
 ghost use Rattle.farm_cli.specs.declared.fault.OrderFault.TheVariants.{NoMemory};
 
 use crate::fault::{OrderFault, fault_of};
@@ -34,10 +35,10 @@ pub fn order_of(alloc: Global, words: &[String]) -> Result<Order, OrderFault>
         (kinds_of farm_app (map string_bytes words.now))
         (subcommand_of farm_app (map string_bytes words.now))) }
 
-    // Words that `clap` takes are refused for want of memory, or where they leave a choice open.
+    // Words that `clap` takes are refused for want of memory, or where they name no order.
     ensures taken { takes farm_app (map string_bytes words.now) ≡ true → IfErr result (λ fault.
         (fault ≡ NoMemory)
-        ⊎ (leaves_choice (subcommand_of farm_app (map string_bytes words.now)) ≡ true)) }
+        ⊎ (order_in (subcommand_of farm_app (map string_bytes words.now)) ≡ None)) }
 {
     match farm_command(alloc)?.try_get_matches_from(words) {
         Ok(matches) => match named(alloc, &matches)? {
@@ -84,28 +85,48 @@ For more information, try '--help'.
 
 /// The order that the matches name.
 fn named(alloc: Global, matches: &ArgMatches<'_>) -> Result<Option<Order>, AllocError>
-    ensures { IfOk result (λ order.
+    ensures order { IfOk result (λ order.
         option_map form_of order ≡ order_in (subcommand_rows_of matches.now)) }
+    ensures bounds { IfOk result (λ order. IfSome order (λ order. IsInBounds (form_of order))) }
 {
     let Some((name, given)) = matches.subcommand() else {
         return Ok(None);
     };
     let file = text(alloc, given, "db")?;
-    Ok(match name {
-        "once" => once_named(given, file),
-        "init" => file.map(|file| Order::Init { file }),
-        "migrate" => file.map(|file| Order::Migrate { file }),
-        "import" => import_named(given, file, text(alloc, given, "lab")?),
-        "serve" => serve_named(given, file),
-        "report" => report_named(given, file),
-        _ => None,
-    })
+    match name {
+        "once" => Ok(once_named(given, file)),
+        "init" => Ok(init_named(file)),
+        "migrate" => Ok(migrate_named(file)),
+        "import" => Ok(import_named(given, file, text(alloc, given, "lab")?)),
+        "serve" => Ok(serve_named(given, file)),
+        "report" => Ok(report_named(given, file)),
+        _ => Ok(None),
+    }
+}
+
+fn init_named(file: Option<String>) -> Option<Order>
+    ensures order { option_map form_of result
+        ≡ option_map (λ file. init file) (option_map string_bytes file) }
+    ensures bounds { IfSome result (λ order. IsInBounds (form_of order)) }
+{
+    let file = file?;
+    Some(Order::Init { file })
+}
+
+fn migrate_named(file: Option<String>) -> Option<Order>
+    ensures order { option_map form_of result
+        ≡ option_map (λ file. migrate file) (option_map string_bytes file) }
+    ensures bounds { IfSome result (λ order. IsInBounds (form_of order)) }
+{
+    let file = file?;
+    Some(Order::Migrate { file })
 }
 
 fn once_named(given: &ArgMatches<'_>, file: Option<String>) -> Option<Order>
     requires { option_map string_bytes file
         ≡ first_of (codes "db") (rows_of (found_of given.now)) }
-    ensures { option_map form_of result ≡ once_in (rows_of (found_of given.now)) }
+    ensures order { option_map form_of result ≡ once_in (rows_of (found_of given.now)) }
+    ensures bounds { IfSome result (λ order. IsInBounds (form_of order)) }
 {
     let database = match (flag(given, "memory"), file) {
         (true, None) => Database::Memory,
@@ -121,7 +142,8 @@ fn import_named(given: &ArgMatches<'_>, file: Option<String>, lab: Option<String
         ≡ first_of (codes "db") (rows_of (found_of given.now)) }
     requires lab { option_map string_bytes lab
         ≡ first_of (codes "lab") (rows_of (found_of given.now)) }
-    ensures { option_map form_of result ≡ import_in (rows_of (found_of given.now)) }
+    ensures order { option_map form_of result ≡ import_in (rows_of (found_of given.now)) }
+    ensures bounds { IfSome result (λ order. IsInBounds (form_of order)) }
 {
     let (file, at, lab) = (file?, number(given, "at")?, lab?);
     Some(Order::Import { file, at, lab })
@@ -130,7 +152,8 @@ fn import_named(given: &ArgMatches<'_>, file: Option<String>, lab: Option<String
 fn serve_named(given: &ArgMatches<'_>, file: Option<String>) -> Option<Order>
     requires { option_map string_bytes file
         ≡ first_of (codes "db") (rows_of (found_of given.now)) }
-    ensures { option_map form_of result ≡ serve_in (rows_of (found_of given.now)) }
+    ensures order { option_map form_of result ≡ serve_in (rows_of (found_of given.now)) }
+    ensures bounds { IfSome result (λ order. IsInBounds (form_of order)) }
 {
     let (file, port, max) = (file?, port(given)?, number(given, "max")?);
     Some(Order::Serve { file, port, max })
@@ -139,12 +162,13 @@ fn serve_named(given: &ArgMatches<'_>, file: Option<String>) -> Option<Order>
 fn report_named(given: &ArgMatches<'_>, file: Option<String>) -> Option<Order>
     requires { option_map string_bytes file
         ≡ first_of (codes "db") (rows_of (found_of given.now)) }
-    ensures { option_map form_of result ≡ report_in (rows_of (found_of given.now)) }
+    ensures order { option_map form_of result ≡ report_in (rows_of (found_of given.now)) }
+    ensures bounds { IfSome result (λ order. IsInBounds (form_of order)) }
 {
     Some(Order::Report {
         file: file?,
-        east: number(given, "east").unwrap_or(0),
-        west: number(given, "west").unwrap_or(0),
+        east: minutes(given, "east")?,
+        west: minutes(given, "west")?,
         which: which(given)?,
     })
 }
@@ -164,9 +188,28 @@ fn number(given: &ArgMatches<'_>, id: &str) -> Option<u64>
 }
 
 fn port(given: &ArgMatches<'_>) -> Option<u16>
-    ensures { result ≡ port_in (rows_of (found_of given.now)) }
+    ensures port { result ≡ port_in (rows_of (found_of given.now)) }
+    ensures range { IfSome result (λ port. (1 ≤ port) × (port ≤ last_port)) }
 {
-    u16::try_from(number(given, "port")?).ok()
+    let port = number(given, "port")?;
+    if port >= 1 && port <= LAST_PORT as u64 {
+        Some(port as u16)
+    } else {
+        None
+    }
+}
+
+/// The minutes of an offset, 0 where it wasn't given.
+fn minutes(given: &ArgMatches<'_>, id: &str) -> Option<u64>
+    ensures minutes { result ≡ minutes_in id.now (rows_of (found_of given.now)) }
+    ensures range { IfSome result (λ minutes. minutes ≤ most_minutes) }
+{
+    let minutes = number(given, id).unwrap_or(0);
+    if minutes <= MOST_MINUTES as u64 {
+        Some(minutes)
+    } else {
+        None
+    }
 }
 
 /// The text that an argument has.

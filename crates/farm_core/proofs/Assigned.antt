@@ -1,5 +1,5 @@
 -- The queues once a claim was given its boards.
-use Rattle.std.proofs.Common.{◌≡◌, ◌∙◌, ◌==◌, ◌||◌, ℕ, List, [], ◌∷◌, Bool, true, false, cond, not, Option, Some, None, refl, sym, ap, arith}
+use Rattle.std.proofs.Common.{[], ◌≡◌, ◌∙◌, ◌==◌, ◌||◌, ℕ, List, ◌∷◌, Bool, false, not, Option, Some, refl, ap, arith}
 use Rattle.farm_core.proofs.Names.{BoardRow, idle_boards, list_any, nat_tests, option_map_or, Queued, QueueLists, ResRow, Want}
 use Rattle.std.specs.List.{filter}
 use Rattle.std.specs.Option.{option_map}
@@ -15,19 +15,10 @@ module _ (F : Farm) (c : Claimed) (wants : List Want) (asks : c.wants ≡ wants)
     boards = without_boards (names_of bs) lists.boards;
   }) o (record lists { boards = idle_boards (pass_over F c) })
 
-  is_given : given (least F.boards (is_free F.types) wants) ≡ queues_given F c lists
-  is_given = sym (ap (λ w. given (least F.boards (is_free F.types) w)) asks)
-
   -- a claim that is met leaves them with its boards
   pub queues_left : (names : List (List ℕ)) → Some names ≡ option_map names_of (least F.boards (is_free F.types) wants)
       → record { claims = filter (λ (x : Queued). not (x.claim.number == c.number)) lists.claims; boards = without_boards names lists.boards } ≡ queues_given F c lists
-  queues_left names picked = by (least F.boards (is_free F.types) wants) picked ∙ is_given
-    where
-      by : (o : Option (List BoardRow)) → Some names ≡ option_map names_of o
-          → record { claims = filter (λ (x : Queued). not (x.claim.number == c.number)) lists.claims; boards = without_boards names lists.boards } ≡ given o
-      by None is = cc
-      by (Some bs) is = let same : names ≡ names_of bs = cc in
-          ap (λ ns. record { claims = filter (λ (x : Queued). not (x.claim.number == c.number)) lists.claims; boards = without_boards ns lists.boards }) same
+  queues_left names picked = grind (arith, nat_tests)
 
 -- ---- several boards and claims at once
 
@@ -37,16 +28,7 @@ same_back a b = grind (arith, nat_tests)
 -- to take one more is to take those that are another's too
 pub taken_more : {A : Type 0} (p q r : A → Bool) → ((x : A) → r x ≡ (p x || q x)) → (xs : List A) → filter (λ x. not (q x)) (filter (λ x. not (p x)) xs) ≡ filter (λ x. not (r x)) xs
 taken_more p q r is [] = refl
-taken_more p q r is (x ∷ xs) =
-    by (p x) (q x) refl (taken_more p q r is xs)
-    ∙ ap (λ v. cond (not v) (x ∷ filter (λ x. not (r x)) xs) (filter (λ x. not (r x)) xs)) (sym (is x))
-  where
-    by : (v w : Bool) → q x ≡ w → filter (λ x. not (q x)) (filter (λ x. not (p x)) xs) ≡ filter (λ x. not (r x)) xs
-        → filter (λ x. not (q x)) (cond (not v) (x ∷ filter (λ x. not (p x)) xs) (filter (λ x. not (p x)) xs))
-        ≡ cond (not (v || w)) (x ∷ filter (λ x. not (r x)) xs) (filter (λ x. not (r x)) xs)
-    by true w has rest = rest
-    by false true has rest = ap (λ u. cond (not u) (x ∷ filter (λ x. not (q x)) (filter (λ x. not (p x)) xs)) (filter (λ x. not (q x)) (filter (λ x. not (p x)) xs))) has ∙ rest
-    by false false has rest = ap (λ u. cond (not u) (x ∷ filter (λ x. not (q x)) (filter (λ x. not (p x)) xs)) (filter (λ x. not (q x)) (filter (λ x. not (p x)) xs))) has ∙ ap (λ more. x ∷ more) rest
+taken_more p q r is (x ∷ xs) = grind (arith, taken_more p q r is xs)
 
 pub all_pass : {A : Type 0} (xs : List A) → xs ≡ filter (λ x. not false) xs
 all_pass [] = refl

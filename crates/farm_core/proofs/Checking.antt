@@ -1,7 +1,7 @@
 -- The due boards are checked in their places.
-use Rattle.std.proofs.Common.{◌≡◌, ℕ, zero, suc, ◌+◌, ◌<◌, ◌≤◌, List, [], ◌∷◌, length, drop, get_or, Bool, true, false, cond, ◌&&◌, ◌||◌, Some, refl, sym, ap}
+use Rattle.std.proofs.Common.{[], ◌≡◌, ℕ, zero, suc, ◌+◌, ◌<◌, ◌≤◌, List, ◌∷◌, length, drop, get_or, Bool, true, false, cond, ◌&&◌, ◌||◌, refl, sym, ap}
 use Rattle.std.proofs.Common.{◌∙◌, arith, add-one}
-use Rattle.farm_core.proofs.Names.{AllByRecursion, BoardRow, bytes_eq, Check, find, fold, Holder, is_eq, IsStrictlySortedBy, Less, list_any, option_map_or}
+use Rattle.farm_core.proofs.Names.{AllByRecursion, BoardRow, bytes_eq, Check, fold, Holder, is_eq, IsStrictlySortedBy, Less, list_any}
 use Rattle.farm_core.proofs.Names.{State, TypeRow}
 use Rattle.std.specs.List.{filter}
 use Rattle.std.specs.Cmp.Lexicographic.{nat_list_eq_equiv}
@@ -66,37 +66,13 @@ module _ (t : ℕ) (F : Farm) (at : ℕ) (b : BoardRow) (sorted : IsStrictlySort
 
 -- what a check keeps
 pub checked_long : (F : Farm) (b : BoardRow) → length (check_one F b).boards ≡ length F.boards
-checked_long F b = by (has_room F 1)
-  where
-    by : (v : Bool) → length (cond v (record F {
-      jobs = put job_cmp F.jobs (check_job F.next b);
-      boards = change_where (λ c. bytes_eq c.name b.name) (held_board (Holder.Job F.next) State.Reserved) F.boards;
-      next = F.next + 1;
-    }) F).boards ≡ length F.boards
-    by true = change_long (λ c. bytes_eq c.name b.name) (held_board (Holder.Job F.next) State.Reserved) F.boards
-    by false = refl
+checked_long F b = grind (arith, change_long (λ c. bytes_eq c.name b.name) (held_board (Holder.Job F.next) State.Reserved) F.boards)
 
 pub checked_next : (F : Farm) (b : BoardRow) → F.next ≤ (check_one F b).next
-checked_next F b = by (has_room F 1)
-  where
-    by : (v : Bool) → F.next ≤ (cond v (record F {
-      jobs = put job_cmp F.jobs (check_job F.next b);
-      boards = change_where (λ c. bytes_eq c.name b.name) (held_board (Holder.Job F.next) State.Reserved) F.boards;
-      next = F.next + 1;
-    }) F).next
-    by true = omega arith
-    by false = omega arith
+checked_next F b = grind arith
 
 pub checked_clock : (F : Farm) (b : BoardRow) → (check_one F b).clock ≡ F.clock
-checked_clock F b = by (has_room F 1)
-  where
-    by : (v : Bool) → (cond v (record F {
-      jobs = put job_cmp F.jobs (check_job F.next b);
-      boards = change_where (λ c. bytes_eq c.name b.name) (held_board (Holder.Job F.next) State.Reserved) F.boards;
-      next = F.next + 1;
-    }) F).clock ≡ F.clock
-    by true = refl
-    by false = refl
+checked_clock F b = grind arith
 
 -- where no board is left, all is done
 pub checks_end : (t at : ℕ) (F : Farm) → length F.boards ≤ at → checks_from t at F ≡ F
@@ -121,14 +97,7 @@ unchecked (Check.Jobs n) is = cc
 
 never : (types : List TypeRow) → list_any (λ t. checks_any t.check) types ≡ false → (kind : List ℕ) → check_of types kind ≡ Check.Never
 never [] none kind = refl
-never (r ∷ types) none kind =
-    let both = neither (checks_any r.check) (list_any (λ (t : TypeRow). checks_any t.check) types) none in
-    by (bytes_eq r.name kind) both.0 (never types both.1 kind)
-  where
-    by : (v : Bool) → checks_any r.check ≡ false → check_of types kind ≡ Check.Never
-        → option_map_or (λ (t : TypeRow). t.check) (cond v (Some r) (find (λ (t : TypeRow). bytes_eq t.name kind) types)) Check.Never ≡ Check.Never
-    by true own rest = unchecked r.check own
-    by false own rest = rest
+never (r ∷ types) none kind = grind (arith, never types)
 
 -- none is due
 pub checks_none : (F : Farm) (t : ℕ) → list_any (λ t. checks_any t.check) F.types ≡ false → checks F t ≡ F

@@ -1,12 +1,12 @@
 -- A group collects, member by member, and gives back what it collected.
-use Rattle.std.proofs.Common.{◌≡◌, ◌∙◌, ◌==◌, ◌&&◌, ◌+◌, ◌<◌, ◌≤◌, ℕ, zero, suc, List, [], ◌∷◌, length, drop, get_or, map, filter, Bool, true, false, cond, not}
-use Rattle.std.proofs.Common.{Option, Some, None, IsSomeAnd, refl, sym, ap, subst, arith, add-one}
+use Rattle.std.proofs.Common.{[], ◌≡◌, ◌∙◌, ◌==◌, ◌&&◌, ◌+◌, ◌<◌, ◌≤◌, ℕ, zero, suc, List, ◌∷◌, length, drop, get_or, map, filter, Bool, false, cond, not}
+use Rattle.std.proofs.Common.{Some, IsSomeAnd, refl, sym, ap, subst, arith, add-one}
 use Rattle.farm_core.proofs.Names.{AllByRecursion, AllByRecursion-weaker, BoardRow, bytes_eq, filter_all, fold, Holder, idle_boards, IdleBoard, JobRow}
-use Rattle.farm_core.proofs.Names.{JobState, length-map, option_map_or, State, TypeRow}
+use Rattle.farm_core.proofs.Names.{JobState, length-map, State, TypeRow}
 use Rattle.std.specs.Option.{option_map}
 use Rattle.std.proofs.Math.Bool.{and-false}
 use Rattle.farm_types.specs.Names.{change_where, collect_member, Farm, first_free, freed_board, give_member, giving_back, held_board, is_free, is_job_so}
-use Rattle.farm_types.specs.Names.{IsSound, job_of, members, placed_job, same_job_state, serves, unplaced_job}
+use Rattle.farm_types.specs.Names.{IsSound, job_of, members, placed_job, same_job_state, unplaced_job}
 use Rattle.farm_types.proofs.Put.{found_has}
 use Rattle.farm_sound.proofs.Collecting.{none_scheduling}
 use Rattle.farm_sound.proofs.Own.{own_job}
@@ -33,25 +33,7 @@ module _ (types : List TypeRow) (name : List ℕ) (n : ℕ) where
 
   pub held_free : (boards : List BoardRow) → filter other (map idle_board (free boards)) ≡ map idle_board (free (taken boards))
   held_free [] = refl
-  held_free (b ∷ boards) = by (bytes_eq b.name name) refl (is_free types b) refl (held_free boards)
-    where
-      left : (w : Bool) → bytes_eq b.name name ≡ true → filter other (map idle_board (cond w (b ∷ free boards) (free boards))) ≡ filter other (map idle_board (free boards))
-      left true is = ap (λ v. cond (not v) (idle_board b ∷ filter other (map idle_board (free boards))) (filter other (map idle_board (free boards)))) is
-      left false is = refl
-
-      kept : (w : Bool) → bytes_eq b.name name ≡ false → filter other (map idle_board (free boards)) ≡ map idle_board (free (taken boards))
-          → filter other (map idle_board (cond w (b ∷ free boards) (free boards))) ≡ map idle_board (cond w (b ∷ free (taken boards)) (free (taken boards)))
-      kept true is same =
-          ap (λ v. cond (not v) (idle_board b ∷ filter other (map idle_board (free boards))) (filter other (map idle_board (free boards)))) is
-          ∙ ap (λ more. idle_board b ∷ more) same
-      kept false is same = same
-
-      by : (v : Bool) → bytes_eq b.name name ≡ v → (w : Bool) → is_free types b ≡ w → filter other (map idle_board (free boards)) ≡ map idle_board (free (taken boards))
-          → filter other (map idle_board (cond w (b ∷ free boards) (free boards))) ≡ map idle_board (free (cond v (take b) b ∷ taken boards))
-      by true is w has same =
-          left w is ∙ same ∙ sym (ap (λ u. map idle_board (cond u (take b ∷ free (taken boards)) (free (taken boards)))) (and-false (serves types (take b))))
-      by false is w has same =
-          kept w is same ∙ sym (ap (λ u. map idle_board (cond u (b ∷ free (taken boards)) (free (taken boards)))) has)
+  held_free (b ∷ boards) = grind (arith, held_free boards)
 
 -- ---- one member
 
@@ -67,28 +49,16 @@ keeps_number number n name r = by_cases (λ (k : JobRow). (k.number == n) ≡ (r
 
 module _ (F : Farm) (m j : JobRow) (n : ℕ) (has : HasWant F n j) where
   want_given : (b : BoardRow) → HasWant (give_member S F (m, b)) n j
-  want_given b = (has.0, subst (λ o. IsSomeAnd o (λ (r : JobRow). r.want ≡ j.want)) (sym (find_map (λ (r : JobRow). r.number == n) (changed m.number b.name) (keeps_number m.number n b.name) F.jobs)) (by (job_of F n) has.1))
-    where
-      by : (o : Option JobRow) → IsSomeAnd o (λ (r : JobRow). r.want ≡ j.want) → IsSomeAnd (option_map (changed m.number b.name) o) (λ (r : JobRow). r.want ≡ j.want)
-      by None is = absurd is
-      by (Some r) is = by_cases (λ (k : JobRow). k.want ≡ j.want) (r.number == m.number) (placed_job S b.name r) r (λ _. is) (λ _. is)
+  want_given b = grind (arith, find_map (λ (r : JobRow). r.number == n) (changed m.number b.name) (keeps_number m.number n b.name) F.jobs, keeps_number m.number n b.name, by_cases (λ (k : JobRow). k.want ≡ j.want))
 
   pub want_stays : HasWant (collect_member F m) n j
-  want_stays = by (first_free F m.want)
-    where
-      by : (o : Option BoardRow) → HasWant (option_map_or (λ b. give_member S F (m, b)) o F) n j
-      by None = has
-      by (Some b) = want_given b
+  want_stays = grind (arith, want_given)
 
 -- ---- the board that a member takes
 
 module _ (F : Farm) (number : ℕ) (j : JobRow) (has : HasWant F number j) where
   pub takes_one : (name : List ℕ) → Some name ≡ option_map (λ (b : BoardRow). b.name) (first_free F j.want) → assign_named S F (number, name) ≡ collect_member F j
-  takes_one name some = by (first_free F j.want) some
-    where
-      by : (o : Option BoardRow) → Some name ≡ option_map (λ (b : BoardRow). b.name) o → assign_named S F (number, name) ≡ option_map_or (λ b. give_member S F (j, b)) o F
-      by None is = cc
-      by (Some b) is = let same : name ≡ b.name = cc in λ i. assign_named S F (sym has.0 i, same i)
+  takes_one name some = grind arith
 
 -- ---- the members, one after the other
 
@@ -168,11 +138,7 @@ module _ (F : Farm) (sound : IsSound F) (zero_is : F.collector ≡ 0) where
 
   held_by : (h : Holder) → is_job_so F (gives_back F.collector) h ≡ false
   held_by Holder.Nobody = refl
-  held_by (Holder.Job n) = by (job_of F n) refl
-    where
-      by : (o : Option JobRow) → job_of F n ≡ o → option_map_or (gives_back F.collector) o false ≡ false
-      by None is = refl
-      by (Some j) is = found_has (λ k. gives_back F.collector k ≡ false) (λ k. k.number == n) j F.jobs none_gives is
+  held_by (Holder.Job n) = grind (arith, found_has)
   held_by (Holder.Res n) = refl
 
   boards_same : (rows : List BoardRow) → change_where (λ b. is_job_so F (gives_back F.collector) b.holder) freed_board rows ≡ rows

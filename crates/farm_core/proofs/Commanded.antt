@@ -1,7 +1,8 @@
 -- The queues follow a command as the machine says.
+use native.Mathlib.Omega.{arith}
 use Rattle.std.proofs.Common.{◌≡◌, ◌∙◌, ◌==◌, ◌+◌, ℕ, List, false, map, not, Option, Some, None, refl, sym, ap}
 use Rattle.farm_core.proofs.Names.{Call, Cmd, JobRow, option_map_or, queue_lists, queued_filter, queued_of, QueueLists}
-use Rattle.farm_types.specs.Names.{Farm, farm_at_call, IsSound, job_of, keep, kind_of, moment, new_res, put_kept, queue, refusal, res_claim}
+use Rattle.farm_types.specs.Names.{Farm, farm_at_call, IsSound, job_of, keep, moment, new_res, queue, refusal, res_claim}
 use Rattle.farm_types.specs.declared.rows.Reply.{Reply}
 use Rattle.farm_sound.proofs.Step.{IsAccepted-moved, IsSound-moved_to, accepted}
 use Rattle.farm_pick.specs.Follow.{queue_after, queue_without}
@@ -14,11 +15,7 @@ use Rattle.farm_core.proofs.Free.{free_after}
 pub boards_stay : (F : Farm) (caller : List ℕ) (cmd : Cmd) (lists : QueueLists) → (queues_after F caller cmd lists).boards ≡ lists.boards
 boards_stay F caller (Cmd.Submit priority wants roles body) lists = refl
 boards_stay F caller (Cmd.Reserve priority tags) lists = refl
-boards_stay F caller (Cmd.Cancel number) lists = by (job_of F number)
-  where
-    by : (o : Option JobRow) → (option_map_or {U = QueueLists} (λ j. without_claim j.group lists) o lists).boards ≡ lists.boards
-    by None = refl
-    by (Some j) = refl
+boards_stay F caller (Cmd.Cancel number) lists = grind arith
 boards_stay F caller (Cmd.CancelRes number) lists = refl
 boards_stay F caller (Cmd.AddType name check) lists = refl
 boards_stay F caller (Cmd.AddBoard name kind tags) lists = refl
@@ -61,8 +58,4 @@ follows_in F call sound clear = record {
 
 -- a kept reply changes neither
 pub kept_lists : (F : Farm) (call : Call) (reply : Reply) → queue_lists (keep call reply F) ≡ queue_lists F
-kept_lists F call reply = by call.key
-  where
-    by : (o : Option (List ℕ)) → queue_lists (option_map_or {U = Farm} (λ key. put_kept F (record { caller = call.caller; key = key; kind = kind_of call.cmd; reply = reply })) o F) ≡ queue_lists F
-    by None = refl
-    by (Some key) = refl
+kept_lists F call reply = grind arith

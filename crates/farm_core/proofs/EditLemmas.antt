@@ -1,6 +1,5 @@
 -- What the edits of jobs, reservations and boards keep.
-use Rattle.std.proofs.Common.{◌≡◌, ℕ, ◌+◌, List, [], ◌∷◌, min, Bool, true, false, cond, Option, Some, None, IfSome, refl, ap, ◌∙◌, arith}
-use Rattle.std.specs.Prelude.{unwrap_or}
+use Rattle.std.proofs.Common.{[], ◌≡◌, ℕ, ◌+◌, List, ◌∷◌, min, Bool, true, false, IfSome, refl, ◌∙◌, arith}
 use Rattle.farm_types.specs.Names.{after_check, after_job, change_jobs, change_res, change_where, Farm, freed_board, graded_board, is_job_so, is_res_so}
 use Rattle.farm_types.specs.Names.{IsSmall, IsSmallBoard, IsSmallRes, most_jobs_since}
 use Rattle.farm_core.proofs.Names.{BoardRow, IsFitJob, JobRow, ResRow}
@@ -18,28 +17,13 @@ keeps_fit e j fit = record { small = record { number = fit.small.number; group =
 
 -- and so does a reservation
 pub keeps_small : (e : ResEdit) → IfSome e.deadline IsSmall → (r : ResRow) → IsSmallRes r → IsSmallRes (res_changed e r)
-keeps_small e low r small = record { number = small.number; deadline = by e.deadline low }
-  where
-    by : (o : Option ℕ) → IfSome o IsSmall → IsSmall (unwrap_or o r.deadline)
-    by None low = small.deadline
-    by (Some deadline) low = low
+keeps_small e low r small = grind arith
 
 graded_by : (P : BoardRow → Type 0) (h : Health) (b : BoardRow) → P b → P (record b { health = h }) → P (graded_board h b)
-graded_by P h b same other = by _
-  where
-    by : (v : Bool) → P (cond v (record b { health = h }) b)
-    by true = other
-    by false = same
+graded_by P h b same other = grind arith
 
 job_by : (P : BoardRow → Type 0) (outcome : Outcome) (b : BoardRow) → ((h : Health) → P (record b { jobs_since = min (b.jobs_since + 1) most_jobs_since; health = h })) → P (after_job outcome b)
-job_by P outcome b each = by _
-  where
-    used : BoardRow
-    used = record b { jobs_since = min (b.jobs_since + 1) most_jobs_since }
-
-    by : (v : Bool) → P (cond v (graded_board Health.Unknown used) used)
-    by true = graded_by P Health.Unknown used (each b.health) (each Health.Unknown)
-    by false = each b.health
+job_by P outcome b each = grind arith
 
 check_by : (P : BoardRow → Type 0) (outcome : Outcome) (t : ℕ) (b : BoardRow) → ((h : Health) → P (record b { health = h })) → ((h : Health) → P (record b { jobs_since = 0; last_check = t; health = h })) → P (after_check outcome t b)
 check_by P Outcome.Complete t b each fresh = graded_by P Health.Good (record b { jobs_since = 0; last_check = t }) (fresh b.health) (fresh Health.Good)
@@ -57,11 +41,7 @@ keeps_board (BoardEffect.End false outcome t) b = job_by (λ x. x.name ≡ b.nam
 -- a change that changes nothing
 same_rows : {R : Type 0} (test : R → Bool) (rows : List R) → rows ≡ change_where test (λ r. r) rows
 same_rows test [] = refl
-same_rows {R = R} test (r ∷ rows) = by (test r) (same_rows test rows)
-  where
-    by : (v : Bool) → rows ≡ change_where test (λ r. r) rows → r ∷ rows ≡ cond v r r ∷ change_where test (λ r. r) rows
-    by true rest = ap (λ rows. r ∷ rows) rest
-    by false rest = ap (λ rows. r ∷ rows) rest
+same_rows {R = R} test (r ∷ rows) = grind (arith, same_rows test rows)
 
 -- a change that leaves the boards
 pub jobs_alone : (F G : Farm) (test : JobRow → Bool) (f : JobRow → JobRow) → G ≡ record F { jobs = change_where test f F.jobs } → G ≡ change_jobs test f (λ b. b) F

@@ -1,7 +1,7 @@
 -- The queues are filled from the last claim on.
-use Rattle.std.proofs.Common.{◌≡◌, ◌∙◌, ◌+◌, ◌++◌, ◌<◌, ℕ, zero, suc, List, [], ◌∷◌, length, map, drop, get_or, Bool, true, false, cond, None, refl, sym, ap}
+use Rattle.std.proofs.Common.{[], ◌≡◌, ◌∙◌, ◌+◌, ◌++◌, ◌<◌, ℕ, zero, suc, List, ◌∷◌, length, map, drop, get_or, refl, sym, ap}
 use Rattle.std.proofs.Common.{subst, arith, add-one, append-nil}
-use Rattle.farm_core.proofs.Names.{AllByRecursion, Claim, ClaimKind, idle_boards, IsClaim, JobRow, length-map, option_map_or, queue_claims, queue_lists}
+use Rattle.farm_core.proofs.Names.{AllByRecursion, Claim, idle_boards, IsClaim, length-map, queue_claims, queue_lists}
 use Rattle.farm_core.proofs.Names.{queued_of, QueueLists}
 use Rattle.std.proofs.lemmas.List.{append_assoc, drop_all, length-append}
 use Rattle.farm_types.specs.Names.{Claimed, Farm, IsSound, put, queue, shown_claim}
@@ -9,7 +9,7 @@ use Rattle.farm_pick.specs.Index.{queued_cmp}
 use Rattle.farm_pick.specs.Queued.{queue_kind}
 use Rattle.farm_pick.proofs.Filling.{fresh_before, last_put}
 use Rattle.farm_pick.proofs.Leading.{lead_of, of_reservation}
-use Rattle.farm_core.specs.Following.{IsFresh, kind_by, kind_in}
+use Rattle.farm_core.specs.Following.{IsFresh, kind_in}
 
 -- ---- the claim at a place of the queue
 
@@ -40,15 +40,7 @@ pub record Fills (F : Farm) (queues : QueueLists) (shown : List Claim) : Type 0 
 module _ (F : Farm) (sound : IsSound F) where
   -- its type is found among the rows
   kind_found : (c : Claimed) → IsClaim F c → kind_in F.jobs (shown_claim c) ≡ queue_kind c
-  kind_found c claim = by c.reservation refl
-    where
-      by : (v : Bool) → c.reservation ≡ v → kind_by F.jobs c.number (cond c.reservation ClaimKind.Reservation ClaimKind.Group) ≡ queue_kind c
-      by true is = ap (λ v. kind_by F.jobs c.number (cond v ClaimKind.Reservation ClaimKind.Group)) is ∙ sym (of_reservation F c claim is)
-      by false is =
-          let three = lead_of F c sound claim is in
-          ap (λ v. kind_by F.jobs c.number (cond v ClaimKind.Reservation ClaimKind.Group)) is
-          ∙ ap (λ o. option_map_or (λ (j : JobRow). j.want.kind) o None) three.1
-          ∙ sym three.2
+  kind_found c claim = grind (arith, of_reservation F c claim, lead_of F c sound claim)
 
   -- ---- filling
 

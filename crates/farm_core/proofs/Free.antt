@@ -1,18 +1,18 @@
 -- The free boards follow the rows of boards.
-use Rattle.std.proofs.Common.{◌≡◌, ◌∙◌, ◌&&◌, ◌||◌, ◌≢◌, ◌+◌, ◌++◌, ℕ, List, [], ◌∷◌, map, Bool, true, false, cond, not, Option, Some, None, IsSome, is_some}
+use native.Mathlib.Omega.{arith}
+use Rattle.std.proofs.Common.{[], ◌≡◌, ◌∙◌, ◌≢◌, ◌++◌, ℕ, List, ◌∷◌, map, Bool, true, false, cond, not, Some, None, IsSome, is_some}
 use Rattle.std.proofs.Common.{refl, sym, ap, subst, append-nil}
-use Rattle.farm_core.proofs.Names.{AllByRecursion, AllByRecursion-weaker, BoardRow, bytes_eq, Check, Cmd, Equal, filter_all, fold, Greater, Holder, idle_boards}
-use Rattle.farm_core.proofs.Names.{IdleBoard, is_eq, IsStrictlySortedBy, JobRow, Less, match_ordering, option_map_or, Ordering, ordering_reverse, put_sorted}
-use Rattle.farm_core.proofs.Names.{same_names, State, true≢false, TypeRow}
+use Rattle.farm_core.proofs.Names.{AllByRecursion, AllByRecursion-weaker, BoardRow, bytes_eq, Cmd, Equal, filter_all, fold, Greater, idle_boards}
+use Rattle.farm_core.proofs.Names.{IdleBoard, is_eq, IsStrictlySortedBy, Less, match_ordering, Ordering, ordering_reverse, put_sorted}
+use Rattle.farm_core.proofs.Names.{same_names, TypeRow}
 use Rattle.std.specs.Cmp.Lexicographic.{nat_list_cmp_total}
 use Rattle.std.specs.List.{filter}
 use Rattle.std.proofs.lemmas.List.{append_assoc}
 use Rattle.std.proofs.lemmas.Slice.Eq.{bytes_eq-Decides}
 use Rattle.std.proofs.lemmas.Cmp.{tied_itself}
-use Rattle.farm_types.specs.Names.{act, board_cmp, board_of, cancel_group, change_where, check_job, check_one, checks, done_with, expire, Farm, finish_one}
-use Rattle.farm_types.specs.Names.{giving_back, has_room, held_board, is_checked, is_due, is_free, is_nobody, IsBoardRow, IsSound, IsSteady, job_cmp, job_of}
-use Rattle.farm_types.specs.Names.{put, put_all, put_board, put_type, same_health, start_group, text_cmp, type_cmp, type_exists, type_of}
-use Rattle.farm_types.specs.declared.rows.Health.{Health}
+use Rattle.farm_types.specs.Names.{act, board_cmp, check_one, checks, expire, Farm}
+use Rattle.farm_types.specs.Names.{giving_back, is_due, is_free, IsSound, IsSteady}
+use Rattle.farm_types.specs.Names.{put, put_all, put_type, text_cmp, type_cmp, type_exists, type_of}
 use Rattle.farm_types.proofs.Put.{find_put_is}
 use Rattle.farm_sound.proofs.Accepted.{IsAccepted}
 use Rattle.farm_sound.proofs.Boards.{board_total, type_total}
@@ -48,12 +48,7 @@ module _ (types : List TypeRow) (row : BoardRow) where
       (filter_all Above (is_free types) bs above)
 
   below : (bs : List BoardRow) → AllByRecursion Above bs → free_boards_with types (free_of types bs) row ≡ free_of types (row ∷ bs)
-  below bs above = by (is_free types row)
-    where
-      by : (v : Bool) → cond v (put named_cmp (free_of types bs) (idle_board row)) (without_board (free_of types bs) row.name)
-          ≡ map idle_board (cond v (row ∷ filter (is_free types) bs) (filter (is_free types) bs))
-      by true = put_front (idle_board row) (free_of types bs) (free_above bs above)
-      by false = none_without row.name (free_of types bs) (free_above bs above)
+  below bs above = grind (arith, put_front (idle_board row) (free_of types bs) (free_above bs above), free_above bs above, none_without row.name (free_of types bs) (free_above bs above))
 
   instead : (b : BoardRow) (bs : List BoardRow) → board_cmp row b ≡ Equal → AllByRecursion Above bs → free_boards_with types (free_of types (b ∷ bs)) row ≡ free_of types (row ∷ bs)
   instead b bs is above = by (is_free types row) (is_free types b)
@@ -124,11 +119,7 @@ filter_same p q (x ∷ xs) all =
 module _ (F : Farm) (row : TypeRow) (new : type_of F row.name ≡ None) where
   -- a type that is there isn't the new one
   other_kind : (kind : List ℕ) → IsSome (type_of F kind) → bytes_eq row.name kind ≡ false
-  other_kind kind there = by (bytes_eq row.name kind) refl
-    where
-      by : (v : Bool) → bytes_eq row.name kind ≡ v → bytes_eq row.name kind ≡ false
-      by false is = is
-      by true is = absurd (true≢false (sym (subst IsSome (ap (type_of F) (sym ((bytes_eq-Decides row.name kind).0 is)) ∙ new) there)))
+  other_kind kind there = grind (arith, bytes_eq-Decides row.name kind)
 
   same_type : (kind : List ℕ) → IsSome (type_of F kind) → type_of (put_type F row) kind ≡ type_of F kind
   same_type kind there =
@@ -138,42 +129,18 @@ module _ (F : Farm) (row : TypeRow) (new : type_of F row.name ≡ None) where
 
   -- a type that is added frees no board
   pub free_added : IsSteady F → free_of (put_type F row).types F.boards ≡ idle_boards F
-  free_added steady = ap (map idle_board) (filter_same (is_free (put_type F row).types) (is_free F.types) F.boards (AllByRecursion-weaker same F.boards steady.boards))
-    where
-      same : (b : BoardRow) → IsBoardRow F b → is_free (put_type F row).types b ≡ is_free F.types b
-      same b is = ap (λ (o : Option TypeRow). (same_health b.health Health.Good || (same_health b.health Health.Unknown && not (is_checked (option_map_or (λ (t : TypeRow). t.check) o Check.Never)))) && is_nobody b.holder)
-          (same_type b.kind is.kind)
+  free_added steady = grind (arith, filter_same, AllByRecursion-weaker, same_type)
 
 -- no other command but a pass changes the types
 pub free_after : (F : Farm) (t : ℕ) (caller : List ℕ) (cmd : Cmd) → IsSound F → IsAccepted F t caller cmd → cmd ≢ Cmd.Pass → free_of (act F caller cmd).farm.types F.boards ≡ idle_boards F
 free_after F t caller (Cmd.AddType name check) sound is other = free_added F (record { name = name; check = check }) (none_of (type_of F name) (first_clear (is_some (type_of F name)) type_exists [] is.clear).0) sound.steady
 free_after F t caller (Cmd.AddBoard name kind tags) sound is other = refl
-free_after F t caller (Cmd.SetTags name tags) sound is other = ap (λ types. free_of types F.boards) (by (board_of F name))
-  where
-    by : (o : Option BoardRow) → (option_map_or (λ b. put_board F (record b { tags = tags })) o F).types ≡ F.types
-    by None = refl
-    by (Some b) = refl
-free_after F t caller (Cmd.SetHealth name health) sound is other = ap (λ types. free_of types F.boards) (by (board_of F name))
-  where
-    by : (o : Option BoardRow) → (option_map_or (λ b. put_board F (record b { health = health })) o F).types ≡ F.types
-    by None = refl
-    by (Some b) = refl
+free_after F t caller (Cmd.SetTags name tags) sound is other = grind arith
+free_after F t caller (Cmd.SetHealth name health) sound is other = grind arith
 free_after F t caller (Cmd.Submit priority wants roles body) sound is other = refl
-free_after F t caller (Cmd.Cancel number) sound is other = ap (λ types. free_of types F.boards) (by (job_of F number))
-  where
-    by : (o : Option JobRow) → (option_map_or (λ j. done_with j.group (cancel_group j.group F)) o (done_with 0 F)).farm.types ≡ F.types
-    by None = refl
-    by (Some j) = refl
-free_after F t caller (Cmd.Start number) sound is other = ap (λ types. free_of types F.boards) (by (job_of F number))
-  where
-    by : (o : Option JobRow) → (option_map_or (λ j. done_with j.group (start_group j.group F)) o (done_with 0 F)).farm.types ≡ F.types
-    by None = refl
-    by (Some j) = refl
-free_after F t caller (Cmd.Finish number outcome) sound is other = ap (λ types. free_of types F.boards) (by (job_of F number))
-  where
-    by : (o : Option JobRow) → (option_map_or (λ j. done_with number (finish_one F.clock outcome F j)) o (done_with 0 F)).farm.types ≡ F.types
-    by None = refl
-    by (Some j) = refl
+free_after F t caller (Cmd.Cancel number) sound is other = grind arith
+free_after F t caller (Cmd.Start number) sound is other = grind arith
+free_after F t caller (Cmd.Finish number outcome) sound is other = grind arith
 free_after F t caller (Cmd.Reserve priority tags) sound is other = refl
 free_after F t caller (Cmd.Acquire number) sound is other = refl
 free_after F t caller (Cmd.Release number) sound is other = refl
@@ -185,15 +152,7 @@ free_after F t caller Cmd.Pass sound is other = absurd (other refl)
 
 checked_types : (bs : List BoardRow) (F : Farm) → (fold check_one F bs).types ≡ F.types
 checked_types [] F = refl
-checked_types (b ∷ bs) F = checked_types bs (check_one F b) ∙ by (has_room F 1)
-  where
-    by : (v : Bool) → (cond v (record F {
-      jobs = put job_cmp F.jobs (check_job F.next b);
-      boards = change_where (λ c. bytes_eq c.name b.name) (held_board (Holder.Job F.next) State.Reserved) F.boards;
-      next = F.next + 1;
-    }) F).types ≡ F.types
-    by true = refl
-    by false = refl
+checked_types (b ∷ bs) F = grind (arith, checked_types bs (check_one F b))
 
 pub prepared_types : (F : Farm) → (checks (expire (giving_back F) F.clock) F.clock).types ≡ F.types
 prepared_types F = checked_types (filter (is_due (expire (giving_back F) F.clock) F.clock) (expire (giving_back F) F.clock).boards) (expire (giving_back F) F.clock)

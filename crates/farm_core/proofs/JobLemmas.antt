@@ -1,5 +1,5 @@
 -- The commands on jobs, from their edits.
-use Rattle.std.proofs.Common.{◌≡◌, ℕ, zero, suc, ◌+◌, ◌-◌, ◌<◌, ◌≤◌, ◌==◌, List, [], ◌∷◌, length, get_or, take, drop, Bool, true, false, cond, Some, refl, sym}
+use Rattle.std.proofs.Common.{[], ◌≡◌, ℕ, zero, suc, ◌+◌, ◌-◌, ◌<◌, ◌≤◌, ◌==◌, List, ◌∷◌, length, get_or, take, drop, Bool, false, Some, refl, sym}
 use Rattle.std.proofs.Common.{ap, ◌∙◌, arith, length-drop, Bor, Option, None, IfSome}
 use Rattle.std.proofs.lemmas.List.{get_or-drop}
 use Rattle.farm_core.proofs.Names.{Cmd, find, found_passes, IsFitJob, JobRow, JobState, nat_tests, option_map_or}
@@ -53,11 +53,7 @@ module _ {R : Type 0} (test : R → Bool) where
   filter_take : (n : ℕ) (rows : List R) → ((k : ℕ) (d : R) → n ≤ k → k < length rows → test (get_or rows k d) ≡ false) → filter test (take n rows) ≡ filter test rows
   filter_take zero rows fails = sym (filter_none rows (λ k d low. fails k d (omega arith) low))
   filter_take (suc n) [] fails = refl
-  filter_take (suc n) (r ∷ rows) fails = by (test r) (filter_take n rows (λ k d high low. fails (suc k) d (omega arith) (omega arith)))
-    where
-      by : (v : Bool) → filter test (take n rows) ≡ filter test rows → cond v (r ∷ filter test (take n rows)) (filter test (take n rows)) ≡ cond v (r ∷ filter test rows) (filter test rows)
-      by true rest = ap (λ rows. r ∷ rows) rest
-      by false rest = rest
+  filter_take (suc n) (r ∷ rows) fails = grind (arith, filter_take n rows (λ k d high low. fails (suc k) d (omega arith) (omega arith)))
 
   -- rows that fail in front of some rows and behind them are not missed
   pub filter_between : (start end : ℕ) (rows : List R) → start ≤ end → end ≤ length rows → ((k : ℕ) (d : R) → k < start → test (get_or rows k d) ≡ false) → ((k : ℕ) (d : R) → end ≤ k → k < length rows → test (get_or rows k d) ≡ false) → filter test (take (end - start) (drop start rows)) ≡ filter test rows

@@ -1,8 +1,8 @@
 -- The leases that are noted, and the end of the reservations that are dead.
-use Rattle.std.proofs.Common.{◌≡◌, ◌∙◌, ◌==◌, ◌||◌, ◌&&◌, ◌<◌, ◌≤◌, ◌+◌, ℕ, zero, suc, List, [], ◌∷◌, length, filter, take, get_or, add-one, nat_le, slice_get}
+use Rattle.std.proofs.Common.{[], ◌≡◌, ◌∙◌, ◌==◌, ◌||◌, ◌&&◌, ◌<◌, ◌≤◌, ◌+◌, ℕ, zero, suc, List, ◌∷◌, length, filter, take, get_or, add-one, nat_le, slice_get}
 use Rattle.std.proofs.Common.{set, IsSome, IfSome, Bool, true, false, cond, not, Option, Some, None, refl, sym, ap, subst, arith}
-use Rattle.farm_core.proofs.Names.{AllByRecursion, AllByRecursion-weaker, both, Equal, Greater, is_eq, IsStrictlySortedBy, itself, Less, nat_cmp, nat_tests}
-use Rattle.farm_core.proofs.Names.{option_map_or, Ordering, ordering_then, Queued, ResRow, same_number, true≢false}
+use Rattle.farm_core.proofs.Names.{AllByRecursion, AllByRecursion-weaker, both, is_eq, IsStrictlySortedBy, itself, Less, nat_cmp, nat_tests}
+use Rattle.farm_core.proofs.Names.{option_map_or, Queued, ResRow, same_number}
 use mathlib.Core.Bool.{false≢true}
 use Rattle.std.specs.BTreeSet.{BTreeSet, IsLowerBound}
 use Rattle.std.specs.Cmp.{tied_then}
@@ -67,13 +67,7 @@ alone : (test : ResRow → Bool) (n : ℕ) (rows : List ResRow) → IsStrictlySo
     → AllByRecursion (λ (r : ResRow). r.number ≡ n → test r ≡ false) rows
 unfolding IsStrictlySortedBy
 alone test n [] sorted fails = tt
-alone test n (r ∷ rows) sorted fails = by (r.number == n) refl fails (λ rest. alone test n rows sorted.1 rest)
-  where
-    by : (v : Bool) → (r.number == n) ≡ v → option_map_or test (cond v (Some r) (res_in rows n)) false ≡ false
-        → (option_map_or test (res_in rows n) false ≡ false → AllByRecursion (λ (q : ResRow). q.number ≡ n → test q ≡ false) rows)
-        → (r.number ≡ n → test r ≡ false) × AllByRecursion (λ (q : ResRow). q.number ≡ n → test q ≡ false) rows
-    by true is fails rest = ((λ same. fails), AllByRecursion-weaker (λ q other same. absurd (other same)) rows (none_behind n r rows (same_number r.number n is) sorted.0))
-    by false is fails rest = ((λ same. absurd (true≢false (sym (ap (λ m. m == n) same ∙ itself n) ∙ is))), rest fails)
+alone test n (r ∷ rows) sorted fails = grind (arith, alone test n rows sorted.1, AllByRecursion-weaker, none_behind, same_number, itself, nat_tests)
 
 -- ---- leases in order
 
@@ -85,12 +79,7 @@ same_lease a b is =
     )
 
 not_before : (a b : Lease) → is_gt (lease_cmp a b) ≡ false → a.deadline ≤ b.deadline
-not_before a b is = by (nat_cmp a.deadline b.deadline) refl is
-  where
-    by : (o : Ordering) → nat_cmp a.deadline b.deadline ≡ o → is_gt (ordering_then o (nat_cmp a.number b.number)) ≡ false → a.deadline ≤ b.deadline
-    by Less at is = let below : a.deadline < b.deadline = ranked a.deadline b.deadline Less (sym at) in omega arith
-    by Equal at is = let same : a.deadline ≡ b.deadline = ranked a.deadline b.deadline Equal (sym at) in omega arith
-    by Greater at is = absurd (true≢false is)
+not_before a b is = grind arith
 
 is_over : (a b : ℕ) → a ≤ b → nat_le a b ≡ true
 is_over a b low = grind (arith, nat_tests)
@@ -111,29 +100,12 @@ module _ (now : ℕ) (rows : List ResRow) where
   -- a lease that is over is forgotten, where its reservation isn't dead
   pub forgotten : (lease : Lease) (leases : List Lease) → IsStrictlySortedBy res_cmp rows → lease.deadline ≤ now → is_dead_at now rows lease.number ≡ false
       → AreNoted (record { keys = lease ∷ leases }) rows → AreNoted (record { keys = leases }) rows
-  forgotten lease leases sorted over alive noted =
-      AllByRecursion-weaker (λ r two may. by r two.0 two.1 may (is_eq (lease_cmp (lease_of r) lease)) refl) rows
-      (AllByRecursion-both (IsNoted (record { keys = lease ∷ leases })) (λ (r : ResRow). r.number ≡ lease.number → is_dead now r ≡ false) rows noted
-      (alone (is_dead now) lease.number rows sorted alive))
-    where
-      by : (r : ResRow) → IsNoted (record { keys = lease ∷ leases }) r → (r.number ≡ lease.number → is_dead now r ≡ false) → may_end r ≡ true
-          → (v : Bool) → is_eq (lease_cmp (lease_of r) lease) ≡ v → is_noted (record { keys = leases }) (lease_of r) ≡ true
-      by r noted alive may true is =
-          let two = same_lease (lease_of r) lease is in
-          let low : r.deadline ≤ now = omega (arith, two.0) in
-          absurd (true≢false (sym (ap (λ v. v && nat_le r.deadline now) may ∙ is_over r.deadline now low) ∙ alive two.1))
-      by r noted alive may false is = sym (ap (λ v. v || is_noted (record { keys = leases }) (lease_of r)) is) ∙ noted may
+  forgotten lease leases sorted over alive noted = grind (arith, AllByRecursion-weaker, AllByRecursion-both (IsNoted (record { keys = lease ∷ leases })) (λ (r : ResRow). r.number ≡ lease.number → is_dead now r ≡ false) rows noted (alone (is_dead now) lease.number rows sorted alive), alone (is_dead now) lease.number rows sorted alive, same_lease, is_over, nat_tests)
 
   -- where the first lease runs on, so do all
   pub none_over : (lease : Lease) (leases : BTreeSet Lease) → AreNoted leases rows → now < lease.deadline → IsLowerBound lease_cmp leases lease
       → AllByRecursion (λ r. is_dead now r ≡ false) rows
-  none_over lease leases noted later least = AllByRecursion-weaker (λ r one. by r one (may_end r) refl) rows noted
-    where
-      by : (r : ResRow) → IsNoted leases r → (v : Bool) → may_end r ≡ v → is_dead now r ≡ false
-      by r one true may =
-          let low : lease.deadline ≤ r.deadline = not_before lease (lease_of r) (least (lease_of r) (one may)) in
-          ap (λ v. v && nat_le r.deadline now) may ∙ runs_on r.deadline now (omega arith)
-      by r one false may = ap (λ v. v && nat_le r.deadline now) may
+  none_over lease leases noted later least = grind (arith, AllByRecursion-weaker, not_before lease, runs_on, nat_tests)
 
   -- and without a lease none is dead
   pub none_noted : (leases : BTreeSet Lease) → AreNoted leases rows → length leases.keys ≡ 0 → AllByRecursion (λ r. is_dead now r ≡ false) rows
@@ -276,11 +248,7 @@ length_changed test f (r ∷ rows) = ap suc (length_changed test f rows)
 
 length_passing : (test : ResRow → Bool) (rows : List ResRow) → length (filter test rows) ≤ length rows
 length_passing test [] = omega arith
-length_passing test (r ∷ rows) = by (test r) (length_passing test rows)
-  where
-    by : (v : Bool) → length (filter test rows) ≤ length rows → length (cond v (r ∷ filter test rows) (filter test rows)) ≤ length (r ∷ rows)
-    by true rest = omega (arith, rest)
-    by false rest = omega (arith, rest)
+length_passing test (r ∷ rows) = grind (arith, length_passing test rows)
 
 pub dead_few : (D E : Seen) → ended E ≡ ended D → length (dead_rows D) ≤ length E.farm.reservations
 dead_few D E is =

@@ -1,14 +1,11 @@
 -- New members are put one after another.
-use Rattle.std.proofs.Common.{◌≡◌, ℕ, zero, suc, ◌+◌, ◌==◌, ◌<◌, ◌≤◌, List, [], ◌∷◌, length, drop, get_or, Option, false, refl, arith, add-one}
+use Rattle.std.proofs.Common.{[], ◌≡◌, ℕ, zero, suc, ◌+◌, ◌<◌, ◌≤◌, List, ◌∷◌, length, drop, get_or, Option, refl, arith, add-one}
 use Rattle.farm_core.proofs.Names.{nat_tests, Want}
 use Rattle.farm_core.specs.Edits.{text_at}
 use Rattle.farm_types.specs.Names.{new_job, new_members}
 
 pub text_next : (n : ℕ) (body : List ℕ) → text_at (n + 1) body ≡ []
-text_next n body = rw (not_first n)
-  where
-    not_first : (n : ℕ) → ((n + 1) == 0) ≡ false
-    not_first n = grind (arith, nat_tests)
+text_next n body = grind (arith, nat_tests)
 
 module _ (group : ℕ) (owner : List ℕ) (priority : ℕ) where
   by_suc : (wants : List Want) (roles : List (Option (List ℕ))) (n number : ℕ) (text : List ℕ) (d : Want) (e : Option (List ℕ)) → n < length wants → length roles ≡ length wants

@@ -1,5 +1,5 @@
 -- The next claim that is tried: of the open queues and, while nobody collects, of those of two boards or more.
-use Rattle.std.proofs.Common.{◌≡◌, ◌∙◌, ◌&&◌, ◌≤◌, ◌⊎◌, ℕ, List, [], ◌∷◌, map, filter, length, nat_le, Bool, true, false, cond, Option, Some, None, inl, inr}
+use Rattle.std.proofs.Common.{[], ◌≡◌, ◌∙◌, ◌&&◌, ◌≤◌, ◌⊎◌, ℕ, List, ◌∷◌, map, filter, length, nat_le, Bool, true, false, Option, Some, None, inl, inr}
 use Rattle.std.proofs.Common.{refl, sym, ap, subst, arith}
 use Rattle.farm_core.proofs.Names.{AllByRecursion-weaker, among_has, both, Claim, Equal, filter_all, find, found_passes, Greater, idle_boards, is_lt, IsClaim}
 use Rattle.farm_core.proofs.Names.{IsStrictlySortedBy, Less, nat_tests, Ordering, ordering_reverse, queue_claims, queue_lists, Queued, queued_of, QueueLists}
@@ -23,25 +23,13 @@ use Rattle.farm_core.proofs.Skipping.{among_filter, wants_among}
 pub map_passing : (test : Queued → Bool) (cs : List Claimed)
     → map (λ (x : Queued). x.claim) (filter test (map queued_of cs)) ≡ map shown_claim (filter (λ d. test (queued_of d)) cs)
 map_passing test [] = refl
-map_passing test (c ∷ cs) = by (test (queued_of c)) (map_passing test cs)
-  where
-    by : (v : Bool) → map (λ (x : Queued). x.claim) (filter test (map queued_of cs)) ≡ map shown_claim (filter (λ d. test (queued_of d)) cs)
-        → map (λ (x : Queued). x.claim) (cond v (queued_of c ∷ filter test (map queued_of cs)) (filter test (map queued_of cs)))
-        ≡ map shown_claim (cond v (c ∷ filter (λ d. test (queued_of d)) cs) (filter (λ d. test (queued_of d)) cs))
-    by true more = ap (λ ds. shown_claim c ∷ ds) more
-    by false more = more
+map_passing test (c ∷ cs) = grind (arith, map_passing test cs)
 
 -- and the first of them
 find_passing : (test : Queued → Bool) (cs : List Claimed)
     → option_map (λ (x : Queued). x.claim) (find test (map queued_of cs)) ≡ option_map shown_claim (find (λ d. test (queued_of d)) cs)
 find_passing test [] = refl
-find_passing test (c ∷ cs) = by (test (queued_of c)) (find_passing test cs)
-  where
-    by : (v : Bool) → option_map (λ (x : Queued). x.claim) (find test (map queued_of cs)) ≡ option_map shown_claim (find (λ d. test (queued_of d)) cs)
-        → option_map (λ (x : Queued). x.claim) (cond v (Some (queued_of c)) (find test (map queued_of cs)))
-        ≡ option_map shown_claim (cond v (Some c) (find (λ d. test (queued_of d)) cs))
-    by true more = refl
-    by false more = more
+find_passing test (c ∷ cs) = grind (arith, find_passing test cs)
 
 -- a claim that is shown
 shown_some : (o : Option Claimed) (claim : Claim) → Some claim ≡ option_map shown_claim o → (c : Claimed) × (o ≡ Some c) × (shown_claim c ≡ claim)
@@ -59,33 +47,16 @@ found_first : (test : Claimed → Bool) (c : Claimed) (xs : List Claimed) → Is
     → (e : Claimed) → IsAmong e xs → is_lt (claim_cmp e c) ≡ true → test e ≡ false
 unfolding IsStrictlySortedBy
 found_first test c [] sorted found e at less = absurd at
-found_first test c (x ∷ xs) sorted found e at less = by (test x) refl found at (λ here there. found_first test c xs sorted.1 here e there less)
-  where
-    by : (v : Bool) → test x ≡ v → cond v (Some x) (find test xs) ≡ Some c → IsAmong e (x ∷ xs) → (find test xs ≡ Some c → IsAmong e xs → test e ≡ false) → test e ≡ false
-    by true is here (inl same) more = let at_head : x ≡ c = cc in absurd (true≢false (sym less ∙ (λ i. is_lt (claim_cmp (same i) (sym at_head i))) ∙ after_itself x))
-    by true is here (inr there) more =
-        let at_head : x ≡ c = cc in
-        absurd (true≢false (sym less ∙ ap (λ d. is_lt (claim_cmp e d)) (sym at_head) ∙ not_back x e (among_has (λ y. claim_cmp x y ≡ Less) e xs sorted.0 there)))
-    by false is here (inl same) more = ap test same ∙ is
-    by false is here (inr there) more = more here there
+found_first test c (x ∷ xs) sorted found e at less = grind (arith, found_first test c xs sorted.1, after_itself x, not_back x e, among_has (λ y. claim_cmp x y ≡ Less) e xs sorted.0)
 
 pub found_nowhere : (test : Claimed → Bool) (xs : List Claimed) → find test xs ≡ None → (e : Claimed) → IsAmong e xs → test e ≡ false
 found_nowhere test [] found e at = absurd at
-found_nowhere test (x ∷ xs) found e at = by (test x) refl found at (λ here there. found_nowhere test xs here e there)
-  where
-    by : (v : Bool) → test x ≡ v → cond v (Some x) (find test xs) ≡ None → IsAmong e (x ∷ xs) → (find test xs ≡ None → IsAmong e xs → test e ≡ false) → test e ≡ false
-    by true is here at more = cc
-    by false is here (inl same) more = ap test same ∙ is
-    by false is here (inr there) more = more here there
+found_nowhere test (x ∷ xs) found e at = grind (arith, found_nowhere test xs)
 
 pub filter_sorted : (test : Claimed → Bool) (xs : List Claimed) → IsStrictlySortedBy claim_cmp xs → IsStrictlySortedBy claim_cmp (filter test xs)
 unfolding IsStrictlySortedBy
 filter_sorted test [] sorted = tt
-filter_sorted test (x ∷ xs) sorted = by (test x) (filter_sorted test xs sorted.1)
-  where
-    by : (v : Bool) → IsStrictlySortedBy claim_cmp (filter test xs) → IsStrictlySortedBy claim_cmp (cond v (x ∷ filter test xs) (filter test xs))
-    by true rest = (AllByRecursion-weaker (λ y two. two.0) (filter test xs) (filter_all (λ y. claim_cmp x y ≡ Less) test xs sorted.0), rest)
-    by false rest = rest
+filter_sorted test (x ∷ xs) sorted = grind (arith, filter_sorted test xs sorted.1, AllByRecursion-weaker (λ y two. two.0) (filter test xs) (filter_all (λ y. claim_cmp x y ≡ Less) test xs sorted.0), filter_all (λ y. claim_cmp x y ≡ Less) test xs sorted.0)
 
 -- ---- the next claim
 
@@ -120,33 +91,7 @@ module _ (F : Farm) (place : Option (ℕ × ℕ)) where
   next_of_both P Q None None one two = λ e at behind. (one e at behind, two e at behind)
   next_of_both P Q None (Some b) one two = (two.0, two.1, two.2, two.3, λ e at behind less. (one e at behind, two.4 e at behind less))
   next_of_both P Q (Some a) None one two = (one.0, one.1, one.2, one.3, λ e at behind less. (one.4 e at behind less, two e at behind))
-  next_of_both P Q (Some a) (Some b) one two = choose (is_lt (shown_cmp b a)) refl
-    where
-      shown : (e : Claimed) → (c d : Claimed) → (is_lt (claim_cmp e c) ≡ true → is_lt (claim_cmp e d) ≡ true) → (k l : Claim) → shown_claim c ≡ k → shown_claim d ≡ l
-          → is_lt (shown_cmp (shown_claim e) k) ≡ true → is_lt (shown_cmp (shown_claim e) l) ≡ true
-      shown e c d so k l at there less =
-          ap (λ m. is_lt (shown_cmp (shown_claim e) m)) (sym there) ∙ so (ap (λ m. is_lt (shown_cmp (shown_claim e) m)) at ∙ less)
-
-      compared : (v : Bool) → is_lt (shown_cmp b a) ≡ v → is_lt (claim_cmp two.0 one.0) ≡ v
-      compared v is = (λ i. is_lt (shown_cmp (two.2 i) (one.2 i))) ∙ is
-
-      choose : (v : Bool) → is_lt (shown_cmp b a) ≡ v → IsNextBut (λ e. P e × Q e) F place (cond v (Some b) (Some a))
-      choose true is = (
-        two.0,
-        two.1,
-        two.2,
-        two.3,
-        λ e at behind less.
-            (one.4 e at behind (shown e two.0 one.0 ((before_both F one.0 two.0 one.1 two.1 e).0 (compared true is)) b a two.2 one.2 less), two.4 e at behind less),
-      )
-      choose false is = (
-        one.0,
-        one.1,
-        one.2,
-        one.3,
-        λ e at behind less.
-            (one.4 e at behind less, two.4 e at behind (shown e one.0 two.0 ((before_both F one.0 two.0 one.1 two.1 e).1 (compared false is)) a b one.2 two.2 less)),
-      )
+  next_of_both P Q (Some a) (Some b) one two = grind (arith, two.2, one.2, one.4, before_both F one.0 two.0 one.1 two.1, two.4)
 
   -- the first claim of two boards or more
   abbrev IsSmallClaim : Claimed → Type 0
@@ -155,25 +100,7 @@ module _ (F : Farm) (place : Option (ℕ × ℕ)) where
   first_several : (o : Option Claim)
       → o ≡ option_map (λ (x : Queued). x.claim) (find (λ x. is_later (last_spot place) x.claim && nat_le 2 x.claim.boards) (map queued_of (queue F)))
       → IsNextBut IsSmallClaim F place o
-  first_several o is = by o (is ∙ find_passing (λ x. is_later (last_spot place) x.claim && nat_le 2 x.claim.boards) (queue F))
-    where
-      test : Claimed → Bool
-      test d = is_behind d && nat_le 2 (length d.wants)
-
-      fails : (e : Claimed) → is_behind e ≡ true → test e ≡ false → nat_le 2 (length e.wants) ≡ false
-      fails e behind out = ap (λ v. v && nat_le 2 (length e.wants)) (sym behind) ∙ out
-
-      by : (o : Option Claim) → o ≡ option_map shown_claim (find test (queue F)) → IsNextBut IsSmallClaim F place o
-      by None is = λ e at behind. fails e behind (found_nowhere test (queue F) (shown_none (find test (queue F)) is) e at)
-      by (Some c) is =
-          let it = shown_some (find test (queue F)) c is in (
-            it.0,
-            found_among test it.0 (queue F) it.1,
-            it.2,
-            ap (is_later (last_spot place)) (sym it.2) ∙ (both (is_behind it.0) (nat_le 2 (length it.0.wants)) (found_passes test it.0 (queue F) it.1)).0,
-            λ e at behind less. fails e behind
-                (found_first test it.0 (queue F) (queue_sorted F) it.1 e at (ap (λ k. is_lt (shown_cmp (shown_claim e) k)) it.2 ∙ less)),
-          )
+  first_several o is = grind (arith, find_passing (λ x. is_later (last_spot place) x.claim && nat_le 2 x.claim.boards) (queue F), found_nowhere, shown_none, shown_some, found_among, both, found_passes, found_first, queue_sorted F, nat_tests)
 
   -- where nobody collects
   pub next_both : (queues : QueueLists) → queues ≡ queue_lists F → (o p : Option Claim) → IsNextCandidate F place o

@@ -1,5 +1,5 @@
 -- Boards that are assigned, by their places.
-use Rattle.std.proofs.Common.{◌≡◌, ℕ, zero, suc, ◌+◌, ◌<◌, ◌++◌, List, [], ◌∷◌, length, set, take, get_or, Bool, true, false, cond, Option, Some, None, refl}
+use Rattle.std.proofs.Common.{[], ◌≡◌, ℕ, zero, suc, ◌+◌, ◌<◌, ◌++◌, List, ◌∷◌, length, set, take, get_or, Bool, Option, Some, None, refl}
 use Rattle.std.proofs.Common.{sym, ap, subst, ◌∙◌, arith}
 use Rattle.std.specs.Cmp.Lexicographic.{nat_list_cmp_total}
 use Rattle.farm_core.proofs.Names.{AllByRecursion, BoardRow, bytes_eq, Holder, IdleBoard, IsStrictlySortedBy, length-map, recursion_from_All, same_names, State}
@@ -36,12 +36,7 @@ changed_at f rows new at b sorted low is made =
 -- names stay as boards are reserved
 pub names_stay : (test : BoardRow → Bool) (holder : Holder) (state : State) (rows : List BoardRow) → names_of (change_where test (held_board holder state) rows) ≡ names_of rows
 names_stay test holder state [] = refl
-names_stay test holder state (r ∷ rows) = by (test r) (names_stay test holder state rows)
-  where
-    by : (v : Bool) → names_of (change_where test (held_board holder state) rows) ≡ names_of rows
-        → (cond v (held_board holder state r) r).name ∷ names_of (change_where test (held_board holder state) rows) ≡ r.name ∷ names_of rows
-    by true rest = ap (λ ns. r.name ∷ ns) rest
-    by false rest = ap (λ ns. r.name ∷ ns) rest
+names_stay test holder state (r ∷ rows) = grind (arith, names_stay test holder state rows)
 
 -- and with them the name at each place
 pub name_same : (old new : List BoardRow) → names_of new ≡ names_of old → (at : ℕ) → name_at new at ≡ name_at old at
@@ -65,11 +60,7 @@ name_there rows (p ∷ places) (suc k) name all low is = let it = board_at rows 
 
 pub names_boards : (rows : List BoardRow) (places : List ℕ) → names_of (boards_at rows places) ≡ names_at rows places
 names_boards rows [] = refl
-names_boards rows (p ∷ places) = by (slice_get rows p) refl (names_boards rows places)
-  where
-    by : (o : Option BoardRow) → slice_get rows p ≡ o → names_of (boards_at rows places) ≡ names_at rows places → names_of (boards_at rows (p ∷ places)) ≡ names_at rows (p ∷ places)
-    by None is rest = rw is rest
-    by (Some b) is rest = rw is (ap (λ ns. b.name ∷ ns) rest)
+names_boards rows (p ∷ places) = grind (arith, names_boards rows places)
 
 pub names_more : (rows : List BoardRow) (places : List ℕ) (k : ℕ) (b : BoardRow) → k < length places → get_or places k 0 < length rows → b ≡ get_or rows (get_or places k 0) b
     → names_at rows (take (k + 1) places) ≡ names_at rows (take k places) ++ (b.name ∷ [])

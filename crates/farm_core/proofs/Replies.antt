@@ -2,15 +2,15 @@
 pub mod Merged
 pub mod Packing
 pub mod Joined
-use Rattle.std.proofs.Common.{◌≡◌, ◌∙◌, ◌≤◌, ◌+◌, ◌++◌, ◌&&◌, ℕ, List, [], ◌∷◌, map, length, Bool, true, false, cond, Option, Some, None, IsTrue, nat_le, refl}
+use Rattle.std.proofs.Common.{[], ◌≡◌, ◌∙◌, ◌≤◌, ◌+◌, ◌++◌, ℕ, List, ◌∷◌, map, length, cond, Some, None, IsTrue}
 use Rattle.std.proofs.Common.{sym, ap, subst, arith}
 use Rattle.std.specs.Prelude.{not, option_map}
-use Rattle.farm_core.proofs.Names.{AllByRecursion, find, Global, IsStrictlySortedBy, kept_total, KeptRow, list_all, nat_tests, put_sorted}
+use Rattle.farm_core.proofs.Names.{AllByRecursion, find, Global, IsStrictlySortedBy, kept_total, KeptRow, nat_tests, put_sorted}
 use Rattle.std.specs.List.{filter}
 use Rattle.std.specs.Option.{option_or, is_some}
 use Rattle.std.specs.declared.string.String.{String}
 use Rattle.std.proofs.lemmas.List.Kept.{IsStrictlySortedBy-filter}
-use Rattle.farm_types.specs.Names.{is_name_byte, is_word, IsSmallKept, kept_cmp, put, put_all}
+use Rattle.farm_types.specs.Names.{is_word, IsSmallKept, kept_cmp, put, put_all}
 use Rattle.farm_table.proofs.Steps.{all_push}
 use Rattle.farm_core.proofs.Replies.Merged.{find_over, length_put_is, put_above, put_all_sorted, split_rows}
 use Rattle.farm_core.proofs.Replies.Packing.{is_asked, texts_tie}
@@ -21,13 +21,7 @@ use Rattle.farm_core.specs.declared.kept.KeptReply.{KeptReply}
 -- a word is no longer than it may be
 pub word_fits : (most : ℕ) (text : List ℕ) → IsTrue (is_word most text) → length text ≤ most
 unfolding is_word
-word_fits most text word = by (nat_le 1 (length text)) (nat_le (length text) most) refl word
-  where
-    by : (a b : Bool) → nat_le (length text) most ≡ b → IsTrue (a && b && list_all is_name_byte text) → length text ≤ most
-    by true true is word = grind (arith, nat_tests)
-    by true false is word = cc
-    by false true is word = cc
-    by false false is word = cc
+word_fits most text word = grind (arith, nat_tests)
 
 -- ---- the packed rows and the others
 
@@ -40,21 +34,11 @@ module _ (p : Packed) (es : List (String Global × KeptReply)) where
 
   pub finds_above : (q : KeptRow) (reply : KeptReply) → IsStrictlySortedBy kept_cmp (map kept_row es) → Some reply ≡ option_map kept_reply (find (is_asked q) (map kept_row es))
       → Some reply ≡ option_map kept_reply (find (is_asked q) (kept_rows p es))
-  finds_above q reply sorted reported =
-      by (find (is_asked q) (map kept_row es)) reported ∙ ap (option_map kept_reply) (sym (found_over q sorted))
-    where
-      by : (above : Option KeptRow) → Some reply ≡ option_map kept_reply above → Some reply ≡ option_map kept_reply (option_or above (find (is_asked q) (packed_rows p)))
-      by None reported = cc
-      by (Some r) reported = reported
+  finds_above q reply sorted reported = grind (arith, found_over q sorted)
 
   pub finds_below : (q : KeptRow) → IsStrictlySortedBy kept_cmp (map kept_row es) → None ≡ option_map kept_reply (find (is_asked q) (map kept_row es))
       → option_map kept_reply (find (is_asked q) (packed_rows p)) ≡ option_map kept_reply (find (is_asked q) (kept_rows p es))
-  finds_below q sorted none =
-      by (find (is_asked q) (map kept_row es)) none ∙ ap (option_map kept_reply) (sym (found_over q sorted))
-    where
-      by : (above : Option KeptRow) → None ≡ option_map kept_reply above → option_map kept_reply (find (is_asked q) (packed_rows p)) ≡ option_map kept_reply (option_or above (find (is_asked q) (packed_rows p)))
-      by None none = refl
-      by (Some r) none = let wrong : None ≡ Some (kept_reply r) = none in cc
+  finds_below q sorted none = grind (arith, found_over q sorted)
 
   -- rows that are split between the two are the rows of both
   pub kept_split : (rows : List KeptRow) → IsStrictlySortedBy kept_cmp rows → packed_rows p ≡ filter is_packable rows

@@ -1,5 +1,5 @@
 -- What the program does for one claim is what the machine does.
-use Rattle.std.proofs.Common.{◌≡◌, ℕ, zero, suc, ◌+◌, ◌<◌, ◌==◌, List, [], ◌∷◌, length, map, drop, get_or, Bool, true, false, cond, Option, Some, None, refl}
+use Rattle.std.proofs.Common.{[], ◌≡◌, ℕ, zero, suc, ◌+◌, ◌<◌, ◌==◌, List, ◌∷◌, length, map, drop, get_or, Bool, true, false, cond, Option, Some, refl}
 use Rattle.std.proofs.Common.{sym, ap, ◌∙◌, arith, add-one}
 use Rattle.farm_core.proofs.Names.{AllByRecursion, BoardRow, ClaimKind, filter_all, fold, IsFitJob, JobRow, JobState, option_map_or, Want, zip}
 use Rattle.std.specs.List.{filter}
@@ -75,11 +75,7 @@ module _ (F : Farm) (c : Claimed) (n : ℕ) (wants : List Want) (asks : c.wants 
 
   pub is_served : (G : Farm) (names : List (List ℕ)) → Some names ≡ option_map names_of (least F.boards (is_free F.types) wants)
       → ((bs : List BoardRow) → names ≡ names_of bs → give F c bs F.clock ≡ G) → serve F.clock (record { farm = F; claims = n }) c ≡ record { farm = G; claims = n + 1 }
-  is_served G names picked gives = serves ∙ by (least F.boards (is_free F.types) wants) picked
-    where
-      by : (o : Option (List BoardRow)) → Some names ≡ option_map names_of o → found o ≡ record { farm = G; claims = n + 1 }
-      by None is = cc
-      by (Some bs) is = let same : names ≡ names_of bs = cc in ap (λ (H : Farm). record { farm = H; claims = n + 1 }) (gives bs same)
+  is_served G names picked gives = grind arith
 
 -- a reservation has the first board
 first_given : (F : Farm) (number : ℕ) (bs : List BoardRow) → give_res F number bs F.clock ≡ assign_first F number (names_of bs)

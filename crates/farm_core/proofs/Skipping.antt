@@ -1,9 +1,9 @@
 -- Claims that want what was found unmet are passed over.
-use Rattle.std.proofs.Common.{◌≡◌, ◌∙◌, ◌+◌, ℕ, zero, suc, List, [], ◌∷◌, take, Bool, true, false, cond, Option, Some, None, IsSomeAnd, inl, inr, refl, sym, ap}
+use Rattle.std.proofs.Common.{[], ◌≡◌, ◌∙◌, ◌+◌, ℕ, zero, suc, List, ◌∷◌, take, Bool, true, false, Option, Some, None, inl, inr, refl, sym, ap}
 use Rattle.std.proofs.Common.{subst, arith}
 use Rattle.std.specs.List.{filter}
-use Rattle.farm_core.proofs.Names.{among_has, BoardRow, ClaimKind, Global, IsClaim, option_map_or, queue_claims, ResRow, Want}
-use Rattle.farm_types.specs.Names.{Claimed, EachTwo, Farm, give, is_free, IsAmong, IsSound, least, pass_over, queue, res_of, serve, Served, shown_claim}
+use Rattle.farm_core.proofs.Names.{among_has, BoardRow, ClaimKind, Global, IsClaim, option_map_or, queue_claims, Want}
+use Rattle.farm_types.specs.Names.{Claimed, EachTwo, Farm, give, is_free, IsAmong, IsSound, least, pass_over, queue, serve, Served, shown_claim}
 use Rattle.farm_pick.proofs.Merging.{unmet_stays}
 use Rattle.farm_core.specs.Came.{Seen}
 use Rattle.std.specs.Prelude.{Vec}
@@ -13,15 +13,7 @@ use Rattle.farm_core.proofs.Passing.{asks_claim}
 -- ---- what a claim wants, by its rows
 
 pub wants_asked : (F : Farm) (c : Claimed) → MatchesRows c.reservation F c → c.wants ≡ wants_of F (shown_claim c).kind c.number
-wants_asked F c asks = by c.reservation asks
-  where
-    some : (o : Option ResRow) → IsSomeAnd o (λ r. c.wants ≡ r.want ∷ []) → c.wants ≡ option_map_or (λ (r : ResRow). r.want ∷ []) o []
-    some None asks = absurd asks
-    some (Some r) asks = asks
-
-    by : (v : Bool) → MatchesRows v F c → c.wants ≡ wants_of F (cond v ClaimKind.Reservation ClaimKind.Group) c.number
-    by true asks = some (res_of F c.number) asks
-    by false asks = asks
+wants_asked F c asks = grind arith
 
 pub wants_among : (F : Farm) (c : Claimed) → IsSound F → IsAmong c (queue F) → c.wants ≡ wants_of F (shown_claim c).kind c.number
 wants_among F c sound at = wants_asked F c (asks_claim F c (among_has (IsClaim F) c (queue F) (queue_claims F sound.steady) at))
@@ -30,12 +22,7 @@ wants_among F c sound at = wants_asked F c (asks_claim F c (among_has (IsClaim F
 
 pub among_filter : (test : Claimed → Bool) (d : Claimed) (xs : List Claimed) → IsAmong d (filter test xs) → IsAmong d xs × (test d ≡ true)
 among_filter test d [] at = absurd at
-among_filter test d (x ∷ xs) at = by (test x) refl at (λ more. among_filter test d xs more)
-  where
-    by : (v : Bool) → test x ≡ v → IsAmong d (cond v (x ∷ filter test xs) (filter test xs)) → (IsAmong d (filter test xs) → IsAmong d xs × (test d ≡ true)) → IsAmong d (x ∷ xs) × (test d ≡ true)
-    by true is (inl same) more = (inl same, ap test same ∙ is)
-    by true is (inr at) more = let two = more at in (inr two.0, two.1)
-    by false is at more = let two = more at in (inr two.0, two.1)
+among_filter test d (x ∷ xs) at = grind (arith, among_filter test d xs)
 
 -- ---- what is unmet stays so
 

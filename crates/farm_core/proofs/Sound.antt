@@ -1,9 +1,8 @@
 -- What a sound farm gives the commands.
-use Rattle.std.proofs.Common.{◌≡◌, ◌≤◌, ◌==◌, ℕ, zero, suc, List, [], ◌∷◌, length, Bool, true, false, cond, Option, Some, None, refl, ap, subst, arith}
-use Rattle.farm_core.proofs.Names.{AllByRecursion, AllByRecursion-weaker, BoardRow, Holder, IsFitJob, JobRow, option_map_or, ResRow, same_number}
+use Rattle.std.proofs.Common.{[], ◌≡◌, ◌≤◌, ◌==◌, ℕ, List, ◌∷◌, length, ap, arith}
+use Rattle.farm_core.proofs.Names.{AllByRecursion, AllByRecursion-weaker, BoardRow, Holder, IsFitJob, JobRow}
 use Rattle.std.specs.List.{filter}
-use Rattle.farm_types.specs.Names.{AreSmall, Farm, held_by, IsBoardRow, IsHeldBy, IsSmall, IsSmallBoard, IsSmallRes, IsSmallType, IsSound, job_hold, job_of}
-use Rattle.farm_types.specs.Names.{res_hold, res_of, shown_hold}
+use Rattle.farm_types.specs.Names.{AreSmall, Farm, held_by, IsBoardRow, IsHeldBy, IsSmall, IsSmallBoard, IsSmallRes, IsSmallType, IsSound}
 use Rattle.farm_types.specs.declared.rows.MetaRow.{MetaRow}
 use Rattle.farm_types.specs.declared.calls.Rows.{Rows}
 use Rattle.farm_core.specs.Came.{AreSmallRows}
@@ -15,16 +14,8 @@ module _ (F : Farm) (sound : IsSound F) where
   -- a holder's number is that of a row
   small_holder : (b : BoardRow) (h : Holder) → IsHeldBy F b h → IsSmall (held_by h)
   small_holder b Holder.Nobody held = omega arith
-  small_holder b (Holder.Job n) held = by (job_of F n) refl held
-    where
-      by : (o : Option JobRow) → job_of F n ≡ o → option_map_or job_hold o None ≡ Some (shown_hold b) → IsSmall n
-      by None is held = cc
-      by (Some j) is held = omega (arith, (low_job F n j is sound).0)
-  small_holder b (Holder.Res n) held = by (res_of F n) refl held
-    where
-      by : (o : Option ResRow) → res_of F n ≡ o → option_map_or res_hold o None ≡ Some (shown_hold b) → IsSmall n
-      by None is held = cc
-      by (Some r) is held = omega (arith, low_res F n r is sound)
+  small_holder b (Holder.Job n) held = grind (arith, low_job F n)
+  small_holder b (Holder.Res n) held = grind (arith, low_res F n)
 
   small_board : (b : BoardRow) → IsBoardRow F b × IsHeldBy F b b.holder → IsSmallBoard b
   small_board b is = record {
@@ -51,22 +42,11 @@ module _ (F : Farm) (sound : IsSound F) where
 -- a group that has a member has a small number
 small_group : (group : ℕ) (jobs : List JobRow) → AllByRecursion IsFitJob jobs → 1 ≤ length (filter (λ j. j.group == group) jobs) → IsSmall group
 small_group group [] all some = absurd (omega arith)
-small_group group (j ∷ jobs) all some = by (j.group == group) refl some (λ rest. small_group group jobs all.1 rest)
-  where
-    by : (v : Bool) → (j.group == group) ≡ v → 1 ≤ length (cond v (j ∷ filter (λ k. k.group == group) jobs) (filter (λ k. k.group == group) jobs))
-        → (1 ≤ length (filter (λ k. k.group == group) jobs) → IsSmall group) → IsSmall group
-    by true is some rest = subst IsSmall (same_number j.group group is) all.0.small.group
-    by false is some rest = rest some
+small_group group (j ∷ jobs) all some = grind (arith, small_group group jobs all.1)
 
 -- and so has the group that collects
 pub small_collector : (F : Farm) → IsSound F → IsSmall F.collector
-small_collector F sound = by F.collector refl
-  where
-    by : (n : ℕ) → F.collector ≡ n → IsSmall F.collector
-    by zero is = omega (arith, is)
-    by (suc n) is =
-        let two = sound.collecting.several (omega (arith, is)) in
-        small_group F.collector F.jobs (fit_jobs F sound) (omega (arith, two))
+small_collector F sound = grind (arith, sound.collecting.several, small_group F.collector F.jobs (fit_jobs F sound), fit_jobs F sound)
 
 -- the changed rows' numbers and the sound farm's own four are small
 pub AreSmall-sound : (c : Rows) (G : Farm) → AreSmallRows c → c.meta ≡ record { clock = G.clock; collector = G.collector; count = G.count; next = G.next } → IsSound G → AreSmall c

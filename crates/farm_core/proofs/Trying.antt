@@ -1,16 +1,16 @@
 -- The claims that may change the farm are tried one after the other, and lead to the end of the pass.
-use Rattle.std.proofs.Common.{◌≡◌, ◌∙◌, ◌==◌, ◌||◌, ◌&&◌, ◌+◌, ◌<◌, ◌≤◌, ℕ, List, [], ◌∷◌, length, map, filter, nat_le, Bool, true, false, cond, not, Option}
+use Rattle.std.proofs.Common.{[], ◌≡◌, ◌∙◌, ◌==◌, ◌||◌, ◌&&◌, ◌+◌, ◌<◌, ◌≤◌, ℕ, List, ◌∷◌, length, map, filter, Bool, true, false, cond, not, Option}
 use Rattle.std.proofs.Common.{Some, None, inl, inr, refl, sym, ap, subst, arith, Bor}
-use Rattle.farm_core.proofs.Names.{AllByRecursion, among_has, BoardRow, both, bytes_eq, Claim, ClaimKind, Equal, find, fold, found_passes, Greater, idle_boards}
+use Rattle.farm_core.proofs.Names.{AllByRecursion, among_has, BoardRow, both, bytes_eq, Claim, ClaimKind, find, fold, found_passes}
 use Rattle.farm_core.proofs.Names.{IdleBoard, is_lt, IsClaim, IsStrictlySortedBy, itself, JobRow, JobState, length-map, Less, list_all, list_any}
-use Rattle.farm_core.proofs.Names.{match_ordering, nat_tests, option_map_or, Ordering, queue_claims, queue_lists, Queued, queued_filter, queued_of, QueueLists}
+use Rattle.farm_core.proofs.Names.{nat_tests, option_map_or, queue_claims, queue_lists, Queued, queued_filter, queued_of, QueueLists}
 use Rattle.farm_core.proofs.Names.{same_number, true≢false}
 use mir.Val.{bool_byte}
 use Rattle.std.specs.Option.{option_copied}
 use Rattle.std.proofs.Math.Bool.{and-false}
 use Rattle.std.proofs.lemmas.List.{length-append}
-use Rattle.farm_types.specs.Names.{claim_cmp, Claimed, claims, collect, Farm, give, group_claim, highest_priority, is_free, is_group, is_waiting, IsAmong}
-use Rattle.farm_types.specs.Names.{IsSmall, IsSound, job_of, leads_claim, least, may_collect, members, pass_over, put, put_all, queue, res_claim, serve}
+use Rattle.farm_types.specs.Names.{claim_cmp, Claimed, claims, collect, Farm, group_claim, highest_priority, is_group, is_waiting, IsAmong}
+use Rattle.farm_types.specs.Names.{IsSmall, IsSound, job_of, leads_claim, may_collect, members, pass_over, put, put_all, queue, res_claim, serve}
 use Rattle.farm_types.specs.Names.{serve_all, Served, shown_claim, shown_cmp, waits}
 use Rattle.farm_sound.proofs.Claims.{queue_sorted}
 use Rattle.farm_sound.proofs.Collect.{collect_is, pairs_for}
@@ -27,7 +27,7 @@ use Rattle.farm_pick.proofs.Filling.{low_priority, numbers_differ}
 use Rattle.farm_pick.proofs.Giving.{giving_follows}
 use Rattle.farm_pick.proofs.Later.{after_itself, later, later_none}
 use Rattle.farm_pick.proofs.Merging.{Begins, Goes, IsTrying, Skips, begins_with, begins_without, found_among, none_by, one_group, passed_by, serve_but}
-use Rattle.farm_pick.proofs.Merging.{some_want, tried_by, unserved}
+use Rattle.farm_pick.proofs.Merging.{some_want, tried_by}
 use Rattle.farm_core.specs.Following.{without_board, without_boards}
 use Rattle.farm_core.specs.Came.{Seen}
 use Rattle.farm_core.specs.Serving.{Begins as FirstServed, IsSkipped, IsNext, Serves, boards_for, count_after, queues_given}
@@ -40,13 +40,7 @@ use Rattle.farm_core.proofs.Skipping.{one_of}
 -- ---- the queues of the farm once a claim was tried
 
 same_names_back : (a b : List ℕ) → bytes_eq a b ≡ bytes_eq b a
-same_names_back a b = by (bytes_eq a b) refl (bytes_eq b a) refl
-  where
-    by : (v : Bool) → bytes_eq a b ≡ v → (w : Bool) → bytes_eq b a ≡ w → v ≡ w
-    by true here true there = refl
-    by true here false there = sym (same_bytes_back a b here) ∙ there
-    by false here true there = sym here ∙ same_bytes_back b a there
-    by false here false there = refl
+same_names_back a b = grind (arith, same_bytes_back a b, same_bytes_back b a)
 
 without_named : (bs : List BoardRow) (xs : List IdleBoard) → without_boards (names_of bs) xs ≡ filter (λ (x : IdleBoard). not (list_any (λ (b : BoardRow). bytes_eq b.name x.name) bs)) xs
 without_named [] xs = all_pass xs
@@ -56,31 +50,13 @@ without_named (b ∷ bs) xs =
     (λ x. ap (λ v. v || list_any (λ (d : BoardRow). bytes_eq d.name x.name) bs) (same_names_back b.name x.name)) xs
 
 pub given_fits : (F : Farm) (c : Claimed) (n : ℕ) → IsSound F → IsAmong c (queue F) → queues_given F c (queue_lists F) ≡ queue_lists (serve F.clock (record { farm = F; claims = n }) c).farm
-given_fits F c n sound among = by (least F.boards (is_free F.types) c.wants) refl
-  where
-    by : (o : Option (List BoardRow)) → least F.boards (is_free F.types) c.wants ≡ o
-        → option_map_or {U = QueueLists} (λ bs. record {
-          claims = filter (λ (x : Queued). not (x.claim.number == c.number)) (queue_lists F).claims;
-          boards = without_boards (names_of bs) (queue_lists F).boards;
-        }) o (record (queue_lists F) { boards = idle_boards (pass_over F c) })
-        ≡ queue_lists (option_map_or {U = Served} (λ bs. record { farm = give F c bs F.clock; claims = n + 1 }) o (record { farm = pass_over F c; claims = n })).farm
-    by None is = λ i. record { claims = map queued_of (sym (collecting_follows F sound c among) i); boards = idle_boards (pass_over F c) }
-    by (Some bs) is =
-        let two = giving_follows F c bs F.clock sound (omega arith) among is in
-        let claims = sym (queued_filter (λ m. not (m == c.number)) (queue F)) ∙ ap (map queued_of) (sym two.0) in
-        let boards = without_named bs (idle_boards F) ∙ sym two.1 in
-        λ i. record { claims = claims i; boards = boards i }
+given_fits F c n sound among = grind (arith, collecting_follows F sound c among, giving_follows F c, queued_filter (λ m. not (m == c.number)) (queue F), without_named, nat_tests)
 
 -- ---- the claims are few
 
 length_put : (cs : List Claimed) (c : Claimed) → length (put claim_cmp cs c) ≤ length cs + 1
 length_put [] c = omega arith
-length_put (d ∷ cs) c = by (claim_cmp c d) (length_put cs c)
-  where
-    by : (o : Ordering) → length (put claim_cmp cs c) ≤ length cs + 1 → length (match_ordering o (c ∷ d ∷ cs) (c ∷ cs) (d ∷ put claim_cmp cs c)) ≤ length (d ∷ cs) + 1
-    by Less rest = omega arith
-    by Equal rest = omega arith
-    by Greater rest = omega (arith, rest)
+length_put (d ∷ cs) c = grind (arith, length_put cs c)
 
 length_put_all : (cs ds : List Claimed) → length (put_all claim_cmp cs ds) ≤ length cs + length ds
 length_put_all cs [] = omega arith
@@ -88,11 +64,7 @@ length_put_all cs (d ∷ ds) = let rest = length_put_all (put claim_cmp cs d) ds
 
 length_filter : {A : Type 0} (p : A → Bool) (xs : List A) → length (filter p xs) ≤ length xs
 length_filter p [] = omega arith
-length_filter p (x ∷ xs) = by (p x) (length_filter p xs)
-  where
-    by : (v : Bool) → length (filter p xs) ≤ length xs → length (cond v (x ∷ filter p xs) (filter p xs)) ≤ length (x ∷ xs)
-    by true rest = omega (arith, rest)
-    by false rest = omega (arith, rest)
+length_filter p (x ∷ xs) = grind (arith, length_filter p xs)
 
 -- at most as many as there are rows
 pub queue_few : (F : Farm) → length (queue F) ≤ length F.reservations + length F.jobs
@@ -112,13 +84,7 @@ over_clock G c = by_cases (λ (H : Farm). H.clock ≡ G.clock) (may_collect G c)
     (λ _. ap (λ (H : Farm). H.clock) (collect_is (members G c.number) G) ∙ clock_kept JobState.Scheduling (pairs_for G (members G c.number)) G) (λ _. refl)
 
 served_clock : (t : ℕ) (s : Served) (c : Claimed) → (serve t s c).farm.clock ≡ s.farm.clock
-served_clock t s c = by (least s.farm.boards (is_free s.farm.types) c.wants)
-  where
-    by : (o : Option (List BoardRow))
-        → (option_map_or {U = Served} (λ bs. record { farm = give s.farm c bs t; claims = s.claims + 1 }) o (record { farm = pass_over s.farm c; claims = s.claims })).farm.clock
-        ≡ s.farm.clock
-    by None = over_clock s.farm c
-    by (Some bs) = give_clock s.farm c bs t
+served_clock t s c = grind (arith, over_clock s.farm c, give_clock s.farm c)
 
 abbrev come_to : Farm → ℕ → Served
 come_to G count = record { farm = G; claims = count }
@@ -140,12 +106,7 @@ left queues place = length (filter (λ (x : Queued). is_later (last_spot place) 
 length_mapped : (p : Queued → Bool) (q : Claimed → Bool) (P : Claimed → Type 0) → ((c : Claimed) → P c → p (queued_of c) ≡ q c) → (cs : List Claimed) → AllByRecursion P cs
     → length (filter p (map queued_of cs)) ≡ length (filter q cs)
 length_mapped p q P same [] all = refl
-length_mapped p q P same (c ∷ cs) all =
-    ap (λ v. length (cond v (queued_of c ∷ filter p (map queued_of cs)) (filter p (map queued_of cs)))) (same c all.0) ∙ by (q c) (length_mapped p q P same cs all.1)
-  where
-    by : (v : Bool) → length (filter p (map queued_of cs)) ≡ length (filter q cs) → length (cond v (queued_of c ∷ filter p (map queued_of cs)) (filter p (map queued_of cs))) ≡ length (cond v (c ∷ filter q cs) (filter q cs))
-    by true rest = omega (arith, rest)
-    by false rest = omega (arith, rest)
+length_mapped p q P same (c ∷ cs) all = grind (arith, length_mapped p q P same cs all.1)
 
 pub left_is : (F : Farm) (former : ℕ) (G : Farm) (queues : QueueLists) (count : ℕ) (place : Option (ℕ × ℕ)) (trying : Trying F former G queues count place)
     → left queues place ≡ length (later trying.last (queue G))
@@ -160,17 +121,8 @@ all_from : (P : Claimed → Type 0) (xs : List Claimed) → ((x : Claimed) → I
 all_from P [] each = tt
 all_from P (x ∷ xs) each = (each x (inl refl), all_from P xs (λ y at. each y (inr at)))
 
-not_two : (n : ℕ) → n ≤ 1 → nat_le 2 n ≡ false
-not_two n low = grind (arith, nat_tests, low)
-
 skipped_stays : (t n : ℕ) (G : Farm) (e : Claimed) → IsSkipped G e → serve t (come_to G n) e ≡ come_to G n
-skipped_stays t n G e idle =
-    unserved t (come_to G n) e idle.0 (by (G.collector == 0) refl)
-  where
-    by : (v : Bool) → (G.collector == 0) ≡ v → ((v && not e.reservation) && nat_le 2 (length e.wants)) ≡ false
-    by true nobody =
-        ap (λ w. (true && not e.reservation) && w) (not_two (length e.wants) (idle.1 (same_number G.collector 0 nobody))) ∙ and-false (true && not e.reservation)
-    by false nobody = refl
+skipped_stays t n G e idle = grind (arith, nat_tests)
 
 -- in a list in order the first that passes a test that those before it fail
 first_found : (test : Claimed → Bool) (d : Claimed) (xs : List Claimed) → IsStrictlySortedBy claim_cmp xs → IsAmong d xs → test d ≡ true
@@ -233,26 +185,13 @@ module _ (F : Farm) (former : ℕ) (G : Farm) (queues : QueueLists) (count : ℕ
     passes = λ i. not (after i && after_itself it i)
 
     fails : (e : Claimed) → is_lt (claim_cmp e it) ≡ true → (comes_after trying.last e && test e) ≡ false
-    fails e less = by (comes_after trying.last e)
-      where
-        by : (v : Bool) → (v && not (v && is_lt (claim_cmp e it))) ≡ false
-        by true = ap not less
-        by false = refl
+    fails e less = grind arith
 
     pub found : find (λ e. comes_after trying.last e && test e) (queue G) ≡ Some it
     found = first_found (λ e. comes_after trying.last e && test e) it (queue G) (queue_sorted G) next.1 (λ i. after i && passes i) fails
 
     pub found_other : is_group former it ≡ false → find (λ e. comes_after trying.last e && (not (is_group former e) && test e)) (queue G) ≡ Some it
-    found_other other =
-        first_found (λ e. comes_after trying.last e && (not (is_group former e) && test e)) it (queue G) (queue_sorted G) next.1
-        (λ i. after i && (not (other i) && passes i)) (λ e less. by e (fails e less))
-      where
-        by : (e : Claimed) → (comes_after trying.last e && test e) ≡ false → (comes_after trying.last e && (not (is_group former e) && test e)) ≡ false
-        by e out = at (comes_after trying.last e) out
-          where
-            at : (v : Bool) → (v && test e) ≡ false → (v && (not (is_group former e) && test e)) ≡ false
-            at true none = ap (λ w. not (is_group former e) && w) none ∙ and-false (not (is_group former e))
-            at false none = refl
+    found_other other = grind (arith, first_found (λ e. comes_after trying.last e && (not (is_group former e) && test e)) it (queue G) (queue_sorted G) next.1 (λ i. after i && (not (other i) && passes i)), queue_sorted G, fails, and-false)
 
     -- the claim was passed over, or tried
     abbrev pub Went : Served → Type 0

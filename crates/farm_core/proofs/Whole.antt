@@ -1,9 +1,10 @@
 -- The four parts of a pass make the whole.
-use Rattle.std.proofs.Common.{◌≡◌, ◌==◌, ◌+◌, ◌∷◌, [], ℕ, List, Bool, true, false, cond, map, not, refl, sym, ap, ◌∙◌}
-use Rattle.farm_core.proofs.Names.{BoardRow, bytes_eq, fold, Holder, list_any, queued_filter, queued_of, ResRow, State}
+use native.Mathlib.Omega.{arith}
+use Rattle.std.proofs.Common.{[], ◌≡◌, ◌==◌, ◌∷◌, ℕ, List, map, not, refl, sym, ap, ◌∙◌}
+use Rattle.farm_core.proofs.Names.{BoardRow, fold, list_any, queued_filter, queued_of, ResRow}
 use Rattle.std.specs.List.{filter}
-use Rattle.farm_types.specs.Names.{change_where, check_job, check_one, checks, Claimed, expire, Farm, giving_back, has_room, held_board, is_dead, is_due}
-use Rattle.farm_types.specs.Names.{IsSound, job_cmp, put, queue, serve_all}
+use Rattle.farm_types.specs.Names.{check_one, checks, Claimed, expire, Farm, giving_back, is_dead, is_due}
+use Rattle.farm_types.specs.Names.{IsSound, queue, serve_all}
 use Rattle.farm_pick.proofs.Commands.{backs_follow}
 use Rattle.farm_pick.proofs.Checking.{checks_follow}
 use Rattle.farm_pick.proofs.Ending.{ends_follow}
@@ -28,15 +29,7 @@ prepared_sound F sound = IsSound-checks (expire (giving_back F) F.clock) F.clock
 
 check_collector : (bs : List BoardRow) (F : Farm) → (fold check_one F bs).collector ≡ F.collector
 check_collector [] F = refl
-check_collector (b ∷ bs) F = check_collector bs (check_one F b) ∙ by (has_room F 1)
-  where
-    by : (v : Bool) → (cond v (record F {
-      jobs = put job_cmp F.jobs (check_job F.next b);
-      boards = change_where (λ c. bytes_eq c.name b.name) (held_board (Holder.Job F.next) State.Reserved) F.boards;
-      next = F.next + 1;
-    }) F).collector ≡ F.collector
-    by true = refl
-    by false = refl
+check_collector (b ∷ bs) F = grind (arith, check_collector bs (check_one F b))
 
 -- nobody collects then
 pub prepared_nobody : (F : Farm) → (prepared F).collector ≡ 0

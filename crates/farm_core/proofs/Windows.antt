@@ -1,5 +1,5 @@
 -- The jobs whose numbers are near one another stand side by side.
-use Rattle.std.proofs.Common.{◌≡◌, ℕ, zero, suc, ◌+◌, ◌<◌, ◌≤◌, ◌-◌, ◌==◌, ◌&&◌, ◌⊎◌, inl, inr, Bool, true, false, List, [], ◌∷◌, length, get_or, Some, cond}
+use Rattle.std.proofs.Common.{[], ◌≡◌, ℕ, zero, suc, ◌+◌, ◌<◌, ◌≤◌, ◌-◌, ◌==◌, ◌⊎◌, inl, inr, Bool, true, false, List, ◌∷◌, length, get_or}
 use Rattle.std.proofs.Common.{Result, Ok, Err, MatchResult, sym, ap, ◌∙◌, refl, subst, arith}
 use Rattle.farm_core.proofs.Names.{AllByRecursion, both, Equal, find, Greater, is_lt, IsFitJob, IsStrictlySortedBy, JobRow, Less, nat_cmp}
 use Rattle.farm_core.proofs.Names.{option_map_or, ordering_reverse, same_number}
@@ -121,9 +121,4 @@ no_member jobs fit group start sorted place k d far low =
 pub none_so : {R : Type 0} (key : R → ℕ) (P : R → Type 0) (test : R → Bool) (number : ℕ) (rows : List R) → AllByRecursion P rows → ((r : R) → P r → key r ≡ number → test r ≡ false)
     → option_map_or test (find (λ r. key r == number) rows) false ≡ false
 none_so key P test number [] all fails = refl
-none_so key P test number (r ∷ rows) all fails = by (key r == number) refl (none_so key P test number rows all.1 fails)
-  where
-    by : (v : Bool) → (key r == number) ≡ v → option_map_or test (find (λ r. key r == number) rows) false ≡ false
-        → option_map_or test (cond v (Some r) (find (λ r. key r == number) rows)) false ≡ false
-    by true is rest = fails r all.0 (same_number (key r) number is)
-    by false is rest = rest
+none_so key P test number (r ∷ rows) all fails = grind (arith, none_so key P test number rows all.1 fails)

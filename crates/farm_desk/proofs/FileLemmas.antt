@@ -125,7 +125,7 @@ found_in image conn shows clean =
     })
 
 -- the files of a connection on which a farm was found hold that farm
-are_farms : {D : Type 0} {g : Ghosts D} (image : Image) (conn : Held (FileStore D g)) (k : KeeperState (FileStore D g))
+pub are_farms : {D : Type 0} {g : Ghosts D} (image : Image) (conn : Held (FileStore D g)) (k : KeeperState (FileStore D g))
     → FindsTables over_files conn k → ShowsFiles image conn → HasCleanDisk (file_state k.conn) → AreFarms image k.farm.farm
 are_farms image conn k made shows clean =
     let early : HasCleanDisk (file_state conn) = omega (arith, made.clean) in

@@ -1,3 +1,4 @@
+mod AloneLemmas
 mod FileLemmas
+mod HeardLemmas
 mod LineLemmas
-mod UnsentLemmas

@@ -1,19 +1,22 @@
 -- Which farm a file and the log beside it hold, and how one of the first edition comes to this one.
-use Rattle.std.specs.Prelude.{◌≡◌, ◌≤◌, ℕ, true, List, take, Result, Ok, Err, ⊤, ◌⊎◌}
+use Rattle.std.specs.Prelude.{◌≡◌, ◌≤◌, ◌<◌, ◌+◌, ℕ, Bool, IsTrue, true, List, [], length, take, Result, Ok, Err, ⊤, ◌⊎◌}
+use Rattle.sqlite.specs.Closing.{IsCopied}
 use Rattle.sqlite.specs.Effect.{Database, IsDatabase}
-use Rattle.sqlite.specs.Files.{HoldsDatabase, over_files, file_state, AreFoundIn, IsOpened}
+use Rattle.sqlite.specs.Files.{HoldsDatabase, over_files, file_state, AreFoundIn, Finds, IsOpened}
 use Rattle.sqlite.specs.Held.{Held, state}
 use Rattle.sqlite.specs.Start.{FindsIn}
 use Rattle.sqlite.specs.State.{HasCleanDisk, IsLive, Opens}
 use Rattle.sqlite.specs.Tree.{Trees}
 use Rattle.sqlite_catalog.specs.Listing.{AreListed}
 use Rattle.sqlite_disk.specs.declared.Disk.{Ghosts}
+use Rattle.sqlite_disk.specs.declared.Files.{Files}
 use Rattle.sqlite.specs.Schema.{Schema}
 use Rattle.sqlite_store.specs.declared.store.FileStore.{FileStore}
 use Rattle.sqlite_store.specs.FileStore as files
 use Rattle.sqlite_trees.specs.View.{IsClean, doubt}
 use Rattle.sqlite_trees.specs.Objects.{catalog_tree}
 use Rattle.sqlite_trees.specs.declared.store.Store as store
+use Rattle.sqlite_wal.specs.Reads.{AreClean}
 use Rattle.sqlite_wal.specs.Recovery.{Image}
 use Rattle.farm_store.specs.Columns.{IsOfSchema, TableRows, first_schema, rows_of, first_rows_of, second_schema}
 use Rattle.farm_store.specs.Holds.{Holds, LeavesEither, Stands}
@@ -155,6 +158,48 @@ pub record FindsTables {S : Type 0} (g : store.Ghosts S) (conn : Held S) (k : Ke
   pub ours : (state g conn).now.schema ≡ farm_schema
   pub rows : HasCleanDisk (state g k.conn) → (T : TableRows) → OpensTables g conn T
       → T ≡ rows_of k.farm.farm
+
+-- ---- the file alone
+
+-- the file, beside which there is no log
+abbrev pub without_log : Image → Image
+without_log image = record image { log = [] }
+
+-- a log that is too short to have a page: its own head has 32 bytes, and that of a page 24
+abbrev pub IsShort : List ℕ → Type 0
+IsShort log = length log < 32 + 24
+
+-- what an open gives: a connection that shows what the files held, and whether their log was short
+pub record OpensFiles {D : Type 0} {g : Ghosts D} (image : Image)
+    (opened : Held (FileStore D g) × Bool) : Type 0 where
+  pub shows : ShowsFiles image opened.0
+  pub short : IsTrue opened.1 → HasCleanDisk (file_state opened.0) → IsShort image.log
+
+-- a store was closed, which copied its log into its file, and the same files were opened again
+pub record IsCarried {D : Type 0} {g : Ghosts D} (closed opened : Held (FileStore D g))
+    : Type 0 where
+  pub files : Files D
+  pub copied : AreClean g files.log files.db → IsCopied closed files
+  pub opens : HasCleanDisk (file_state opened) → IsOpened opened
+  pub found : HasCleanDisk (file_state opened) → Finds files opened
+
+-- a keeper was closed so, and this one was made over what was opened
+pub record IsFoundAgain {D : Type 0} {g : Ghosts D} (closed k : KeeperState (FileStore D g))
+    : Type 0 where
+  pub conn : Held (FileStore D g)
+  pub carried : IsCarried closed.conn conn
+  pub made : FindsTables over_files conn k
+
+-- files were opened with this image, and the keeper was made of what they held: a farm that the files
+-- had held before any of this is in the one file alone, without the log
+pub record BeginsAlone {D : Type 0} {g : Ghosts D} (before : Image)
+    (k : KeeperState (FileStore D g)) : Type 0 where
+  pub image : Image
+  pub conn : Held (FileStore D g)
+  pub shows : ShowsFiles image conn
+  pub made : FindsTables over_files conn k
+  pub alone : HasCleanDisk (file_state k.conn) → (F : Farm) → HoldsFarm before F
+      → ∥ HoldsFarm (without_log image) F ∥₁
 
 -- an open keeper has the empty farm, and its store keeps that; its connection showed no table at
 -- all, and was opened on no farm's tables

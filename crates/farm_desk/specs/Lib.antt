@@ -3,6 +3,5 @@ pub mod InFiles
 pub mod Preflight
 pub mod Lines
 pub mod NewFile
-pub mod Waiting
 pub mod Orders
 pub mod Program

@@ -1,8 +1,11 @@
 -- What each order does with its files, its input and its output, and how it ends. An output held this,
 -- and holds that.
 use Rattle.std.specs.Prelude.{◌≡◌, ◌+◌, ℕ, List, Option, IfSome, take, ◌*ℤ◌, ◌+ℤ◌, min, neg_ℤ, pos, ℤ, map, ◌⊎◌, Bool, true, false, Result, Ok, Err, IfOk}
-use Rattle.std.specs.Prelude.{string_bytes, IfErr}
+use Rattle.std.specs.Prelude.{string_bytes, IfErr, [], ◌∷◌, ◌≤◌, ⊤, length}
 use Rattle.std.specs.Io.KnownBytes.{Appends, Keeps}
+use Rattle.std.specs.Net.Addr.{ipv4_octets}
+use Rattle.std.specs.Net.Socket.{v4_ip, v4_port}
+use Rattle.std.specs.declared.net.socket_addr.SocketAddr.{SocketAddr}
 use Rattle.sqlite_trees.specs.declared.store.Store.{Ghosts}
 use Rattle.sqlite.specs.Files.{over_files}
 use Rattle.sqlite.specs.Held.{Held}
@@ -19,6 +22,7 @@ use Rattle.farm_report.specs.Moments.{most_minutes}
 use Rattle.farm_report.specs.Lines.{AreLines, IsBoardLine, IsReservationLine, claims_text}
 use Rattle.farm_cli.specs.declared.order.Database.{Database}
 use Rattle.farm_cli.specs.declared.order.Order.{Order}
+use Rattle.farm_serve.specs.Connections.{AreServedInTurn, Connection}
 use Rattle.farm_serve.specs.Conversations.{Converses, Desk, IsComplete, desk}
 use Rattle.farm_serve.specs.Ends.{Writes}
 use Rattle.farm_serve.specs.Serving.{ServesClients, ServesUntil}
@@ -110,10 +114,23 @@ PrintsReportOf Room k held holds east west which (Err (DeskFault.Keep KeepFault.
     (k.is_open ≡ false) × (holds ≡ held)
 PrintsReportOf Room k held holds east west which (Err fault) = ⊥
 
+-- the address is a port of 127.0.0.1
+abbrev pub IsLocal : SocketAddr → ℕ → Type 0
+IsLocal (SocketAddr.V4 it) port =
+    (ipv4_octets (v4_ip it) ≡ 127 ∷ 0 ∷ 0 ∷ 1 ∷ []) × (v4_port it ≡ port)
+IsLocal (SocketAddr.V6 it) port = ⊥
+
+-- clients were conversed with one after another, at most so many, each over what came of its request
+pub record HearsClients {S : Type 0} (g : Ghosts S) (old new : KeeperState S) (max : ℕ) : Type 0 where
+  pub connections : List Connection
+  pub few : length connections ≤ max
+  pub in_turn : AreServedInTurn g ⊤ connections old new
+
 -- the port is printed, and then at most so many connections are served
 pub record ServesPort {S : Type 0} (g : Ghosts S) (old new : KeeperState S)
     (held holds : Option (List ℕ)) (port max : ℕ) (result : Result End DeskFault) : Type 0 where
   pub printed : Appends held holds (port_line port)
+  pub clients : HearsClients g old new max
   pub serves : ServesUntil g old new max result
   pub done : IfOk result (λ end. end ≡ End.Done)
 
@@ -128,6 +145,7 @@ pub record PrintsNoPort {S : Type 0} (Room : ℕ → Type 0) (old new : KeeperSt
 pub record LosesFiles {S : Type 0} (g : Ghosts S) (old new : KeeperState S)
     (held holds : Option (List ℕ)) (port max : ℕ) (result : Result End DeskFault) : Type 0 where
   pub printed : Appends held holds (port_line port)
+  pub clients : HearsClients g old new max
   pub serves : ServesClients g old new max
   pub ends : result ≡ Err store_failed
 

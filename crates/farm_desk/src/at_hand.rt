@@ -6,7 +6,7 @@
 //! that has so far returned what was written. `open_farm` and `migrate_farm` are one call of them,
 //! and let it go.
 ghost use Rattle.std.specs.Prelude.{◌≡◌, ◌≤◌, false, Some, None, IfOk, IfErr, MatchResult};
-ghost use Rattle.sqlite.specs.Files.{file_state};
+ghost use Rattle.sqlite.specs.Files.{file_state, over_files};
 ghost use Rattle.sqlite.specs.Held.{state};
 ghost use Rattle.sqlite.specs.State.{HasCleanDisk};
 ghost use Rattle.sqlite_trees.specs.View.{doubt};
@@ -32,6 +32,7 @@ pub(crate) fn find_on<D: Disk>(
     conn: Connection<FileStore<D>>,
 ) -> Result<Keeper<FileStore<D>>, Unkept<FileStore<D>>>
     requires { conn.in_transaction ≡ false }
+    ensures made { IfOk result (FindsTables over_files conn) }
     ensures found { IfOk result (λ k. (image : Image) → ShowsFiles image conn → FindsFarm image k) }
 
     // The files are reported as bad only where they hold no sound farm, and as of an old schema
@@ -57,7 +58,7 @@ pub(crate) fn find_on<D: Disk>(
 
 /// A keeper of the farm whose tables a connection holds that was just opened, or the connection,
 /// and why.
-fn find_in<S: Alter>(alloc: Global, conn: Connection<S>) -> Result<Keeper<S>, Unkept<S>>
+pub(crate) fn find_in<S: Alter>(alloc: Global, conn: Connection<S>) -> Result<Keeper<S>, Unkept<S>>
     requires { conn.in_transaction ≡ false }
     ensures found { IfOk result (FindsTables S.Store conn) }
     ensures denied { IfErr result (λ u. HasCleanDisk (state S.Store u.conn)

@@ -1,43 +1,92 @@
 //! Farms in files: opening one, making one, and bringing one of the first edition to this one.
-ghost use Rattle.std.specs.Prelude.{◌≡◌, false, IfOk, IfErr, IfSome};
+ghost use Rattle.std.specs.Prelude.{◌≡◌, false, IfOk, IfErr, IfSome, IsTrue};
+ghost use Rattle.sqlite.specs.Files.{image_of};
 ghost use Rattle.sqlite_wal.specs.Files.{image_at};
 ghost use Rattle.sqlite_wal.specs.Recovery.{Image};
-ghost use Rattle.farm_desk.specs.InFiles.{ShowsFiles, FindsFarm, MakesTables, MakesFarm};
+ghost use Rattle.farm_desk.specs.InFiles.{BeginsAlone, FindsFarm, MakesTables, MakesFarm, OpensFiles};
+ghost use Rattle.farm_desk.specs.InFiles.{ShowsFiles};
 ghost use Rattle.farm_desk.specs.InFiles.{IsOpenFault, handed_on, IsUpgradeFault, RaisesFarm};
 ghost use Rattle.farm_desk.specs.Orders.{MakesNewFarm};
 
-use crate::at_hand::{find_on, raise_on};
+use crate::at_hand::raise_on;
+use crate::carry::{Opened, find_carried};
 use crate::new_file::NewFile;
 use crate::preflight::Preflight;
 use farm_keep::{KeepFault, Keeper, Unkept};
 use farm_serve::DeskFault;
 use farm_store::opened_stands;
-use sqlite::{Alter, Connection, FileFrom, FileStore, Start};
+use sqlite::{Alter, Connection, FileFrom, FileStore, Files, Options, Start};
 use sqlite_disk::Disk;
 use std::alloc::Global;
+use std::hash::{BuildHasher, RandomState};
+
+/// A log of fewer bytes has no page: its own head has 32, and that of a page 24.
+const SHORT: usize = 56;
 
 /// The keeper of a farm in a file, and of the log beside it. `S` stands for what the two held.
 pub type FileKeeper<S> = Keeper<FileStore<FileFrom<S>>>;
 
-/// Opens a store at a path that was looked at. What is refused, memory too, is a fault of the store;
-/// then what was made is taken away, once what is left of the store is closed.
+/// Opens a store at a path that was looked at, and says whether its log was too short for a page. What
+/// is refused, memory too, is a fault of the store; then what was made is taken away, once what is
+/// left of the store is closed.
 fn open<S: Start>(
     rt: &HostRuntime,
     preflight: &Preflight<'_>,
     start: S,
-) -> Result<Connection<FileStore<FileFrom<S>>>, DeskFault>
-    ensures mode { IfOk result (λ conn. conn.in_transaction ≡ false) }
-    ensures shows { IfOk result (ShowsFiles (image_at S.Start)) }
+) -> Result<Opened<FileFrom<S>>, DeskFault>
+    ensures mode { IfOk result (λ opened. opened.0.in_transaction ≡ false) }
+    ensures opens { IfOk result (OpensFiles (image_at S.Start)) }
     ensures fault { IfErr result (λ fault. fault ≡ DeskFault.Keep KeepFault.Store) }
 {
-    match Connection::open_from(rt, preflight.file, false, start) {
-        Ok(conn) => Ok(conn),
-        Err((_, left)) => {
-            drop(left);
+    match open_at(rt, preflight.file, start) {
+        Some(opened) => Ok(opened),
+        None => {
             preflight.clean_up(rt);
             Err(DeskFault::Keep(KeepFault::Store))
         }
     }
+}
+
+/// The same of a path, and none where anything is refused. As of `Connection::open_from`, a path that
+/// SQLite's programs take for something else than a file's is refused.
+fn open_at<S: Start>(rt: &HostRuntime, path: &str, start: S) -> Option<Opened<FileFrom<S>>>
+    ensures mode { IfSome result (λ opened. opened.0.in_transaction ≡ false) }
+    ensures opens { IfSome result (OpensFiles (image_at S.Start)) }
+{
+    if path == ":memory:" || path.starts_with("file:") {
+        return None;
+    }
+    let options = options(rt)?;
+    let Ok(files) = sqlite_std_file::open(rt, path, start) else {
+        return None;
+    };
+    open_over(rt.alloc(), files, options)
+}
+
+/// The same of files.
+fn open_over<D: Disk + Drop>(
+    alloc: Global,
+    mut files: Files<D>,
+    options: Options,
+) -> Option<Opened<D>>
+    requires log { IsTrue (D.Disk.is_usable files.log) }
+    requires db { IsTrue (D.Disk.is_usable files.db) }
+    ensures mode { IfSome result (λ opened. opened.0.in_transaction ≡ false) }
+    ensures opens { IfSome result (OpensFiles (image_of D.Disk files)) }
+{
+    let Ok(length) = files.log.len() else {
+        return None;
+    };
+    let Ok(conn) = Connection::open_files(alloc, files, options) else {
+        return None;
+    };
+    Some((conn, length < SHORT))
+}
+
+/// How a store is opened: its logs begin by chance.
+fn options(rt: &HostRuntime) -> Option<Options> {
+    let seed = RandomState::new(rt).ok()?.hash_one(&0u8);
+    Some(Options::new(seed))
 }
 
 /// A keeper of the farm in the file at a path. Where there is no database, or one without the
@@ -45,7 +94,11 @@ fn open<S: Start>(
 /// Nothing is made where there is nothing. What a fault leaves of a store the clauses of
 /// `farm_keep::found` say, which borrows the connection.
 ///
-/// Costs one reading of the file.
+/// Before it is used, the log beside the file is copied into it, where that log may have a page: so
+/// nothing rests on pages of a log that the system shows and the disk doesn't have. Files without a
+/// farm stay as they are.
+///
+/// Costs one reading of the file, and two where there was a log.
 pub fn open_farm<S: Start>(
     rt: &HostRuntime,
     alloc: Global,
@@ -53,12 +106,14 @@ pub fn open_farm<S: Start>(
     start: S,
 ) -> Result<FileKeeper<S>, DeskFault>
     ensures found { IfOk result (FindsFarm (image_at S.Start)) }
+    ensures alone { IfOk result (BeginsAlone (image_at S.Start)) }
     ensures fault { IfErr result IsOpenFault }
 {
     let looked = Preflight::of_farm(rt, path);
     let preflight = looked.ok_or(DeskFault::Keep(KeepFault::Store))?;
-    let conn = open(rt, &preflight, start)?;
-    hand_on(find_on(alloc, conn)).inspect_err(|_| preflight.clean_up(rt))
+    let options = options(rt).ok_or(DeskFault::Keep(KeepFault::Store))?;
+    let opened = open(rt, &preflight, start)?;
+    find_carried(alloc, opened, options).inspect_err(|_| preflight.clean_up(rt))
 }
 
 /// A keeper of the empty farm in the file at a path, which is made where there is nothing. A file
@@ -104,7 +159,7 @@ fn make_at<S: Start>(
     ensures made { IfOk result (MakesFarm (image_at S.Start)) }
     ensures fault { IfErr result (λ fault. fault ≡ DeskFault.Keep KeepFault.Store) }
 {
-    let conn = open(rt, preflight, start)?;
+    let (conn, _) = open(rt, preflight, start)?;
     new_farm_on(alloc, conn).inspect_err(|_| preflight.clean_up(rt))
 }
 
@@ -149,7 +204,7 @@ pub fn migrate_farm<S: Start>(
 {
     let looked = Preflight::of_farm(rt, path);
     let preflight = looked.ok_or(DeskFault::Keep(KeepFault::Store))?;
-    let conn = open(rt, &preflight, start)?;
+    let (conn, _) = open(rt, &preflight, start)?;
     hand_on(raise_on(alloc, conn)).inspect_err(|_| preflight.clean_up(rt))
 }
 

@@ -3,40 +3,34 @@
 //! `converse`, `serve` and `import` are farm_serve's; `serve_on` serves the clients of a listener;
 //! `open_farm` and others are for farms in files; `program` is the program `farm`.
 //!
-//! Read `src/` in the order lab_files; deadline_stream, waiting, unsent, leavers, pending,
-//! socket_clients; new_file, preflight, at_hand, files, open_files, spent; report, orders,
-//! command_line; laws.
+//! Read `src/` in the order lab_files; socket_clients; new_file, preflight, at_hand, carry, files,
+//! open_files, spent; report, orders, command_line; laws.
 //!
-//! Read `specs/` in the order Waiting, who is served next; NewFile, Preflight, InFiles, which farm files
-//! hold; Faults, Lines, what the program prints; Orders, Program, what it does.
+//! Read `specs/` in the order NewFile, Preflight, InFiles, which farm files hold; Faults, Lines, what
+//! the program prints; Orders, Program, what it does.
 #![tactic(auto)]
 
 mod at_hand;
+mod carry;
 mod command_line;
-mod deadline_stream;
 mod files;
 mod lab_files;
 mod laws;
-mod leavers;
 mod new_file;
 mod open_files;
 mod orders;
-mod pending;
 mod preflight;
 mod report;
 mod socket_clients;
 mod spent;
-mod unsent;
-mod waiting;
 
 // Conversations with one client, and with one after another; imports; what ends them; and what is
 // proved of them, functions that only proofs read.
 pub use farm_serve::{
     Client, Clients, DeskFault, ImportEnd, Input, Output, ScriptedClient, ScriptedClients,
     ServedClient, answered_act_as_run, conversations_join, conversations_keep_a_prefix, converse,
-    converse_in_memory, converse_in_turn, desk_lives_keep_what_was_answered,
-    found_after_any_clients, found_after_import, found_after_serving, import,
-    request_answered_again, serve, serve_in_memory,
+    converse_in_memory, converse_in_turn, desk_lives_keep_what_was_answered, found_after_import,
+    found_after_serving, import, request_answered_again, serve, serve_in_memory,
 };
 pub use socket_clients::serve_on;
 

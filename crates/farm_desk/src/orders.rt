@@ -5,10 +5,9 @@ ghost use Rattle.sqlite_wal.specs.Files.{image_at};
 ghost use Rattle.farm_serve.specs.Conversations.{desk};
 ghost use Rattle.farm_desk.specs.Lines.{counts_line, port_line, ready_line, PrintsLine, PrintsImport};
 ghost use Rattle.farm_desk.specs.Orders.{streams, DoesInFiles, DoesInMemory, DoesOrder, Inits};
-ghost use Rattle.farm_desk.specs.Orders.{MigratesFile, OpensMemory, PrintsIfDone, AnswersOne};
+ghost use Rattle.farm_desk.specs.Orders.{MigratesFile, OpensMemory, PrintsIfDone, AnswersOne, IsLocal};
 ghost use Rattle.farm_desk.specs.Orders.{DoesTask, ImportsFile, PrintsReportOf, ServesIfThere};
 ghost use Rattle.farm_desk.specs.InFiles.{IsUpgradeFault, RaisesFarm};
-ghost use Rattle.farm_desk.specs.Waiting.{IsLocal};
 
 use crate::files::{FileKeeper, make_farm, make_new_farm, migrate_farm, open_farm};
 use crate::lab_files::{LabFiles, lab_fault, read_lab};
@@ -21,7 +20,7 @@ use arrayvec::ArrayString;
 use farm_cli::{Database, Order, Report};
 use farm_http::{Input, Output};
 use farm_keep::{KeepFault, Keeper};
-use farm_serve::{DeskFault, ImportEnd, converse, import};
+use farm_serve::{Clients, DeskFault, ImportEnd, converse, import};
 use farm_types::Refusal;
 use farm_wire::{OK, write_whole};
 use itoa::Buffer;
@@ -358,6 +357,7 @@ fn counts_line(accepted: usize, kept: usize) -> ArrayString<LINE_ROOM>
 /// Serves so many connections to a port of 127.0.0.1 from a keeper's farm, as long as its file and
 /// the log of that are there. Where somebody takes one away meanwhile, nobody else is answered, and
 /// that is a fault of the store, since what would be written then is lost.
+#[tactic(auto, using(crate::proofs::HeardLemmas::hears))]
 fn serve<W: Output, S: Alter>(
     rt: &HostRuntime,
     file: &str,
@@ -373,8 +373,11 @@ fn serve<W: Output, S: Alter>(
         return Err(DeskFault::Keep(KeepFault::Store));
     };
     let listener = listen(rt, port).map_err(|_| DeskFault::Read)?;
-    print_line(output, port_line(port).as_bytes())?;
     let mut clients = SocketClients::new(rt.alloc(), &listener, max, rt, Some(&files));
+    if clients.is_over() {
+        return Err(DeskFault::Read);
+    }
+    print_line(output, port_line(port).as_bytes())?;
     let ended = farm_serve::serve(rt.alloc(), keeper, &mut clients, max);
     clients.send_rest();
     ended?;

@@ -89,7 +89,8 @@ impl<'a> Preflight<'a> {
     }
 
     /// The check of a new farm, whose file is made where there was nothing; none where a file is
-    /// neither empty nor a database, or where a log that isn't empty is left over without one.
+    /// neither empty nor a database, where it is seen to have a table, or where a log that isn't
+    /// empty is left over without one.
     pub(crate) fn of_new_farm(rt: &HostRuntime, file: &'a str) -> Option<Self>
         ensures path { IfSome result (λ it. it.file.now ≡ file.now) }
         ensures new { IfSome result (λ it. MayBeNew it.file_state it.log_state) }
@@ -99,7 +100,7 @@ impl<'a> Preflight<'a> {
         let is_free = match preflight.file_state {
             PathState::Nothing => has_no_log && make_file(rt, file).is_ok(),
             PathState::Empty => has_no_log,
-            PathState::Database => true,
+            PathState::Database => !preflight.has_table(rt),
             PathState::Other => false,
         };
         if is_free { Some(preflight) } else { None }
@@ -115,6 +116,16 @@ impl<'a> Preflight<'a> {
         let is_free = preflight.file_state == PathState::Nothing
             && matches!(preflight.log_state, PathState::Nothing | PathState::Empty);
         (is_free && make_new_file(rt, file).is_ok()).then_some(preflight)
+    }
+
+    /// Whether a database is seen to have a table: its list of tables isn't an empty leaf, and no page
+    /// of a log could make it one. Its store isn't opened then, which would begin its log anew.
+    fn has_table(&self, rt: &HostRuntime) -> bool {
+        let Ok(mut file) = File::open(rt, self.file) else {
+            return false;
+        };
+        matches!(has_no_page(rt, self.log.as_str()), Ok(true))
+            && matches!(has_no_table(&mut file), Ok(false))
     }
 
     /// Takes away what this order made of a store that is closed again: a log that wasn't there

@@ -1,6 +1,6 @@
 -- What each command leaves of the queue.
-use Rattle.std.proofs.Common.{◌&&◌, ◌+◌, ◌==◌, ◌||◌, ◌∙◌, ◌∷◌, ◌≡◌, ◌≢◌, ◌≤◌, Bool, List, None, Option, Some, ap, arith, cond, false, is_none, length, not}
-use Rattle.std.proofs.Common.{refl, sym, true, ℕ, []}
+use Rattle.std.proofs.Common.{[], ◌&&◌, ◌+◌, ◌==◌, ◌||◌, ◌∙◌, ◌∷◌, ◌≡◌, ◌≢◌, ◌≤◌, Bool, List, None, Option, Some, ap, arith, cond, false, is_none, length, not}
+use Rattle.std.proofs.Common.{refl, sym, true, ℕ}
 use Rattle.farm_pick.proofs.Names.{all_true, AllByRecursion, AllByRecursion-weaker, and-true, BoardRow, both, by_cases, bytes_eq, found_has, found_passes}
 use Rattle.farm_pick.proofs.Names.{JobRow, JobState, map-map, map_id, nat_tests, only_job, option_map_or, ResRow, same_number, State, Want}
 use Rattle.farm_types.specs.Names.{act, after_check, after_job, board_of, cancel_group, change_jobs, change_res, done_with, Farm, farm_at_call, finish_one}
@@ -183,12 +183,7 @@ module _ (F : Farm) (t : ℕ) (caller : List ℕ) (sound : IsSound F) where
   command_follows (Cmd.Submit priority wants roles body) proper clear command =
       let is = proper_group priority wants roles body proper in
       submit_puts F sound caller priority wants roles body is.0 is.1
-  command_follows (Cmd.Cancel n) proper clear command = by (job_of F n) refl
-    where
-      by : (o : Option JobRow) → job_of F n ≡ o
-          → queue (option_map_or (λ j. done_with j.group (cancel_group j.group F)) o (done_with 0 F)).farm ≡ option_map_or (λ j. queue_without j.group (queue F)) o (queue F)
-      by None there = refl
-      by (Some j) there = cancel_follows F sound n j there
+  command_follows (Cmd.Cancel n) proper clear command = grind (arith, cancel_follows F sound n)
   command_follows (Cmd.Start n) proper clear command =
       let j = right_job F n (λ j. same_job_state j.state JobState.Scheduled) clear in
       ap (λ o. queue (option_map_or (λ j. done_with j.group (start_group j.group F)) o (done_with 0 F)).farm) j.1

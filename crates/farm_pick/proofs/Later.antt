@@ -1,5 +1,5 @@
 -- The claims that come after the one tried last, and the next that is tried.
-use Rattle.std.proofs.Common.{◌&&◌, ◌<◌, ◌∙◌, ◌∷◌, ◌≡◌, Bool, List, None, Option, Some, ap, arith, cond, false, length, refl, sym, true, []}
+use Rattle.std.proofs.Common.{[], ◌&&◌, ◌<◌, ◌∙◌, ◌∷◌, ◌≡◌, Bool, List, None, Option, Some, ap, arith, false, length, refl, true}
 use Rattle.farm_pick.proofs.Names.{AllByRecursion, AllByRecursion-weaker, claim_total, find, fold, found_has, is_lt, is_lt-Less}
 use Rattle.std.specs.List.Sorted.{IsStrictlySortedBy}
 use Rattle.farm_pick.proofs.Names.{ordering_reverse}
@@ -72,19 +72,7 @@ module _ {S : Type 0} (serve : S → Claimed → S) (s : S) (opens : Claimed →
       → find (λ d. comes_after last d && opens d) xs ≡ Some c → Continues c xs
   unfolding IsStrictlySortedBy
   leads_on c [] sorted skips found = cc
-  leads_on c (x ∷ xs) sorted skips found =
-      by (comes_after last x) refl (opens x) refl found (λ later_found. leads_on c xs sorted.1 skips.1 later_found)
-    where
-      behind : find (λ d. comes_after last d && opens d) xs ≡ Some c → later (Some c) (x ∷ xs) ≡ later (Some c) xs
-      behind later_found = ap (λ v. cond v (x ∷ later (Some c) xs) (later (Some c) xs)) (found_above (λ d. comes_after last d && opens d) x c xs sorted.0 later_found)
-
-      by : (v : Bool) → comes_after last x ≡ v → (w : Bool) → opens x ≡ w → cond (v && w) (Some x) (find (λ d. comes_after last d && opens d) xs) ≡ Some c
-          → (find (λ d. comes_after last d && opens d) xs ≡ Some c → Continues c xs) → Continues c (x ∷ xs)
-      by true is true has here rest = let same : x ≡ c = cc in rw (sym same) (tried_here x xs sorted.0 is)
-      by true is false has here rest =
-          let more = rest here in
-          record { folds = rw (is, behind here) (ap (λ u. fold serve u (later last xs)) (skips.0 has) ∙ more.folds); fewer = rw (is, behind here) (let few = more.fewer in omega arith) }
-      by false is w has here rest = let more = rest here in record { folds = rw (is, behind here) more.folds; fewer = rw (is, behind here) more.fewer }
+  leads_on c (x ∷ xs) sorted skips found = grind (arith, leads_on c xs sorted.1 skips.1, found_above (λ d. comes_after last d && opens d) x c xs sorted.0, tried_here x xs sorted.0, skips.0)
 
   -- where none is tried, all that are left are skipped
   pub leads_nowhere : (xs : List Claimed) → Skips xs → find (λ d. comes_after last d && opens d) xs ≡ None → fold serve s (later last xs) ≡ s

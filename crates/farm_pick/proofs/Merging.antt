@@ -1,6 +1,6 @@
 -- Trying alone the claims that may change the farm serves just what trying all of them serves.
-use Rattle.std.proofs.Common.{◌&&◌, ◌+◌, ◌==◌, ◌<◌, ◌≤◌, ◌∙◌, ◌∷◌, ◌≡◌, Bool, List, None, Option, Some, ap, arith, cond, false, inl, inr, length, nat_le, not}
-use Rattle.std.proofs.Common.{refl, subst, suc, sym, true, zero, ℕ, []}
+use Rattle.std.proofs.Common.{[], ◌&&◌, ◌+◌, ◌==◌, ◌<◌, ◌≤◌, ◌∙◌, ◌∷◌, ◌≡◌, Bool, List, None, Option, Some, ap, arith, cond, false, inl, inr, length, nat_le, not}
+use Rattle.std.proofs.Common.{refl, subst, suc, sym, true, zero, ℕ}
 use mathlib.Core.Bool.{true≢false}
 use Rattle.farm_pick.proofs.Names.{all_true, AllByRecursion, AllByRecursion-both, AllByRecursion-weaker, among_has, and-false, BoardRow, both, by_cases}
 use Rattle.farm_pick.proofs.Names.{bytes_eq, cases_Bool, filter_all, find, fold, found_passes, Holder, IsClaim, itself, JobRow, JobState}
@@ -20,7 +20,6 @@ use Rattle.farm_sound.proofs.Tests.{both_false}
 use Rattle.farm_sound.proofs.Unmet.{IsUnmet, IsUnmet-give}
 use Rattle.farm_sound.proofs.Where.{sorted_map}
 use Rattle.farm_pick.specs.Follow.{queue_without}
-use Rattle.farm_pick.specs.Queued.{idle_boards, is_open, queue_kind}
 use Rattle.farm_pick.specs.Merged.{comes_after, first_tried, may_act, merged_pass, next_lent, next_tried, rest}
 use Rattle.farm_pick.proofs.Closed.{closed_is_unmet}
 use Rattle.farm_pick.proofs.Collects.{collecting_follows}
@@ -94,17 +93,7 @@ length_without c (d ∷ cs) at = grind (arith, nat_tests, length_without c cs, l
 
 pub served_few : (t : ℕ) (s : Served) (c : Claimed) → IsSound s.farm → t ≤ s.farm.clock → IsAmong c (queue s.farm)
     → (serve t s c).claims + length (queue (serve t s c).farm) ≤ s.claims + length (queue s.farm)
-served_few t s c sound low at = by (least s.farm.boards (is_free s.farm.types) c.wants) refl
-  where
-    Few : Served → Type 0
-    Few u = u.claims + length (queue u.farm) ≤ s.claims + length (queue s.farm)
-
-    by : (o : Option (List BoardRow)) → least s.farm.boards (is_free s.farm.types) c.wants ≡ o
-        → Few (option_map_or (λ bs. record { farm = give s.farm c bs t; claims = s.claims + 1 }) o (record { farm = pass_over s.farm c; claims = s.claims }))
-    by None met = let same : length (queue (pass_over s.farm c)) ≡ length (queue s.farm) = ap length (collecting_follows s.farm sound c at) in omega (arith, same)
-    by (Some bs) met =
-        let same : length (queue (give s.farm c bs t)) ≡ length (queue_without c.number (queue s.farm)) = ap length (giving_follows s.farm c bs t sound low at met).0 in
-        omega (arith, same, length_without c (queue s.farm) at)
+served_few t s c sound low at = grind (arith, collecting_follows s.farm sound c at, giving_follows s.farm c, length_without c (queue s.farm) at)
 
 -- ---- claims that are passed over
 
@@ -117,13 +106,7 @@ serve_but former t s c = cond (is_group former c) s (serve t s c)
 
 skips : (former t : ℕ) (s : Served) → IsSound s.farm
     → AllByRecursion (λ d. (not (is_group former d) && may_act s.farm d) ≡ false → serve_but former t s d ≡ s) (queue s.farm)
-skips former t s sound = AllByRecursion-weaker (λ d claim. by d claim (is_group former d)) (queue s.farm) (queue_claims s.farm sound.steady)
-  where
-    by : (d : Claimed) → IsClaim s.farm d → (v : Bool) → (not v && may_act s.farm d) ≡ false → cond v s (serve t s d) ≡ s
-    by d claim true out = refl
-    by d claim false out =
-        let two = both_false (is_open (idle_boards s.farm) (queue_kind d)) (may_collect s.farm d) out in
-        unserved t s d (closed_is_unmet s.farm sound.steady.boards_sorted d (some_want s.farm d claim) two.0) two.1
+skips former t s sound = grind (arith, AllByRecursion-weaker, queue_claims s.farm sound.steady, both_false, unserved t s, closed_is_unmet s.farm sound.steady.boards_sorted, some_want s.farm)
 
 -- all claims but that of a group
 fold_but : (former t : ℕ) (last : Option Claimed) (s : Served) (cs : List Claimed)
@@ -154,14 +137,7 @@ pub record Goes (former t : ℕ) (s u : Served) (last : Option Claimed) (c : Cla
 -- those behind a claim that is left are left
 rest_behind : (former : ℕ) (F : Farm) (last : Option Claimed) (c : Claimed) → comes_after last c ≡ true → AllByRecursion (IsOpen F) (rest former last F)
     → AllByRecursion (IsOpen F) (rest former (Some c) F)
-rest_behind former F last c after all =
-    AllByRecursion-weaker (λ d two. two.0 (behind d (both (comes_after (Some c) d) (not (is_group former d)) two.1)))
-    (rest former (Some c) F)
-    (filter_all (λ d. (comes_after last d && not (is_group former d)) ≡ true → IsOpen F d) (λ d. comes_after (Some c) d && not (is_group former d)) (queue F)
-    (filter_back (IsOpen F) (λ d. comes_after last d && not (is_group former d)) (queue F) all))
-  where
-    behind : (d : Claimed) → (comes_after (Some c) d ≡ true) × (not (is_group former d) ≡ true) → (comes_after last d && not (is_group former d)) ≡ true
-    behind d two = λ i. after_more last c d after (less_from c d two.0) i && two.1 i
+rest_behind former F last c after all = grind (arith, AllByRecursion-weaker, both, filter_all (λ d. (comes_after last d && not (is_group former d)) ≡ true → IsOpen F d) (λ d. comes_after (Some c) d && not (is_group former d)) (queue F) (filter_back (IsOpen F) (λ d. comes_after last d && not (is_group former d)) (queue F) all), filter_back (IsOpen F) (λ d. comes_after last d && not (is_group former d)) (queue F) all, after_more last c, less_from c)
 
 -- what is found stands in the list
 pub found_among : (p : Claimed → Bool) (c : Claimed) (cs : List Claimed) → find p cs ≡ Some c → IsAmong c cs
@@ -264,15 +240,7 @@ none_tried former t s last sound = none_by former t s last (may_act s.farm) (ski
 pub one_group : (g : ℕ) (cs : List Claimed) → EachTwo (λ a b. a.number ≡ b.number → ⊥) cs
     → filter (is_group g) cs ≡ option_map_or (λ c. c ∷ []) (find (is_group g) cs) []
 one_group g [] apart = refl
-one_group g (d ∷ cs) apart = by (is_group g d) refl (one_group g cs apart.1)
-  where
-    other : is_group g d ≡ true → (e : Claimed) → (d.number ≡ e.number → ⊥) → is_group g e ≡ false
-    other is e differ = grind (arith, nat_tests)
-
-    by : (v : Bool) → is_group g d ≡ v → filter (is_group g) cs ≡ option_map_or (λ c. c ∷ []) (find (is_group g) cs) []
-        → cond v (d ∷ filter (is_group g) cs) (filter (is_group g) cs) ≡ option_map_or (λ c. c ∷ []) (cond v (Some d) (find (is_group g) cs)) []
-    by true is more = ap (λ ds. d ∷ ds) (none_pass (is_group g) cs (AllByRecursion-weaker (λ e differ. other is e differ) cs apart.0))
-    by false is more = more
+one_group g (d ∷ cs) apart = grind (arith, one_group g cs apart.1, none_pass (is_group g) cs, AllByRecursion-weaker)
 
 module _ (F : Farm) (group t : ℕ) (sound : IsSound F) (none : F.collector ≡ 0) (low : t ≤ F.clock) where
   abbrev start : Served
@@ -344,17 +312,7 @@ merged_on : (n former t : ℕ) (s : Served) (last : Option Claimed) → IsTrying
     → merged_pass former n t s last ≡ fold (serve t) s (rest former last s.farm)
 merged_on zero former t s last trying few =
     sym (ap (fold (serve_but former t) s) (nil_from_length (later last (queue s.farm)) (omega arith))) ∙ fold_but former t last s (queue s.farm)
-merged_on (suc n) former t s last trying few =
-    by (next_tried former s.farm last) refl (λ c on few. merged_on n former t (serve t s c) (Some c) on few)
-  where
-    by : (o : Option Claimed) → next_tried former s.farm last ≡ o
-        → ((c : Claimed) → IsTrying former t (serve t s c) (Some c) → length (later (Some c) (queue (serve t s c).farm)) ≤ n
-        → merged_pass former n t (serve t s c) (Some c) ≡ fold (serve t) (serve t s c) (rest former (Some c) (serve t s c).farm))
-        → option_map_or (λ c. merged_pass former n t (serve t s c) (Some c)) o s ≡ fold (serve t) s (rest former last s.farm)
-    by None is more = sym (none_tried former t s last trying.sound is)
-    by (Some c) is more =
-        let one = tried former t s last c trying is in
-        more c one.1.on (omega (arith, one.1.fewer, few)) ∙ sym one.1.folds
+merged_on (suc n) former t s last trying few = grind (arith, merged_on n former t, none_tried former t s last trying.sound, tried former t s last)
 
 pub merging_serves : (F : Farm) (group t n : ℕ) → IsSound F → F.collector ≡ 0 → t ≤ F.clock → length (queue F) ≤ n
     → merged_pass group n t (first_tried group t (record { farm = F; claims = 0 })) None ≡ serve_all F group t

@@ -1,5 +1,5 @@
 -- The sorted claims of a farm's rows are its queue.
-use Rattle.std.proofs.Common.{◌≡◌, ℕ, zero, suc, ◌+◌, ◌<◌, ◌≤◌, ◌==◌, ◌&&◌, ◌++◌, List, [], ◌∷◌, length, map, take, Bool, true, false, cond, inl, inr, sym, ap}
+use Rattle.std.proofs.Common.{[], ◌≡◌, ℕ, zero, suc, ◌+◌, ◌<◌, ◌≤◌, ◌==◌, ◌++◌, List, ◌∷◌, length, map, take, Bool, cond, inl, inr, sym, ap}
 use Rattle.std.proofs.Common.{◌∙◌, refl, subst, arith}
 use Rattle.farm_pick.proofs.Names.{AllByRecursion, AllByRecursion-both, AllByRecursion-weaker, append-nil, both, cases_Bool, Claim, differs, differs_more}
 use Rattle.farm_pick.proofs.Names.{is_lt, IsPermutation, IsPermutation-sym, IsSortedBy, IsTotalOrder, itself, JobRow, length-map, list_all}
@@ -67,11 +67,7 @@ module _ (F : Farm) where
       ∙ ap (λ ms. j ∷ ms) (near_alone j.group 3 (j.number + 1) jobs sorted.1 near (behind j jobs sorted.0) (omega arith))
 
   leads_same : (j : JobRow) (near : List JobRow) → (j.number ≡ j.group → members F j.group ≡ j ∷ mates j near) → leads_claim F j ≡ leads j near
-  leads_same j near own = by (j.number == j.group) refl
-    where
-      by : (v : Bool) → (j.number == j.group) ≡ v → (v && list_all waits (members F j.group)) ≡ (v && (waits j && list_all waits (mates j near)))
-      by true is = ap (list_all waits) (own (same_number j.number j.group is))
-      by false is = refl
+  leads_same j near own = grind arith
 
   group_same : (j : JobRow) (near : List JobRow) → members F j.group ≡ j ∷ mates j near → shown_claim (group_claim F j) ≡ shown_group j near
   group_same j near own =

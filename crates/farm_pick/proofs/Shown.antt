@@ -1,6 +1,6 @@
 -- The first claim of the queues, as callers see it.
-use Rattle.std.proofs.Common.{◌≡◌, ◌∙◌, ◌&&◌, ◌≤◌, ◌+◌, ℕ, List, [], ◌∷◌, length, map, Bool, true, Option, Some, None, IsSome, is_some, inl, inr, refl, sym, ap}
-use Rattle.std.proofs.Common.{subst, arith}
+use Rattle.std.proofs.Common.{[], ◌≡◌, ◌∙◌, ◌&&◌, ◌≤◌, ◌+◌, ℕ, List, ◌∷◌, length, map, Bool, true, Option, Some, None, IsSome, is_some, inl, inr, refl, sym, ap}
+use Rattle.std.proofs.Common.{arith}
 use mathlib.Core.Bool.{true≢false}
 use Rattle.farm_pick.proofs.Names.{AllByRecursion, among_has, both, Claim, find, is_eq, is_lt, is_lt-Less, IsTotalOrder, Ordering}
 use Rattle.std.specs.List.Sorted.{IsStrictlySortedBy}
@@ -114,12 +114,4 @@ module _ (kinds : List (List ℕ)) (es : List (Spot × Claim)) (keyed : AllByRec
 
 pub well_new : (ks : List (List ℕ)) (es : List (Spot × Claim)) (ps : List (ℕ × Place)) (rows : List IdleRow) → ks ≡ [] → es ≡ [] → ps ≡ [] → rows ≡ [] → IsWell ks es ps rows
 unfolding IsStrictlySortedBy
-well_new ks es ps rows no_ks no_es no_ps no_rows =
-    subst (λ k. IsWell k es ps rows) (sym no_ks) (subst (λ e. IsWell [] e ps rows) (sym no_es) (subst (λ p. IsWell [] [] p rows) (sym no_ps)
-    (subst (λ r. IsWell [] [] [] r) (sym no_rows) none)))
-  where
-    none : IsWell [] [] [] []
-    none = record {
-      queues = record { keyed = tt; apart = tt; placed = λ s. refl };
-      free = record { apart = λ i j a b one other same. cc; each = tt; sorted = tt };
-    }
+well_new ks es ps rows no_ks no_es no_ps no_rows = grind arith

@@ -1,5 +1,5 @@
 -- What passes a test in a list in strict order: the first, and those behind it.
-use Rattle.std.proofs.Common.{◌≡◌, ◌∙◌, ◌&&◌, List, [], ◌∷◌, Bool, true, false, cond, Some, None, refl, sym, ap, arith}
+use Rattle.std.proofs.Common.{[], ◌≡◌, ◌∙◌, ◌&&◌, List, ◌∷◌, Bool, true, false, cond, Some, None, refl, sym, ap, arith}
 use Rattle.farm_pick.proofs.Names.{AllByRecursion, among_has, find, found_has, is_gt, is_lt, IsTotalOrder, Ordering}
 use Rattle.std.specs.List.Sorted.{IsStrictlySortedBy}
 use Rattle.std.specs.List.{filter}
@@ -62,25 +62,7 @@ module _ {R : Type 0} (cmp : R → R → Ordering) (total : IsTotalOrder cmp) wh
     pub sieve : (c : R) (xs : List R) → IsStrictlySortedBy cmp xs → find passes xs ≡ Some c → filter passes xs ≡ c ∷ filter (passes_on c) xs
     unfolding IsStrictlySortedBy
     sieve c [] sorted is = cc
-    sieve c (x ∷ xs) sorted is = by (after x) refl (opens x) refl is (sieve c xs sorted.1)
-      where
-        behind : find passes xs ≡ Some c → filter (passes_on c) (x ∷ xs) ≡ filter (passes_on c) xs
-        behind later =
-            let less = found_has (λ y. cmp x y ≡ Less) passes c xs sorted.0 later in
-            ap (λ v. cond (v && opens x) (x ∷ filter (passes_on c) xs) (filter (passes_on c) xs))
-            (not_less c x (λ more. not_below_itself cmp total x (total.trans x c x less more)))
-
-        by : (v : Bool) → after x ≡ v → (w : Bool) → opens x ≡ w → cond (v && w) (Some x) (find passes xs) ≡ Some c
-            → (find passes xs ≡ Some c → filter passes xs ≡ c ∷ filter (passes_on c) xs)
-            → cond (v && w) (x ∷ filter passes xs) (filter passes xs) ≡ c ∷ filter (passes_on c) (x ∷ xs)
-        by true is_after true is_open is rest =
-            let here : x ≡ c = cc in
-            let same : filter passes xs ≡ filter (passes_on x) xs = filter_same passes (passes_on x) xs (above x xs is_after sorted.0) in
-            let itself : filter (passes_on x) (x ∷ xs) ≡ filter (passes_on x) xs =
-            ap (λ v. cond (v && opens x) (x ∷ filter (passes_on x) xs) (filter (passes_on x) xs)) (not_less x x (λ less. not_below_itself cmp total x less)) in
-            ap (λ ys. x ∷ ys) (same ∙ sym itself) ∙ ap (λ y. y ∷ filter (passes_on y) (x ∷ xs)) here
-        by true is_after false is_open is rest = rest is ∙ ap (λ ys. c ∷ ys) (sym (behind is))
-        by false is_after w is_open is rest = rest is ∙ ap (λ ys. c ∷ ys) (sym (behind is))
+    sieve c (x ∷ xs) sorted is = grind (arith, sieve c xs sorted.1, found_has (λ y. cmp x y ≡ Less) passes c xs sorted.0, not_less c x, not_below_itself cmp total x, filter_same passes (passes_on x) xs, above x xs, not_less x x (λ less. not_below_itself cmp total x less))
 
     -- and as it is cut off
     pub sieve_on : (c : R) (ys xs : List R) → IsStrictlySortedBy cmp xs → filter passes xs ≡ c ∷ ys → ys ≡ filter (passes_on c) xs

@@ -1,5 +1,5 @@
 -- A farm whose rows change in their places keeps the claims of some numbers, and its queue with them.
-use Rattle.std.proofs.Common.{◌&&◌, ◌++◌, ◌==◌, ◌∙◌, ◌∷◌, ◌≡◌, Bool, List, ap, cond, false, inl, inr, map, not, refl, sym, true, ℕ, [], arith, ◌+◌, ◌-◌, ◌≤◌}
+use Rattle.std.proofs.Common.{[], ◌&&◌, ◌++◌, ◌==◌, ◌∙◌, ◌∷◌, ◌≡◌, Bool, List, ap, cond, false, inl, inr, map, not, refl, sym, true, ℕ, arith, ◌+◌, ◌-◌, ◌≤◌}
 use Rattle.std.proofs.Common.{IsNone, Some, subst, suc, zero}
 use mathlib.Core.Bool.{true≢false}
 use Rattle.farm_pick.proofs.Names.{AllByRecursion, AllByRecursion-both, AllByRecursion-weaker, and-false, and-true, BoardRow, by_cases, cases_eq, claim_total}
@@ -89,12 +89,7 @@ one_any test pass x (y ∷ xs) at is passes = grind (arith, one_any test pass x 
 -- where x alone passes the second test, one of those that pass the first does so if x passes the first
 pub any_own : {A : Type 0} (test own : A → Bool) (x : A) (xs : List A) → IsAmong x xs → own x ≡ true → AllByRecursion (λ q. own q ≡ true → q ≡ x) xs
     → list_any own (filter test xs) ≡ test x
-any_own {A = A} test own x xs at is only = by (test x) refl
-  where
-    by : (v : Bool) → test x ≡ v → list_any own (filter test xs) ≡ v
-    by true passes = one_any test own x xs at passes is
-    by false fails = none_any own (filter test xs) (AllByRecursion-weaker
-        (λ q two. false_from_ne_true (own q) (λ same. true≢false (sym two.1 ∙ ap test (two.0 same) ∙ fails))) (filter test xs) (filter_all (λ q. own q ≡ true → q ≡ x) test xs only))
+any_own {A = A} test own x xs at is only = grind (arith, one_any test own x xs at, none_any own (filter test xs), AllByRecursion-weaker, false_from_ne_true, filter_all (λ q. own q ≡ true → q ≡ x) test xs only)
 
 -- ---- the queue of some of the claims
 
@@ -181,18 +176,7 @@ module _ (F G : Farm) (kept : ℕ → Bool) (fj : JobRow → JobRow) (fr : ResRo
         ∙ list_all-map (λ v. v) waits (filter (of_group g) F.jobs)
 
     leads_after : (j : JobRow) → IsAmong j F.jobs → waits (fj j) ≡ (waits j && kept j.group) → leads_claim G (fj j) ≡ (leads_claim F j && kept j.group)
-    leads_after j at is =
-        (λ i. ((takes.same_job j).number i == (takes.same_job j).group i) && list_all waits (filter (of_group ((takes.same_job j).group i)) (takes.jobs i)))
-        ∙ by (kept j.group) refl
-      where
-        by : (v : Bool) → kept j.group ≡ v
-            → ((j.number == j.group) && list_all waits (filter (of_group j.group) (map fj F.jobs))) ≡ (leads_claim F j && v)
-        by true stays = ap (λ v. (j.number == j.group) && v) (all_same j.group stays) ∙ sym (and-true (leads_claim F j))
-        by false goes =
-            ap (λ v. (j.number == j.group) && v)
-            (one_fails (of_group j.group) waits (fj j) (map fj F.jobs) (among_map fj j F.jobs at)
-            (same_group j.group j ∙ itself j.group) (is ∙ ap (λ v. waits j && v) goes ∙ and-false (waits j)))
-            ∙ and-false (j.number == j.group) ∙ sym (and-false (leads_claim F j))
+    leads_after j at is = grind (arith, all_same j.group, and-true (leads_claim F j), one_fails (of_group j.group) waits (fj j) (map fj F.jobs) (among_map fj j F.jobs at) (same_group j.group j ∙ itself j.group), among_map fj j F.jobs at, same_group j.group j, itself j.group, and-false (waits j), and-false (j.number == j.group), and-false (leads_claim F j))
 
     claim_after : (j : JobRow) → group_claim G (fj j) ≡ group_claim F j
     claim_after j =

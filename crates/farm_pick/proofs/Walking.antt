@@ -1,5 +1,5 @@
 -- A walk over several queues lends the claims in the order of the whole queue.
-use Rattle.std.proofs.Common.{◌≡◌, ◌∙◌, ◌&&◌, ◌<◌, ◌≤◌, ◌+◌, ◌++◌, ◌==◌, ◌⊎◌, ℕ, zero, suc, List, [], ◌∷◌, length, map, get_or, slice_set, Bool, true, false}
+use Rattle.std.proofs.Common.{[], ◌≡◌, ◌∙◌, ◌&&◌, ◌<◌, ◌≤◌, ◌+◌, ◌++◌, ◌==◌, ◌⊎◌, ℕ, zero, suc, List, ◌∷◌, length, map, get_or, slice_set, Bool, true, false}
 use Rattle.std.proofs.Common.{cond, Option, Some, None, IsSome, is_some, inl, inr, refl, sym, ap, subst, arith}
 use mathlib.Core.Bool.{true≢false}
 use Rattle.farm_pick.proofs.Names.{all_true, AllByRecursion, among_has, both, Claim, false_from_ne_true, find, found_passes, get_or_default, is_eq, is_gt}
@@ -56,22 +56,12 @@ found_at [] sorted e at = absurd at
 found_at (d ∷ es) sorted e (inl same) =
     ap (λ o. cond (is_eq o) (Some d.1) (claim_at es e.0)) (ap (spot_cmp e.0) (sym (ap (λ (x : Spot × Claim). x.0) same)) ∙ tied_itself spot_total e.0)
     ∙ ap (λ (x : Spot × Claim). Some x.1) (sym same)
-found_at (d ∷ es) sorted e (inr later) =
-    ap (λ o. cond (is_eq o) (Some d.1) (claim_at es e.0)) (spot_total.antisymm e.0 d.0 ∙ ap ordering_reverse less) ∙ found_at es sorted.1 e later
-  where
-    less : entry_cmp d e ≡ Less
-    less = among_has (λ (x : Spot × Claim). entry_cmp d x ≡ Less) e es sorted.0 later
+found_at (d ∷ es) sorted e (inr later) = grind (arith, found_at es sorted.1 e later, among_has (λ (x : Spot × Claim). entry_cmp d x ≡ Less) e es sorted.0 later)
 
 -- ---- a queue's first claim behind a spot
 
 entry_at : (es : List (Spot × Claim)) (t : Spot) → IsSome (claim_at es t) → (d : Spot × Claim) × IsAmong d es × (d.0 ≡ t)
-entry_at es t some = by (claim_at es t) refl some
-  where
-    by : (o : Option Claim) → claim_at es t ≡ o → IsSome o → (d : Spot × Claim) × IsAmong d es × (d.0 ≡ t)
-    by None is some = absurd (true≢false (sym some))
-    by (Some c) is some =
-        let e = found_entry (λ e. Unit {0}) (λ x. is_eq (spot_cmp t x)) c es (all_true es) is in
-        (e.0, e.4, one_spot t e.0.0 e.2)
+entry_at es t some = grind (arith, found_entry, all_true es, one_spot t)
 
 -- a spot behind another isn't in an earlier queue
 queue_rises : (s t : Spot) → is_gt (spot_cmp s t) ≡ false → s.queue ≤ t.queue

@@ -1,5 +1,5 @@
 -- States that meet the premises of laws over serving and importing.
-use Rattle.std.specs.Prelude.{◌≡◌, ◌≤◌, ℕ, List, [], ◌∷◌, length, Result, ⊤}
+use Rattle.std.specs.Prelude.{◌≡◌, ◌≤◌, ℕ, List, [], ◌∷◌, length}
 use Rattle.sqlite.specs.Held.{Held, state}
 use Rattle.sqlite.specs.State.{HasCleanDisk}
 use Rattle.sqlite.specs.Tree.{Trees}
@@ -12,22 +12,18 @@ use Rattle.farm_keep.specs.Lives.{OpensOn}
 use Rattle.farm_serve.specs.Connections.{AreServedInTurn, Connection}
 use Rattle.farm_serve.specs.DeskLives.{AreDeskLives, DeskLife}
 use Rattle.farm_serve.specs.Imports.{IsImport}
-use Rattle.farm_serve.specs.Serving.{ServesUntil}
-use Rattle.farm_serve.specs.declared.fault.DeskFault.{DeskFault}
 use Rattle.farm_serve.specs.declared.lab_import.ImportEnd.{ImportEnd}
 
--- the premises of `found_after_serving` and `found_after_any_clients`: the connection was opened on
--- what a stop left of a keeper that served one client
+-- the premises of `found_after_serving`: the connection was opened on what a stop left of a keeper
+-- that served one client
 pub record IsServed {S : Type 0} (g : Ghosts S) (Sure : Type 0) (conn : Held S) : Type 0 where
   pub old : KeeperState S
   pub new : KeeperState S
   pub connections : List Connection
   pub one : length connections ≡ 1
-  pub end : Result ⊤ DeskFault
   pub sound : IsSound old.farm.farm
   pub keeps : KeepsOwnFarm g old
   pub served : AreServedInTurn g Sure connections old new
-  pub serves : ServesUntil g old new 1 end
   pub clean : HasCleanDisk (state g new.conn)
   pub left : Trees
   pub may : (state g new.conn).may_leave left

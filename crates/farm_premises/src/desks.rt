@@ -16,8 +16,7 @@ const REQUEST: &[u8] = b"GET /status HTTP/1.1\r\n\r\n";
 const LAB: &[u8] = b"[types.rpi4]\n";
 
 /// A desk adopted an empty farm, served one client and was stopped, and its store was opened again:
-/// the premises of `found_after_serving`, `found_after_any_clients` and
-/// `desk_lives_keep_what_was_answered`.
+/// the premises of `found_after_serving` and `desk_lives_keep_what_was_answered`.
 pub fn serving_can_be_met(alloc: Global) -> Option<Connection<MemStore>>
     ensures served { IfSome result (λ conn. IsServed over_memory ⊤ conn) }
     ensures lives { IfSome result (λ conn. IsLeftByDesk over_memory ⊤ conn) }

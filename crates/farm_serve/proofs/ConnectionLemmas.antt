@@ -1,5 +1,5 @@
 -- Conversations with one client after another.
-use Rattle.std.proofs.Common.{◌≡◌, ◌≢◌, ◌≤◌, ◌+◌, ◌⊎◌, ℕ, List, [], ◌∷◌, ◌++◌, Bool, true, false, length, map, refl, sym, ap, subst, ◌∙◌, arith, Some, None}
+use Rattle.std.proofs.Common.{◌≡◌, ◌≢◌, ◌≤◌, ◌+◌, ◌⊎◌, ℕ, List, [], ◌∷◌, ◌++◌, Bool, true, false, length, map, refl, sym, ap, subst, ◌∙◌, arith, Some, None, IsSome}
 use Rattle.std.proofs.Common.{Err, inl, inr}
 use Rattle.std.specs.Prelude.{Option, Result}
 use Rattle.farm_serve.proofs.Names.{append_assoc, DeskFault, Ghosts, KeeperState, length-append}
@@ -76,10 +76,10 @@ of_one (Some before) (Some mid) (Some after) connection arrives departs =
 -- one arrives, and departs once it was conversed with
 pub connections_one : {S : Type 0} (g : Ghosts S) (Sure : Type 0) (before mid after : Option ClientList) (old new : KeeperState S) (now : ℕ) (input output : Option (List ℕ))
     (Room : ℕ → Type 0) (departure : Departure) (Whole : Type 0)
-    → old.is_open ≡ true → Accepts before mid now input output Room → Departs mid after departure
+    → old.is_open ≡ true → (Sure → IsSome input) → Accepts before mid now input output Room → Departs mid after departure
     → ConversesOnce g (desk old input output) (desk new departure.input departure.output) now Sure Room
     → ServesInTurn g Sure before after old new 1 Whole
-connections_one g Sure before mid after old new now input output Room departure Whole opened accepts departs conversation =
+connections_one g Sure before mid after old new now input output Room departure Whole opened heard accepts departs conversation =
     let arrival : Arrival = record { now = now; input = input; output = output; capacity = accepts.capacity } in
     let connection : Connection = record { arrival = arrival; departure = departure; end = conversation.end } in
     let complete : IsComplete g (desk old input output) (desk new departure.input departure.output) now Sure (HasRoom accepts.capacity output) conversation.end = record {
@@ -89,7 +89,7 @@ connections_one g Sure before mid after old new now input output Room departure 
     record {
       connections = connection ∷ [];
       few = omega arith;
-      in_turn = (new, record { was_open = opened; converses = conversation.converses; complete = complete }, refl);
+      in_turn = (new, record { was_open = opened; heard = heard; converses = conversation.converses; complete = complete }, refl);
       clients = of_one before mid after connection accepts.arrives departs;
       all = λ _. inl refl;
     }

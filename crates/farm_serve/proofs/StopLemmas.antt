@@ -124,37 +124,6 @@ served_left g Sure (connection ∷ connections) old new db h keeps clean may =
     split g Sure connection connections old h.0 new db h.0.is_open refl h.1 h.2 keeps clean may
     (λ kept. served_left g Sure connections h.0 new db h.2 kept clean may)
 
--- ---- clients of whom nothing is known
-
-pub record LeftSome (db : Trees) (F : Farm) (max : ℕ) : Type 0 where
-  pub done : List Call
-  pub few : length done ≤ max
-  pub holds : Holds db (rows_of (run F done))
-
-pub some_left : {S A : Type 0} (g : Ghosts S) (old new : KeeperState S) (max : ℕ) (end : Result A DeskFault) (db : Trees) → ServesUntil g old new max end → KeepsOwnFarm g old
-    → HasCleanDisk (state g new.conn) → (state g new.conn).may_leave db → LeftSome db old.farm.farm max
-some_left g old new max (Ok done) db it keeps clean may = record {
-  done = it.calls;
-  few = it.few;
-  holds = subst (λ F. Holds db (rows_of F)) it.reaches.farm (((it.reaches.keeps keeps) clean).left db may);
-}
-some_left g old new max (Err (DeskFault.Keep KeepFault.NoMemory)) db it keeps clean may =
-    record { done = it.calls; few = omega (arith, it.few); holds = ((it.leaves keeps) clean).left db may }
-some_left g old new max (Err (DeskFault.Keep KeepFault.Store)) db it keeps clean may = elim (it.leaves keeps clean db may) [
-  | inl before ↦ record { done = it.calls; few = omega (arith, it.few); holds = before }
-  | inr after ↦ record {
-    done = it.calls ++ it.call ∷ [];
-    few = omega (arith, it.few, length-append it.calls (it.call ∷ []));
-    holds = subst (λ F. Holds db (rows_of F)) (sym (fold-append step old.farm.farm it.calls (it.call ∷ []))) after;
-  }
-]
-some_left g old new max (Err (DeskFault.Keep KeepFault.Closed)) db it keeps clean may = record {
-  done = [];
-  few = omega arith;
-  holds = ((subst (λ (k : KeeperState _). KeepsFarm g k old.farm.farm) (sym it.unchanged) keeps) clean).left db may;
-}
-some_left g old new max end db it keeps clean may = absurd it
-
 -- ---- an import
 
 -- by how it ended: these trees hold the farm after so many of its calls

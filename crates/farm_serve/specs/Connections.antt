@@ -1,5 +1,5 @@
 -- Connections, one after another: a client arrives, is conversed with, and departs.
-use Rattle.std.specs.Prelude.{◌≡◌, ◌≤◌, ◌⊎◌, ℕ, true, List, [], ◌∷◌, ◌++◌, map, length, Option, Some, None, Result}
+use Rattle.std.specs.Prelude.{◌≡◌, ◌≤◌, ◌⊎◌, ℕ, true, List, [], ◌∷◌, ◌++◌, map, length, Option, Some, None, IsSome, Result}
 use Rattle.sqlite_trees.specs.declared.store.Store.{Ghosts}
 use Rattle.farm_keep.specs.KeeperState.{KeeperState}
 use Rattle.farm_serve.specs.Clients.{Arrival, Departure, ClientList, HasRoom, IsOver}
@@ -12,11 +12,13 @@ pub record Connection : Type 0 where
   pub departure : Departure
   pub end : Result ℕ DeskFault
 
--- an open keeper converses with it, at the moment it arrived; where readers never fail its request
--- is received, and where its writer has room for what is due it is answered
+-- an open keeper converses with it, at the moment it arrived; where readers never fail it is known
+-- what they have, and its request is received; and where its writer has room for what is due it is
+-- answered
 pub record IsConnection {S : Type 0} (g : Ghosts S) (Sure : Type 0) (old new : KeeperState S)
     (connection : Connection) : Type 0 where
   pub was_open : old.is_open ≡ true
+  pub heard : Sure → IsSome connection.arrival.input
   pub converses : Converses g (desk old connection.arrival.input connection.arrival.output)
       (desk new connection.departure.input connection.departure.output) connection.arrival.now
       connection.end

@@ -14,4 +14,4 @@ pub use Rattle.farm_serve.specs.Received.{Asks, IsMeant, plain_ask, Receives, Re
 pub use Rattle.farm_serve.specs.Response.{Closes, IsCause, IsResponse, IsResponseTo, RunsOutOfMemory, UnchangedOrDone}
 pub use Rattle.farm_serve.specs.Scripts.{client_list_of}
 pub use Rattle.farm_serve.specs.Serving.{LeavesAfter, PassesOn, Reaches, ServesClients, ServesUntil, ServingCloses}
-pub use Rattle.farm_serve.specs.Stops.{Do, GivesCalls, GivesImported, GivesServed, GivesSome}
+pub use Rattle.farm_serve.specs.Stops.{Do, GivesCalls, GivesImported, GivesServed}

@@ -55,13 +55,6 @@ pub record GivesServed (result : Result Shown KeepFault) (F : Farm) (connections
   pub does : Do F connections done
   pub gives : GivesFarm result (run F done)
 
--- the farm is found after some calls, at most so many: what is known where nothing is known of the
--- clients
-pub record GivesSome (result : Result Shown KeepFault) (F : Farm) (max : ℕ) : Type 0 where
-  pub done : List Call
-  pub few : length done ≤ max
-  pub gives : GivesFarm result (run F done)
-
 -- ---- an import
 
 -- a stop after an import leaves so many of its calls done: those that were done or, after a fault

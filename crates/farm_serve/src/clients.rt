@@ -1,5 +1,5 @@
 //! Where clients come from: a trait over sockets and over scripted clients.
-ghost use Rattle.std.specs.Prelude.{◌≡◌, Option, MatchOption, IsSome, IsTrue};
+ghost use Rattle.std.specs.Prelude.{◌≡◌, Option, MatchOption, IfSome, IsSome, IsTrue};
 ghost use Rattle.farm_serve.specs.Clients.{ClientList, Accepts, Departs, IsOver};
 
 use farm_http::{Input, Output};
@@ -40,7 +40,11 @@ pub trait Clients {
             (λ client. Accepts (client_list self.old) (client_list self.new) client.now
             (Self.Reader.remaining client.reader) (Self.Writer.contents client.writer)
             (Self.Writer.has_room client.writer)) }
-        ensures has_open { IsSome result → has_open self.new };
+        ensures has_open { IsSome result → has_open self.new }
+
+        // Of a reader that never fails it is known what it has.
+        ensures heard { Self.Reader.never_fails
+            → IfSome result (λ client. IsSome (Self.Reader.remaining client.reader)) };
 
     /// Closes the client that was accepted last.
     fn close(&mut self, reader: Self::Reader, writer: Self::Writer)

@@ -12,7 +12,7 @@ ghost use Rattle.farm_serve.specs.Names.{all_connections, AnsweredActAsRun, Answ
 ghost use Rattle.farm_serve.specs.Names.{AreDeskLives, AreServedInTurn, client_list_of};
 ghost use Rattle.farm_serve.specs.Names.{ClosedKeepsPrefix, Connection as Link, Conversation};
 ghost use Rattle.farm_serve.specs.Names.{ConverseApart, ConverseInTurn, Desk, desk, DeskLife};
-ghost use Rattle.farm_serve.specs.Names.{EndsWritten, GivesImported, GivesServed, GivesSome};
+ghost use Rattle.farm_serve.specs.Names.{EndsWritten, GivesImported, GivesServed};
 ghost use Rattle.farm_serve.specs.Names.{HasNoRoom, IsAnswered, IsAnsweredAgain, IsImport};
 ghost use Rattle.farm_serve.specs.Names.{IsResponse, IsUnwritten, OpenKeepsDone, ServesInTurn};
 ghost use Rattle.farm_serve.specs.Names.{ServesUntil, StopsAt};
@@ -134,8 +134,9 @@ pub fn conversations_keep_a_prefix<S: Alter>()
 /// The crash prefix of what the program does: after any clients were served, by whatever ended it,
 /// what a stop leaves is found again as exactly the farm after calls that the clients' bytes ask,
 /// in their order, with every one that was answered whole. `AreServedInTurn` is what `serve`
-/// ensures of its clients, and holds of each front of them too: so a stop between two of them is
-/// meant as well. It is `found`, on a store that was opened on what was left.
+/// ensures of its clients, and farm_desk's `serve_on` of a listener's, whose bytes are known once
+/// they came; it holds of each front of them too: so a stop between two of them is meant as well.
+/// It is `found`, on a store that was opened on what was left.
 pub fn found_after_serving<S: Alter, K: Clients>(
     alloc: Global,
     conn: &mut Connection<S>,
@@ -149,25 +150,6 @@ pub fn found_after_serving<S: Alter, K: Clients>(
         → (left : Trees) → (state S.Store new.conn).may_leave left
         → OpensOn (state S.Store conn.old) left
         → GivesServed result old.farm.farm connections }
-{
-    opened_stands(conn);
-    found(alloc, conn)
-}
-
-/// The same of clients of whom nothing is known, as those of a listener: `ServesUntil` is what
-/// `serve` ensures of any, and farm_desk's `serve_on` too.
-pub fn found_after_any_clients<S: Alter>(
-    alloc: Global,
-    conn: &mut Connection<S>,
-) -> Result<Farm, KeepFault>
-    requires { conn.old.in_transaction ≡ false }
-    ensures { HasCleanDisk (state S.Store conn.new)
-        → (old new : KeeperState S) (max : ℕ) (end : Result ⊤ DeskFault)
-        → IsSound old.farm.farm → KeepsOwnFarm S.Store old
-        → ServesUntil S.Store old new max end → HasCleanDisk (state S.Store new.conn)
-        → (left : Trees) → (state S.Store new.conn).may_leave left
-        → OpensOn (state S.Store conn.old) left
-        → GivesSome result old.farm.farm max }
 {
     opened_stands(conn);
     found(alloc, conn)

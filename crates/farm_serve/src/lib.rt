@@ -38,6 +38,6 @@ pub use fault::DeskFault;
 // What is proved of conversations: functions that only proofs read.
 pub use laws::{
     answered_act_as_run, conversations_join, conversations_keep_a_prefix, converse_in_memory,
-    converse_in_turn, desk_lives_keep_what_was_answered, found_after_any_clients,
-    found_after_import, found_after_serving, request_answered_again, serve_in_memory,
+    converse_in_turn, desk_lives_keep_what_was_answered, found_after_import, found_after_serving,
+    request_answered_again, serve_in_memory,
 };

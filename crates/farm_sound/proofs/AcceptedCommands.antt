@@ -1,7 +1,7 @@
 -- The commands, where they aren't refused: what they leave.
-use Rattle.std.proofs.Common.{Bool, IfSome, IsSome, IsSomeAnd, IsTrue, List, None, Option, Some, [], ap, arith, false, is_none, is_some, length, nat_le, not}
+use Rattle.std.proofs.Common.{[], Bool, IfSome, IsSome, IsSomeAnd, IsTrue, List, None, Option, Some, ap, arith, false, is_none, is_some, length, nat_le, not}
 use Rattle.std.proofs.Common.{refl, subst, sym, true, ℕ, ◌&&◌, ◌+◌, ◌==◌, ◌||◌, ◌∙◌, ◌∷◌, ◌≡◌}
-use Rattle.farm_sound.proofs.Names.{AllByRecursion-weaker, board_of, BoardRow, bytes_eq, Cmd, false≢true, Farm, filter, Health, is_utf8, job_of, JobRow}
+use Rattle.farm_sound.proofs.Names.{AllByRecursion-weaker, board_of, BoardRow, bytes_eq, Cmd, Farm, filter, Health, is_utf8, job_of, JobRow}
 use Rattle.farm_sound.proofs.Names.{JobState, list_all, list_any, members, nat_tests, option_map_or, put_board, res_of, ResRow, ResState, State, type_of, Want}
 use Rattle.farm_types.specs.Names.{act, board_exists, board_is_held, board_is_retired, can_cancel, cancel_group, checks, done_with, expire, finish_one}
 use Rattle.farm_types.specs.Names.{first_code, forbidden, giving_back, has_no_name_tag, has_room, is_alive, is_dead, is_frequency, is_nobody, is_priority}
@@ -25,12 +25,7 @@ use Rattle.farm_sound.proofs.Passed.{IsSound-pass}
 
 wanted : (F : Farm) (w : Want) → (option_map_or (λ kind. is_none (type_of F kind)) w.kind false) ≡ false → (is_some w.kind && is_want w) ≡ true
     → IsSomeAnd w.kind (λ kind. IsSome (type_of F kind)) × IsTrue (is_want w)
-wanted F w clear proper = (by w.kind clear (both (is_some w.kind) (is_want w) proper).0, (both (is_some w.kind) (is_want w) proper).1)
-  where
-    by : (o : Option (List ℕ)) → option_map_or (λ kind. is_none (type_of F kind)) o false ≡ false → is_some o ≡ true
-        → IsSomeAnd o (λ kind. IsSome (type_of F kind))
-    by None clear some = absurd (false≢true some)
-    by (Some kind) clear some = IsSome-from (type_of F kind) clear
+wanted F w clear proper = grind arith
 
 named : (r : Option (List ℕ)) → option_map_or (is_word longest_name) r true ≡ true → IfSome r IsName
 named None is = tt

@@ -1,6 +1,6 @@
 -- A row with the next number is added.
-use Rattle.std.proofs.Common.{◌+◌, ◌<◌, ◌==◌, ◌∙◌, ◌≡◌, Bool, IsNone, IsSomeAnd, List, None, Option, Some, ap, arith, cond, false, length, refl, subst, sym}
-use Rattle.std.proofs.Common.{true, ℕ}
+use Rattle.std.proofs.Common.{◌+◌, ◌<◌, ◌==◌, ◌∙◌, ◌≡◌, IsNone, IsSomeAnd, List, None, Option, Some, ap, arith, cond, false, length, refl, subst, sym}
+use Rattle.std.proofs.Common.{ℕ}
 use Rattle.farm_sound.proofs.Names.{AllByRecursion, AllByRecursion-put, AllByRecursion-weaker, BoardRow, bytes_eq, Equal, Farm, find, find_put_is, found_has}
 use Rattle.farm_sound.proofs.Names.{found_passes, Holder, IsTotalOrder, job_of, JobRow, length_put, nat_cmp, nat_cmp_total, nat_tests, on_total, option_map_or}
 use Rattle.farm_sound.proofs.Names.{put_sorted, ranked, res_of, ResRow, tied_itself}
@@ -49,13 +49,7 @@ module _ {R : Type 0} (number : R → ℕ) (row : R) (rows : List R) where
   pub hold_added : (held : R → Option Hold) → find (λ r. number r == number row) rows ≡ None → held row ≡ None → (n : ℕ)
       → option_map_or held (find (λ r. number r == n) (put (λ a b. nat_cmp (number a) (number b)) rows row)) None
       ≡ option_map_or held (find (λ r. number r == n) rows) None
-  hold_added held fresh nothing n = ap (λ o. option_map_or held o None) (find_added n) ∙ by (number row == n) refl
-    where
-      by : (v : Bool) → (number row == n) ≡ v
-          → option_map_or held (cond v (Some row) (find (λ r. number r == n) rows)) None ≡ option_map_or held (find (λ r. number r == n) rows) None
-      by true same = let e : number row ≡ n = same_number (number row) n same in
-          nothing ∙ sym (ap (λ k. option_map_or held (find (λ r. number r == k) rows) None) (sym e) ∙ ap (λ o. option_map_or held o None) fresh)
-      by false other = refl
+  hold_added held fresh nothing n = grind (arith, find_added n, same_number (number row) n, nat_tests)
 
 -- ---- a job
 

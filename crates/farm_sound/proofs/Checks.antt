@@ -1,12 +1,12 @@
 -- The checks of a pass keep soundness.
-use Rattle.std.proofs.Common.{◌&&◌, ◌+◌, ◌<◌, ◌==◌, ◌||◌, ◌∙◌, ◌∷◌, ◌≡◌, ◌⊎◌, Bool, IsNone, IsSome, IsTrue, List, None, Option, Some, ap, arith, codes, cond}
-use Rattle.std.proofs.Common.{false, inl, inr, length, nat_le, refl, subst, sym, true, ℕ, []}
+use Rattle.std.proofs.Common.{[], ◌&&◌, ◌+◌, ◌<◌, ◌==◌, ◌||◌, ◌∙◌, ◌∷◌, ◌≡◌, ◌⊎◌, Bool, IsNone, IsSome, IsTrue, List, None, Some, ap, arith, codes, cond}
+use Rattle.std.proofs.Common.{false, inl, inr, length, nat_le, refl, subst, sym, true, ℕ}
 use Rattle.farm_sound.proofs.Names.{AllByRecursion, AllByRecursion-weaker, board_of, BoardRow, bytes_eq, bytes_eq-Decides, Check, false≢true, Farm, filter}
 use Rattle.farm_sound.proofs.Names.{fold, found_has, found_passes, Health, Holder, is_eq, is_eq-slice_cmp, job_of, JobRow, Less}
 use Rattle.std.specs.List.Sorted.{IsStrictlySortedBy}
-use Rattle.farm_sound.proofs.Names.{nat_list_eq_equiv, nat_tests, option_map_or, type_of, TypeRow}
+use Rattle.farm_sound.proofs.Names.{nat_list_eq_equiv, nat_tests, option_map_or, type_of}
 use Rattle.farm_types.specs.Names.{board_cmp, check_job, check_of, check_one, checks, has_room, highest_priority, hold_of, is_due, is_due_by, is_nobody}
-use Rattle.farm_types.specs.Names.{is_reached, is_tags, is_want, is_word, IsBoardRow, IsJobRow, IsName, IsSound, IsSteady, IsTypeRow, job_hold, most_jobs}
+use Rattle.farm_types.specs.Names.{is_reached, is_tags, is_want, is_word, IsBoardRow, IsJobRow, IsName, IsSound, IsSteady, job_hold, most_jobs}
 use Rattle.farm_types.specs.Names.{numbers_end, same_health}
 use Rattle.farm_sound.proofs.Add.{IsSteady-add_job, add_job, job_of-add}
 use Rattle.farm_sound.proofs.Collecting.{IsCollecting-add, next_collects_not}
@@ -31,12 +31,7 @@ want_of_kind kind name = rw name refl
 
 -- a type that is there has a name
 kind_name : (F : Farm) (kind : List ℕ) → IsSteady F → IsSome (type_of F kind) → IsName kind
-kind_name F kind steady some = by (type_of F kind) refl some
-  where
-    by : (o : Option TypeRow) → type_of F kind ≡ o → IsSome o → IsName kind
-    by None is some = absurd (false≢true some)
-    by (Some t) is some = subst IsName ((bytes_eq-Decides t.name kind).0 (found_passes (λ (r : TypeRow). bytes_eq r.name kind) t F.types is))
-        (found_has IsTypeRow (λ r. bytes_eq r.name kind) t F.types steady.types is).name
+kind_name F kind steady some = grind (arith, false≢true, bytes_eq-Decides, found_passes, found_has)
 
 module _ (F : Farm) (b : BoardRow) (free : IsFreeBoard F b) (sound : IsSound F) where
   abbrev row : JobRow

@@ -1,6 +1,6 @@
 -- A group that can't be served collects: each member in turn takes the first free board that fits it.
-use Rattle.std.proofs.Common.{◌&&◌, ◌==◌, ◌∙◌, ◌∷◌, ◌≡◌, ◌≤◌, ◌⊎◌, Bool, List, None, Option, Some, ap, arith, false, inl, inr, length, map, refl, subst, sym}
-use Rattle.std.proofs.Common.{true, ℕ, []}
+use Rattle.std.proofs.Common.{[], ◌&&◌, ◌==◌, ◌∙◌, ◌∷◌, ◌≡◌, ◌≤◌, ◌⊎◌, Bool, List, None, Option, Some, ap, arith, false, inl, inr, length, map, refl, subst, sym}
+use Rattle.std.proofs.Common.{true, ℕ}
 use Rattle.farm_sound.proofs.Names.{AllByRecursion, AllByRecursion-weaker, BoardRow, bytes_eq, false≢true, Farm, filter, find, fold, found_has, found_passes}
 use Rattle.farm_sound.proofs.Names.{job_of, JobRow, JobState, Less, list_all, members, option_map, option_map_or, ranked, ResRow, Want}
 use Rattle.std.specs.List.Sorted.{IsStrictlySortedBy}
@@ -31,25 +31,12 @@ pairs_for F (m ∷ ms) = option_map_or (λ b. (m, b) ∷ pairs_for (give_member 
 
 pub collect_is : (ms : List JobRow) (F : Farm) → fold collect_member F ms ≡ fold (give_member S) F (pairs_for F ms)
 collect_is [] F = refl
-collect_is (m ∷ ms) F = by (first_free F m.want) (collect_is ms F) (λ b. collect_is ms (give_member S F (m, b)))
-  where
-    by : (o : Option BoardRow) → fold collect_member F ms ≡ fold (give_member S) F (pairs_for F ms)
-        → ((b : BoardRow) → fold collect_member (give_member S F (m, b)) ms ≡ fold (give_member S) (give_member S F (m, b)) (pairs_for (give_member S F (m, b)) ms))
-        → fold collect_member (option_map_or (λ b. give_member S F (m, b)) o F) ms
-        ≡ fold (give_member S) F (option_map_or (λ b. (m, b) ∷ pairs_for (give_member S F (m, b)) ms) o (pairs_for F ms))
-    by None none some = none
-    by (Some b) none some = some b
+collect_is (m ∷ ms) F = grind (arith, collect_is ms F, collect_is ms)
 
 -- each is one of the members
 pub pairs_of : (P : JobRow → Type 0) (ms : List JobRow) (F : Farm) → AllByRecursion P ms → AllByRecursion (λ p. P p.0) (pairs_for F ms)
 pairs_of P [] F all = tt
-pairs_of P (m ∷ ms) F all = by (first_free F m.want) (pairs_of P ms F all.1) (λ b. pairs_of P ms (give_member S F (m, b)) all.1)
-  where
-    by : (o : Option BoardRow) → AllByRecursion (λ p. P p.0) (pairs_for F ms)
-        → ((b : BoardRow) → AllByRecursion (λ p. P p.0) (pairs_for (give_member S F (m, b)) ms))
-        → AllByRecursion (λ p. P p.0) (option_map_or (λ b. (m, b) ∷ pairs_for (give_member S F (m, b)) ms) o (pairs_for F ms))
-    by None none some = none
-    by (Some b) none some = (all.0, some b)
+pairs_of P (m ∷ ms) F all = grind (arith, pairs_of P ms F all.1, pairs_of P ms)
 
 pub first_is_free : (F : Farm) (want : Want) (b : BoardRow) → IsSteady F → first_free F want ≡ Some b → IsFreeBoard F b
 first_is_free F want b steady found =

@@ -1,7 +1,7 @@
 -- The group that collects boards, after jobs have changed, and farms with another collector.
-use Rattle.std.proofs.Common.{◌<◌, ◌==◌, ◌∙◌, ◌∷◌, ◌≡◌, ◌≤◌, Bool, List, ap, arith, cond, false, length, map, nat_lt, refl, subst, sym, true, ℕ, []}
-use Rattle.farm_sound.proofs.Names.{AllByRecursion, AllByRecursion-put, AllByRecursion-weaker, Equal, Farm, filter, Greater, JobRow, JobState, Less}
-use Rattle.farm_sound.proofs.Names.{match_ordering, nat_tests, Ordering, ranked}
+use Rattle.std.proofs.Common.{[], ◌<◌, ◌==◌, ◌∙◌, ◌∷◌, ◌≡◌, ◌≤◌, Bool, List, ap, arith, length, map, refl, subst, sym, true, ℕ}
+use Rattle.farm_sound.proofs.Names.{AllByRecursion, AllByRecursion-put, AllByRecursion-weaker, Equal, Farm, filter, JobRow, JobState}
+use Rattle.farm_sound.proofs.Names.{nat_tests, ranked}
 use Rattle.farm_types.specs.Names.{change_where, IsCollecting, IsHeldByKeys, IsJobRow, IsSteady, job_cmp, phase, put}
 use Rattle.farm_sound.proofs.Add.{IsHeldByKeys-same_rows, job_total}
 use Rattle.farm_sound.proofs.Grow.{IsSteady-edited, no_edit, rows_grow}
@@ -63,23 +63,7 @@ none_scheduling c jobs zero_is is = AllByRecursion-weaker (λ j only e. let o = 
 more_put : (test : JobRow → Bool) (row : JobRow) (jobs : List JobRow) → AllByRecursion (λ r. job_cmp row r ≡ Equal → ⊥) jobs
     → length (filter test jobs) ≤ length (filter test (put job_cmp jobs row))
 more_put test row [] fresh = omega arith
-more_put test row (r ∷ jobs) fresh = by (job_cmp row r) refl (more_put test row jobs fresh.1)
-  where
-    less : (v w : Bool) → length (cond v (r ∷ filter test jobs) (filter test jobs))
-        ≤ length (cond w (row ∷ cond v (r ∷ filter test jobs) (filter test jobs)) (cond v (r ∷ filter test jobs) (filter test jobs)))
-    less v true = omega arith
-    less v false = omega arith
-
-    more : (v : Bool) → length (filter test jobs) ≤ length (filter test (put job_cmp jobs row))
-        → length (cond v (r ∷ filter test jobs) (filter test jobs)) ≤ length (cond v (r ∷ filter test (put job_cmp jobs row)) (filter test (put job_cmp jobs row)))
-    more true rest = omega arith
-    more false rest = rest
-
-    by : (o : Ordering) → job_cmp row r ≡ o → length (filter test jobs) ≤ length (filter test (put job_cmp jobs row))
-        → length (filter test (r ∷ jobs)) ≤ length (filter test (match_ordering o (row ∷ r ∷ jobs) (row ∷ jobs) (r ∷ put job_cmp jobs row)))
-    by Less is rest = less (test r) (test row)
-    by Equal is rest = absurd (fresh.0 is)
-    by Greater is rest = more (test r) rest
+more_put test row (r ∷ jobs) fresh = grind (arith, more_put test row jobs fresh.1)
 
 pub IsCollecting-add : (F : Farm) (row : JobRow) → IsSteady F → row.number ≡ F.next → (row.state ≡ JobState.Scheduling → ⊥)
     → (1 ≤ F.collector → row.group ≡ F.collector → phase row.state ≡ 0) → IsCollecting F.collector F.jobs
@@ -99,21 +83,7 @@ IsCollecting-add F row steady next apart waiting is = record {
 
 -- the collector is a number that was given
 pub collector_low : (F : Farm) → IsSteady F → IsCollecting F.collector F.jobs → F.collector < F.next
-collector_low F steady is = by (nat_lt F.collector F.next) refl
-  where
-    other : F.next ≤ F.collector → (r : JobRow) → IsJobRow F r → (r.group == F.collector) ≡ false
-    other high r one = let a = one.number.1 in let b = one.group.0 in grind (arith, nat_tests)
-
-    none : F.next ≤ F.collector → length (filter (λ r. r.group == F.collector) F.jobs) ≡ 0
-    none high = ap length (none_pass (λ r. r.group == F.collector) F.jobs (AllByRecursion-weaker (λ r one. other high r one) F.jobs steady.jobs))
-
-    by : (v : Bool) → nat_lt F.collector F.next ≡ v → F.collector < F.next
-    by true at = grind (arith, nat_tests)
-    by false at =
-        let high : F.next ≤ F.collector = (grind (arith, nat_tests)) in
-        let low = steady.next.0 in
-        let two = is.several (omega (arith, high, low)) in
-        absurd (omega (arith, two, none high))
+collector_low F steady is = grind (arith, none_pass (λ r. r.group == F.collector) F.jobs, AllByRecursion-weaker, is.several, nat_tests)
 
 -- so the next number is no collector's
 pub next_collects_not : (F : Farm) → IsSteady F → IsCollecting F.collector F.jobs → 1 ≤ F.collector → F.next ≡ F.collector → ⊥

@@ -1,5 +1,6 @@
 -- Rows with different keys are put in any order.
-use Rattle.std.proofs.Common.{◌∙◌, ◌∷◌, ◌≡◌, List, ap, refl, sym, []}
+use native.Mathlib.Omega.{arith}
+use Rattle.std.proofs.Common.{[], ◌∙◌, ◌∷◌, ◌≡◌, List, ap, refl, sym}
 use Rattle.farm_sound.proofs.Names.{Equal, Greater, IsTotalOrder, Less, match_ordering, Ordering, ordering_reverse}
 use Rattle.farm_types.specs.Names.{put}
 
@@ -15,12 +16,7 @@ module _ {R : Type 0} (cmp : R → R → Ordering) (total : IsTotalOrder cmp) wh
   -- two rows that both stand below the others
   both_first : (a b : R) (rows : List R) → (cmp a b ≡ Equal → ⊥) → put cmp rows a ≡ a ∷ rows → put cmp rows b ≡ b ∷ rows
       → put cmp (a ∷ rows) b ≡ put cmp (b ∷ rows) a
-  both_first a b rows apart first second = by (cmp a b) refl
-    where
-      by : (o : Ordering) → cmp a b ≡ o → put cmp (a ∷ rows) b ≡ put cmp (b ∷ rows) a
-      by Less is = put_by Greater b a rows (flip a b Less is) ∙ ap (λ rest. a ∷ rest) second ∙ sym (put_by Less a b rows is)
-      by Equal is = absurd (apart is)
-      by Greater is = put_by Less b a rows (flip a b Greater is) ∙ ap (λ rest. b ∷ rest) (sym first) ∙ sym (put_by Greater a b rows is)
+  both_first a b rows apart first second = grind arith
 
   -- one below the first row or at it, and one above it
   parted : (a b r : R) (rows : List R) → cmp b r ≡ Greater → ((xs : List R) → put cmp (r ∷ xs) a ≡ a ∷ r ∷ xs) → cmp b a ≡ Greater
@@ -43,23 +39,4 @@ module _ {R : Type 0} (cmp : R → R → Ordering) (total : IsTotalOrder cmp) wh
 
   pub puts_commute : (a b : R) → (cmp a b ≡ Equal → ⊥) → (rows : List R) → put cmp (put cmp rows a) b ≡ put cmp (put cmp rows b) a
   puts_commute a b apart [] = both_first a b [] apart refl refl
-  puts_commute a b apart (r ∷ rows) = by (puts_commute a b apart rows) (cmp a r) refl (cmp b r) refl
-    where
-      above_both : (x y : R) → cmp x r ≡ Greater → cmp y r ≡ Less → cmp x y ≡ Greater
-      above_both x y up down = flip y x Less (total.trans y r x down (flip x r Greater up))
-
-      by : put cmp (put cmp rows a) b ≡ put cmp (put cmp rows b) a → (o : Ordering) → cmp a r ≡ o → (p : Ordering) → cmp b r ≡ p
-          → put cmp (put cmp (r ∷ rows) a) b ≡ put cmp (put cmp (r ∷ rows) b) a
-      by rest Less is Less has =
-          ap (λ xs. put cmp xs b) (put_by Less a r rows is) ∙ both_first a b (r ∷ rows) apart (put_by Less a r rows is) (put_by Less b r rows has)
-          ∙ sym (ap (λ xs. put cmp xs a) (put_by Less b r rows has))
-      by rest Less is Equal has = beside a b r rows is has
-      by rest Less is Greater has = parted a b r rows has (λ xs. put_by Less a r xs is) (above_both b a has is)
-      by rest Equal is Less has = sym (beside b a r rows has is)
-      by rest Equal is Equal has = absurd (apart (total.congr a r b is ∙ flip b r Equal has))
-      by rest Equal is Greater has = replaced a b r rows is has
-      by rest Greater is Less has = sym (parted b a r rows is (λ xs. put_by Less b r xs has) (above_both a b is has))
-      by rest Greater is Equal has = sym (replaced b a r rows has is)
-      by rest Greater is Greater has =
-          ap (λ xs. put cmp xs b) (put_by Greater a r rows is) ∙ put_by Greater b r (put cmp rows a) has ∙ ap (λ xs. r ∷ xs) rest
-          ∙ sym (ap (λ xs. put cmp xs a) (put_by Greater b r rows has) ∙ put_by Greater a r (put cmp rows b) is)
+  puts_commute a b apart (r ∷ rows) = grind (arith, puts_commute a b apart rows)

@@ -1,6 +1,6 @@
 -- A group is given its boards, member by member.
-use Rattle.std.proofs.Common.{◌==◌, ◌||◌, ◌∙◌, ◌∷◌, ◌≡◌, ◌≤◌, ◌⊎◌, Bool, List, Some, ap, arith, cond, false, inl, inr, length, map, not, refl, subst, sym, true}
-use Rattle.std.proofs.Common.{ℕ, []}
+use Rattle.std.proofs.Common.{[], ◌==◌, ◌||◌, ◌∙◌, ◌∷◌, ◌≡◌, ◌≤◌, ◌⊎◌, Bool, List, Some, ap, arith, cond, false, inl, inr, length, map, not, refl, subst, sym, true}
+use Rattle.std.proofs.Common.{ℕ}
 use Rattle.farm_sound.proofs.Names.{AllByRecursion, AllByRecursion-weaker, BoardRow, bytes_eq, false≢true, Farm, filter, fold, job_of}
 use Rattle.std.specs.List.Sorted.{IsStrictlySortedBy}
 use Rattle.farm_sound.proofs.Names.{JobRow, JobState, Less, list_any, members, nat_list_eq_equiv, nat_tests, ranked, zip}
@@ -125,28 +125,13 @@ given_scheduled : (ps : List (JobRow × BoardRow)) (m : JobRow) → (m.state ≡
     → (given JobState.Scheduled ps m).state ≡ JobState.Scheduled
 given_scheduled [] m (inl is) = is
 given_scheduled [] m (inr at) = absurd at
-given_scheduled (p ∷ ps) m at = given_scheduled ps (cond (m.number == p.0.number) (placed_job JobState.Scheduled p.1.name m) m)
-    (by_cases (λ (k : JobRow). (k.state ≡ JobState.Scheduled) ⊎ HasNumber k.number ps) (m.number == p.0.number) (placed_job JobState.Scheduled p.1.name m) m
-    (λ _. inl refl) (λ other. left at other))
-  where
-    left : (m.state ≡ JobState.Scheduled) ⊎ HasNumber m.number (p ∷ ps) → (m.number == p.0.number) ≡ false
-        → (m.state ≡ JobState.Scheduled) ⊎ HasNumber m.number ps
-    left (inl is) other = inl is
-    left (inr (inl same)) other = let h : (m.number == p.0.number) ≡ true = (grind (arith, nat_tests)) in absurd (false≢true (sym other ∙ h))
-    left (inr (inr later)) other = inr later
+given_scheduled (p ∷ ps) m at = grind (arith, given_scheduled ps (cond (m.number == p.0.number) (placed_job JobState.Scheduled p.1.name m) m), nat_tests)
 
 -- a job is as it was, or in the state
 pub given_state : (state : JobState) (ps : List (JobRow × BoardRow)) (m : JobRow)
     → ((given state ps m).state ≡ m.state) ⊎ ((given state ps m).state ≡ state)
 given_state state [] m = inl refl
-given_state state (p ∷ ps) m =
-    by_cases (λ (k : JobRow). ((given state ps k).state ≡ m.state) ⊎ ((given state ps k).state ≡ state)) (m.number == p.0.number)
-    (placed_job state p.1.name m) m (λ _. placed_one (given_state state ps (placed_job state p.1.name m))) (λ _. given_state state ps m)
-  where
-    placed_one : ((given state ps (placed_job state p.1.name m)).state ≡ state) ⊎ ((given state ps (placed_job state p.1.name m)).state ≡ state)
-        → ((given state ps (placed_job state p.1.name m)).state ≡ m.state) ⊎ ((given state ps (placed_job state p.1.name m)).state ≡ state)
-    placed_one (inl is) = inr is
-    placed_one (inr is) = inr is
+given_state state (p ∷ ps) m = grind (arith, given_state state ps (placed_job state p.1.name m), given_state state ps m, nat_tests)
 
 -- it keeps its owner, its priority and its want
 pub given_same : (state : JobState) (ps : List (JobRow × BoardRow)) (m : JobRow)
@@ -162,18 +147,7 @@ given_other state (p ∷ ps) m all = ap (λ v. given state ps (cond v (placed_jo
 
 members_number : (group : ℕ) (jobs : List JobRow) → AllByRecursion (λ m. m.group ≡ group → IsNumberOf m.number (filter (λ r. r.group == group) jobs)) jobs
 members_number group [] = tt
-members_number group (m ∷ jobs) =
-    (here (m.group == group) refl, AllByRecursion-weaker (λ k at same. later (m.group == group) k (at same)) jobs (members_number group jobs))
-  where
-    here : (v : Bool) → (m.group == group) ≡ v → m.group ≡ group
-        → IsNumberOf m.number (cond v (m ∷ filter (λ r. r.group == group) jobs) (filter (λ r. r.group == group) jobs))
-    here true is same = inl refl
-    here false is same = let h : (m.group == group) ≡ true = (grind (arith, nat_tests)) in absurd (false≢true (sym is ∙ h))
-
-    later : (v : Bool) (k : JobRow) → IsNumberOf k.number (filter (λ r. r.group == group) jobs)
-        → IsNumberOf k.number (cond v (m ∷ filter (λ r. r.group == group) jobs) (filter (λ r. r.group == group) jobs))
-    later true k at = inr at
-    later false k at = at
+members_number group (m ∷ jobs) = grind (arith, members_number group jobs, AllByRecursion-weaker, false≢true, nat_tests)
 
 -- nothing else changes but the boards
 pub given_rest : (state : JobState) (ps : List (JobRow × BoardRow)) (F : Farm) → record (fold (give_member state) F ps) { jobs = F.jobs; boards = F.boards } ≡ F
@@ -198,14 +172,7 @@ ready_members F group steady submitted = AllByRecursion-weaker (λ m two. (two.0
 pub given_elsewhere : (F : Farm) (group : ℕ) (state : JobState) (ps : List (JobRow × BoardRow))
     → AllByRecursion (λ p. (job_of F p.0.number ≡ Some p.0) × ((p.0.group == group) ≡ true)) ps
     → (m : JobRow) → job_of F m.number ≡ Some m → (m.group == group) ≡ false → given state ps m ≡ m
-given_elsewhere F group state ps all m own other = given_other state ps m
-    (AllByRecursion-weaker (λ p two. either (m.number == p.0.number) (λ same. absurd (elsewhere p.0 two.0 two.1 same)) (λ differ. differ)) ps all)
-  where
-    elsewhere : (k : JobRow) → job_of F k.number ≡ Some k → (k.group == group) ≡ true → (m.number == k.number) ≡ true → ⊥
-    elsewhere k there is same =
-        let two : Some m ≡ Some k = sym own ∙ ap (job_of F) (same_number m.number k.number same) ∙ there in
-        let one : m ≡ k = cc in
-        false≢true (sym other ∙ ap (λ (x : JobRow). x.group == group) one ∙ is)
+given_elsewhere F group state ps all m own other = grind (arith, given_other state ps m, AllByRecursion-weaker, either, same_number m.number, false≢true, nat_tests)
 
 module _ (F : Farm) (group : ℕ) (bs : List BoardRow) (sound : IsSound F)
     (waits : AllByRecursion (λ m. m.state ≡ JobState.Submitted) (members F group)) (free : AllByRecursion (IsFreeBoard F) bs)
@@ -241,32 +208,15 @@ module _ (F : Farm) (group : ℕ) (bs : List BoardRow) (sound : IsSound F)
       (own_job F sound.steady) (members_number group F.jobs))
 
   alike_given : (j m : JobRow) → Part j → Part m → Alike j m → Alike (given JobState.Scheduled pairs j) (given JobState.Scheduled pairs m)
-  alike_given j m pj pm alike same = by (j.group == group) refl
-    where
-      e : m.group ≡ j.group
-      e = sym (given_group JobState.Scheduled pairs m) ∙ same ∙ given_group JobState.Scheduled pairs j
-
-      by : (v : Bool) → (j.group == group) ≡ v → phase (given JobState.Scheduled pairs m).state ≡ phase (given JobState.Scheduled pairs j).state
-      by true is =
-          let g : j.group ≡ group = same_number j.group group is in
-          ap phase (pm.0 (e ∙ g) ∙ sym (pj.0 g))
-      by false is = ap (λ (x : JobRow). phase x.state) (pm.1 (ap (λ g. g == group) e ∙ is)) ∙ alike e ∙ sym (ap (λ (x : JobRow). phase x.state) (pj.1 is))
+  alike_given j m pj pm alike same = grind (arith, given_group JobState.Scheduled pairs m, given_group JobState.Scheduled pairs j, same_number j.group group, pm.0, pj.0, pm.1, pj.1, nat_tests)
 
   -- no job becomes Scheduling
   given_stays : (m : JobRow) → Part m → (given JobState.Scheduled pairs m).state ≡ JobState.Scheduling → m.state ≡ JobState.Scheduling
-  given_stays m p is = by (m.group == group) refl
-    where
-      by : (v : Bool) → (m.group == group) ≡ v → m.state ≡ JobState.Scheduling
-      by true at = let e : JobState.Scheduled ≡ JobState.Scheduling = sym (p.0 (same_number m.group group at)) ∙ is in cc
-      by false at = sym (ap (λ (k : JobRow). k.state) (p.1 at)) ∙ is
+  given_stays m p is = grind (arith, nat_tests)
 
   -- and the group that is served isn't the collector
   given_waits : (m : JobRow) → Part m → 1 ≤ F.collector → m.group ≡ F.collector → phase m.state ≡ 0 → phase (given JobState.Scheduled pairs m).state ≡ 0
-  given_waits m p low same waits_m = by (m.group == group) refl
-    where
-      by : (v : Bool) → (m.group == group) ≡ v → phase (given JobState.Scheduled pairs m).state ≡ 0
-      by true at = absurd (other low (sym same ∙ same_number m.group group at))
-      by false at = ap (λ (k : JobRow). phase k.state) (p.1 at) ∙ waits_m
+  given_waits m p low same waits_m = grind (arith, nat_tests)
 
   pub IsSound-give_group : IsSound (give_group F group bs)
   IsSound-give_group = record {

@@ -1,4 +1,5 @@
 -- Who holds which board, found by keys, after rows have changed, and after a board was given.
+use native.Mathlib.Omega.{arith}
 use Rattle.std.proofs.Common.{Bool, IsSomeAnd, List, None, Option, Some, ap, cond, false, inl, inr, map, refl, subst, sym, true, ℕ, ◌==◌, ◌∙◌, ◌≡◌, ◌⊎◌}
 use Rattle.farm_sound.proofs.Names.{AllByRecursion, board_of, BoardRow, bytes_eq, bytes_eq-Decides, false≢true, Farm, find, found_has, found_passes, Holder}
 use Rattle.farm_sound.proofs.Names.{job_of, JobRow, option_map, option_map_or, res_of, ResRow, State, true≢false}
@@ -17,12 +18,7 @@ hold_names h (Some name) (Some state) x is = let e : record { board = name; hold
 -- what a number holds is a row's
 pub held_row : {R : Type 0} (number : R → ℕ) (held : R → Option Hold) (rows : List R) (n : ℕ) (x : Hold)
     → option_map_or held (find (λ r. number r == n) rows) None ≡ Some x → (r : R) × (find (λ r. number r == n) rows ≡ Some r) × (number r ≡ n) × (held r ≡ Some x)
-held_row {R = R} number held rows n x is = by (find (λ r. number r == n) rows) refl is
-  where
-    by : (o : Option R) → find (λ r. number r == n) rows ≡ o → option_map_or held o None ≡ Some x
-        → (r : R) × (find (λ r. number r == n) rows ≡ Some r) × (number r ≡ n) × (held r ≡ Some x)
-    by None there is = cc
-    by (Some r) there is = (r, there, same_number (number r) n (found_passes (λ r. number r == n) r rows there), is)
+held_row {R = R} number held rows n x is = grind (arith, same_number, found_passes)
 
 pub row_of_job : (F : Farm) (n : ℕ) (x : Hold) → hold_of F (Holder.Job n) ≡ Some x
     → (j : JobRow) × (job_of F n ≡ Some j) × (j.number ≡ n) × (job_hold j ≡ Some x)
@@ -71,11 +67,7 @@ pub moved_row : {R : Type 0} (held : R → Option Hold) (test : R → Bool) (f :
     → ((r : R) → o ≡ Some r → test r ≡ true → Leaves (held r) (held (f r)) g)
     → IsMoved (option_map_or test o false) (option_map_or held o None) (option_map_or held (option_map (changed test f) o) None) g
 moved_row held test f g None leaves = not_moved None g
-moved_row held test f g (Some r) leaves = by (test r) refl
-  where
-    by : (v : Bool) → test r ≡ v → IsMoved v (held r) (held (cond v (f r) r)) g
-    by true so = record { stays = λ e. absurd (true≢false e); leaves = λ _. leaves r refl so }
-    by false so = not_moved (held r) g
+moved_row held test f g (Some r) leaves = grind arith
 
 -- some holders' rows change, and the boards that they hold
 module _ (F G : Farm) (moved : Holder → Bool) (g : BoardRow → BoardRow) where
@@ -182,39 +174,7 @@ module _ (F G : Farm) (h0 : Holder) (b0 : BoardRow) where
       (λ _. held_by_kept gift c c.holder held_by)
 
   rows_given : IsGift → IsHeldByKeys F → (h : Holder) (x : Hold) → hold_of G h ≡ Some x → IsSomeAnd (board_of G x.board) (λ b. b.holder ≡ h)
-  rows_given gift held_in h x is = by (gift.stays h)
-    where
-      itself : bytes_eq b0.name b0.name ≡ true
-      itself = (bytes_eq-Decides b0.name b0.name).1 refl
-
-      there : hold_of F h ≡ Some x → (o : Option BoardRow) → board_of F x.board ≡ o → IsSomeAnd o (λ b. b.holder ≡ h) → (v : Option BoardRow → Bool)
-          → IsSomeAnd (board_of G x.board) (λ b. b.holder ≡ h)
-      there was None found held_by v = absurd held_by
-      there was (Some c) found held_by v = other (bytes_eq c.name b0.name) refl
-        where
-          other : (w : Bool) → bytes_eq c.name b0.name ≡ w → IsSomeAnd (board_of G x.board) (λ b. b.holder ≡ h)
-          other true same =
-              let named : c.name ≡ x.board = (bytes_eq-Decides c.name x.board).0 (found_passes (λ (r : BoardRow). bytes_eq r.name x.board) c F.boards found) in
-              let at : x.board ≡ b0.name = sym named ∙ (bytes_eq-Decides c.name b0.name).0 same in
-              let two : Some c ≡ Some b0 = sym found ∙ ap (board_of F) at ∙ gift.there in
-              let e : c ≡ b0 = cc in
-              let nobody : h ≡ Holder.Nobody = sym held_by ∙ ap (λ (b : BoardRow). b.holder) e ∙ gift.free in
-              let none : None ≡ Some x = ap (hold_of F) (sym nobody) ∙ was in
-              cc
-          other false apart =
-              let found' : board_of G x.board ≡ Some c =
-              gift.boards x.board ∙ ap (option_map given_board) found ∙ ap (λ w. Some (cond w (held_board h0 State.Reserved c) c)) apart in
-              rw found' held_by
-
-      by : (hold_of G h ≡ hold_of F h) ⊎ (h ≡ h0) → IsSomeAnd (board_of G x.board) (λ b. b.holder ≡ h)
-      by (inl same) = let was : hold_of F h ≡ Some x = sym same ∙ is in there was (board_of F x.board) refl (held_in.rows h x was) (λ _. true)
-      by (inr mine) =
-          let e : Some x ≡ Some (record { board = b0.name; holder = h0; state = State.Reserved }) = sym is ∙ ap (hold_of G) mine ∙ gift.gets in
-          let at : x ≡ record { board = b0.name; holder = h0; state = State.Reserved } = cc in
-          let found : board_of G x.board ≡ Some (held_board h0 State.Reserved b0) =
-          ap (λ (y : Hold). board_of G y.board) at ∙ gift.boards b0.name ∙ ap (option_map given_board) gift.there
-          ∙ ap (λ w. Some (cond w (held_board h0 State.Reserved b0) b0)) itself in
-          rw found (sym mine)
+  rows_given gift held_in h x is = grind (arith, bytes_eq-Decides, found_passes, gift.stays h, gift.boards x.board, held_in.rows h x, gift.boards b0.name)
 
   pub IsHeldByKeys-given : IsGift → IsHeldByKeys F → IsHeldByKeys G
   IsHeldByKeys-given gift held_in = record {

@@ -69,19 +69,7 @@ canceled group j = cond ((j.group == group) && is_unstarted j) (record j { state
 -- a job that is Scheduling afterwards was so before, and in another group
 canceled_scheduling : (group : ℕ) (j : JobRow) → (canceled group j).state ≡ JobState.Scheduling
     → (j.state ≡ JobState.Scheduling) × ((j.group == group) ≡ false)
-canceled_scheduling group j = by (j.group == group) refl
-  where
-    by : (v : Bool) → (j.group == group) ≡ v
-        → (cond (v && is_unstarted j) (record j { state = JobState.Finished; outcome = Some Outcome.Canceled }) j).state ≡ JobState.Scheduling
-        → (j.state ≡ JobState.Scheduling) × (v ≡ false)
-    by false at is = (is, refl)
-    by true at is = mine j.state refl is
-      where
-        mine : (s : JobState) → j.state ≡ s
-            → (cond (is_unstarted (record j { state = s })) (record j { state = JobState.Finished; outcome = Some Outcome.Canceled }) (record j { state = s })).state ≡ JobState.Scheduling
-            → (j.state ≡ JobState.Scheduling) × (true ≡ false)
-        mine JobState.Submitted at is = cc
-        mine s at is = cc
+canceled_scheduling group j = grind arith
 
 collecting_canceled : (F : Farm) (group : ℕ) → IsSound F → IsCollecting (cond (F.collector == group) 0 F.collector) (map (canceled group) F.jobs)
 collecting_canceled F group sound = by (F.collector == group) refl
@@ -240,23 +228,7 @@ module _ (F : Farm) (n : ℕ) (j : JobRow) (named : Outcome) (there : job_of F n
       (λ _. used_job F outcome b is)
 
   description_after : (b : BoardRow) → description_of (after b) ≡ description_of b
-  description_after b = by_cases (λ (c : BoardRow). description_of c ≡ description_of b) j.checking (after_check outcome F.clock b) (after_job outcome b) (λ _. checked outcome)
-      (λ _. job_used outcome)
-    where
-      graded : (h : Health) (c : BoardRow) → description_of (graded_board h c) ≡ description_of c
-      graded h c = by_cases (λ (d : BoardRow). description_of d ≡ description_of c) (same_health c.health Health.Good || same_health c.health Health.Unknown)
-          (record c { health = h }) c (λ _. refl) (λ _. refl)
-
-      checked : (o : Outcome) → description_of (after_check o F.clock b) ≡ description_of b
-      checked Outcome.Complete = graded Health.Good (record b { jobs_since = 0; last_check = F.clock })
-      checked Outcome.Canceled = refl
-      checked o = graded Health.Bad b
-
-      job_used : (o : Outcome) → description_of (after_job o b) ≡ description_of b
-      job_used o = by_cases (λ (d : BoardRow). description_of d ≡ description_of b) (same_outcome o Outcome.Infra)
-          (graded_board Health.Unknown (record b { jobs_since = min (b.jobs_since + 1) most_jobs_since }))
-          (record b { jobs_since = min (b.jobs_since + 1) most_jobs_since })
-          (λ _. graded Health.Unknown (record b { jobs_since = min (b.jobs_since + 1) most_jobs_since })) (λ _. refl)
+  description_after b = grind arith
 
   alike_over : (k m : JobRow) → (k.number ≡ j.number → k ≡ j) → (m.number ≡ j.number → m ≡ j) → Alike k m
       → Alike (cond (k.number == j.number) (over k) k) (cond (m.number == j.number) (over m) m)

@@ -1,9 +1,9 @@
 -- The first list of boards that meets the wants is the least one.
-use Rattle.std.proofs.Common.{◌&&◌, ◌++◌, ◌∙◌, ◌∷◌, ◌≡◌, Bool, List, None, Ordering, Some, ap, arith, cond, false, inl, inr, length, map, refl, subst, suc, sym}
-use Rattle.std.proofs.Common.{true, zero, ℕ, []}
+use Rattle.std.proofs.Common.{[], ◌&&◌, ◌++◌, ◌∷◌, ◌≡◌, Bool, List, None, Ordering, Some, arith, false, inl, inr, length, map, refl, subst, suc}
+use Rattle.std.proofs.Common.{true, zero, ℕ}
 use Rattle.farm_sound.proofs.Names.{AllByRecursion, BoardRow, false≢true, find, flat_map, found_has, found_passes, IsTotalOrder, Less}
 use Rattle.std.specs.List.Sorted.{IsStrictlySortedBy}
-use Rattle.farm_sound.proofs.Names.{list_all, nat_list_cmp_total, on_total, ordering_reverse, pointwise, tied_itself, Want}
+use Rattle.farm_sound.proofs.Names.{list_all, nat_list_cmp_total, on_total, pointwise, tied_itself, Want}
 use Rattle.std.specs.Cmp.{first_so}
 use Rattle.std.specs.Cmp.Lexicographic.{as_long, lists_total}
 use Rattle.std.specs.Ordering.{is_lt}
@@ -31,17 +31,7 @@ module _ {A : Type 0} (cmp : A → A → Ordering) (total : IsTotalOrder cmp) wh
       → is_lt (cmp c b) ≡ false
   unfolding IsStrictlySortedBy
   first_is_least p b c [] sorted found at passes = absurd at
-  first_is_least p b c (x ∷ xs) sorted found at passes = by (first_is_least p b c xs sorted.1) (p x) refl found at
-    where
-      by : (find p xs ≡ Some b → IsAmong c xs → p c ≡ true → is_lt (cmp c b) ≡ false) → (v : Bool) → p x ≡ v → cond v (Some x) (find p xs) ≡ Some b
-          → IsAmong c (x ∷ xs) → is_lt (cmp c b) ≡ false
-      by rest true is here (inl same) = let e : x ≡ b = cc in ap is_lt (ap (λ z. cmp z b) (same ∙ e) ∙ tied_itself total b)
-      by rest true is here (inr later) =
-          let e : x ≡ b = cc in
-          let less : cmp b c ≡ Less = subst (λ z. cmp z c ≡ Less) e (among_has (λ y. cmp x y ≡ Less) c xs sorted.0 later) in
-          ap is_lt (total.antisymm c b ∙ ap ordering_reverse less)
-      by rest false is here (inl same) = absurd (false≢true (sym is ∙ sym (ap p same) ∙ passes))
-      by rest false is here (inr later) = rest here later passes
+  first_is_least p b c (x ∷ xs) sorted found at passes = grind (arith, first_is_least p b c xs sorted.1, among_has (λ y. cmp x y ≡ Less) c xs sorted.0, false≢true)
 
   sorted_append : (xs ys : List A) → IsStrictlySortedBy cmp xs → IsStrictlySortedBy cmp ys
       → AllByRecursion (λ x. AllByRecursion (λ y. cmp x y ≡ Less) ys) xs → IsStrictlySortedBy cmp (xs ++ ys)

@@ -1,5 +1,5 @@
 -- Lists: what holds of each element, or of each two, and which pass a test.
-use Rattle.std.proofs.Common.{◌++◌, ◌∙◌, ◌∷◌, ◌≡◌, ◌≤◌, ◌⊎◌, Bool, List, None, Some, ap, arith, cond, false, inl, inr, length, map, refl, subst, sym, true, []}
+use Rattle.std.proofs.Common.{[], ◌++◌, ◌∙◌, ◌∷◌, ◌≡◌, ◌≤◌, ◌⊎◌, Bool, List, None, Some, ap, arith, false, inl, inr, length, map, refl, subst, sym, true}
 use Rattle.farm_sound.proofs.Names.{AllByRecursion, AllByRecursion-weaker, filter, find, found_has, Less, list_all, list_any, Ordering}
 use Rattle.std.specs.List.Sorted.{IsStrictlySortedBy}
 use Rattle.farm_sound.proofs.Names.{true≢false}
@@ -48,13 +48,7 @@ filter_all P test (x ∷ xs) all = by_cases (AllByRecursion (λ x. P x × (test 
 pub filter_back : {A : Type 0} (P : A → Type 0) (test : A → Bool) (xs : List A) → AllByRecursion P (filter test xs)
     → AllByRecursion (λ x. test x ≡ true → P x) xs
 filter_back P test [] all = tt
-filter_back P test (x ∷ xs) all = by (test x) refl all (λ rest. filter_back P test xs rest)
-  where
-    by : (v : Bool) → test x ≡ v → AllByRecursion P (cond v (x ∷ filter test xs) (filter test xs))
-        → (AllByRecursion P (filter test xs) → AllByRecursion (λ x. test x ≡ true → P x) xs)
-        → (test x ≡ true → P x) × AllByRecursion (λ x. test x ≡ true → P x) xs
-    by true is all rest = (λ _. all.0, rest all.1)
-    by false is all rest = (λ yes. absurd (true≢false (sym yes ∙ is)), rest all)
+filter_back P test (x ∷ xs) all = grind (arith, filter_back P test xs)
 
 -- none of a list passes
 pub none_passes : {A : Type 0} (test : A → Bool) (xs : List A) → list_any test xs ≡ false → AllByRecursion (λ x. test x ≡ false) xs
@@ -68,12 +62,7 @@ none_pass test (r ∷ rows) all = rw all.0 (none_pass test rows all.1)
 -- none passes where none is found
 pub all_fail : {A : Type 0} (test : A → Bool) (xs : List A) → find test xs ≡ None → AllByRecursion (λ x. test x ≡ false) xs
 all_fail test [] is = tt
-all_fail test (x ∷ xs) is = by (test x) refl is (λ later. all_fail test xs later)
-  where
-    by : (v : Bool) → test x ≡ v → cond v (Some x) (find test xs) ≡ None → (find test xs ≡ None → AllByRecursion (λ y. test y ≡ false) xs)
-        → (test x ≡ false) × AllByRecursion (λ y. test y ≡ false) xs
-    by true at is rest = cc
-    by false at is rest = (at, rest is)
+all_fail test (x ∷ xs) is = grind (arith, all_fail test xs)
 
 -- one that passes is among none where none is found
 pub among_none : {A : Type 0} (test : A → Bool) (x : A) (xs : List A) → IsAmong x xs → test x ≡ true → find test xs ≡ None → ⊥

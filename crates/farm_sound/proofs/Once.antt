@@ -1,6 +1,5 @@
 -- Holders found by keys say that no board is held twice, and that each says who holds it; and back.
-use Rattle.std.proofs.Common.{◌<◌, ◌==◌, ◌∙◌, ◌∷◌, ◌≡◌, ◌≢◌, IsSome, IsSomeAnd, List, None, Option, Some, ap, arith, inl, inr, refl, subst, sym, unwrap_or, ℕ}
-use Rattle.std.proofs.Common.{[]}
+use Rattle.std.proofs.Common.{[], ◌<◌, ◌==◌, ◌∙◌, ◌∷◌, ◌≡◌, ◌≢◌, IsSome, IsSomeAnd, List, None, Option, Some, ap, arith, inl, inr, refl, subst, sym, unwrap_or, ℕ}
 use Rattle.farm_sound.proofs.Names.{AllByRecursion, AllByRecursion-weaker, board_of, BoardRow, bytes_eq, bytes_eq-Decides, cons_option, false≢true, Farm}
 use Rattle.farm_sound.proofs.Names.{filter_map, find, found_has, found_passes, Holder, job_of, JobRow, Less, option_map_or, Ordering}
 use Rattle.std.specs.List.Sorted.{IsStrictlySortedBy}
@@ -17,11 +16,7 @@ use Rattle.farm_sound.proofs.Where.{AllByRecursion-both}
 filter_map_all : {R S : Type 0} (f : R → Option S) (P : S → Type 0) (rows : List R) → AllByRecursion (λ r. (x : S) → f r ≡ Some x → P x) rows
     → AllByRecursion P (filter_map f rows)
 filter_map_all f P [] all = tt
-filter_map_all {R = R} {S = S} f P (r ∷ rows) all = by (f r) all.0 (filter_map_all f P rows all.1)
-  where
-    by : (o : Option S) → ((x : S) → o ≡ Some x → P x) → AllByRecursion P (filter_map f rows) → AllByRecursion P (cons_option o (filter_map f rows))
-    by None here rest = rest
-    by (Some x) here rest = (here x refl, rest)
+filter_map_all {R = R} {S = S} f P (r ∷ rows) all = grind (arith, filter_map_all f P rows all.1)
 
 filter_map_two : {R S : Type 0} (cmp : R → R → Ordering) (f : R → Option S) (P : S → S → Type 0)
     → ((a b : R) (x y : S) → cmp a b ≡ Less → f a ≡ Some x → f b ≡ Some y → P x y) → (rows : List R) → IsStrictlySortedBy cmp rows
@@ -36,13 +31,7 @@ filter_map_two {R = R} {S = S} cmp f P two (r ∷ rows) sorted = by (f r) refl (
 
 filter_map_has : {R S : Type 0} (f : R → Option S) (rows : List R) → AllByRecursion (λ r. (x : S) → f r ≡ Some x → IsAmong x (filter_map f rows)) rows
 filter_map_has f [] = tt
-filter_map_has {R = R} {S = S} f (r ∷ rows) = by (f r) (filter_map_has f rows)
-  where
-    by : (o : Option S) → AllByRecursion (λ q. (x : S) → f q ≡ Some x → IsAmong x (filter_map f rows)) rows
-        → ((x : S) → o ≡ Some x → IsAmong x (cons_option o (filter_map f rows)))
-        × AllByRecursion (λ q. (x : S) → f q ≡ Some x → IsAmong x (cons_option o (filter_map f rows))) rows
-    by None rest = (λ x is. cc, rest)
-    by (Some y) rest = (λ x is. inl (let e : y ≡ x = cc in sym e), AllByRecursion-weaker (λ q at x is. inr (at x is)) rows rest)
+filter_map_has {R = R} {S = S} f (r ∷ rows) = grind (arith, filter_map_has f rows, AllByRecursion-weaker)
 
 -- two of a list that stand to each other in no way are one
 two_same : {S : Type 0} (key : S → List ℕ) (x y : S) (xs : List S) → EachTwo (λ a b. key a ≢ key b) xs → IsAmong x xs → IsAmong y xs → key x ≡ key y → x ≡ y
@@ -115,14 +104,7 @@ module _ (F : Farm) (steady : IsSteady F) where
   holder_by_keys held_board x own b there = rw there at (held_board.rows x.holder x own)
 
   one_holder : IsHeldByKeys F → (x y : Hold) → hold_of F x.holder ≡ Some x → hold_of F y.holder ≡ Some y → x.board ≡ y.board → x.holder ≡ y.holder
-  one_holder held_board x y ox oy same =
-      by (board_of F x.board) refl (held_board.rows x.holder x ox)
-      (subst (λ n. IsSomeAnd (board_of F n) (λ b. b.holder ≡ y.holder)) (sym same) (held_board.rows y.holder y oy))
-    where
-      by : (o : Option BoardRow) → board_of F x.board ≡ o → IsSomeAnd o (λ b. b.holder ≡ x.holder) → IsSomeAnd o (λ b. b.holder ≡ y.holder)
-          → x.holder ≡ y.holder
-      by None there hx hy = absurd hx
-      by (Some b) there hx hy = sym hx ∙ hy
+  one_holder held_board x y ox oy same = grind (arith, held_board.rows x.holder x ox, held_board.rows y.holder y oy)
 
   shown_by_keys : IsHeldByKeys F → (b : BoardRow) → board_of F b.name ≡ Some b → IsHeldBy F b b.holder
       → shown_hold b ≡ unwrap_or (find (λ h. bytes_eq h.board b.name) (holds F)) (no_hold b.name)

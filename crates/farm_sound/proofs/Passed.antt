@@ -1,7 +1,7 @@
 -- The pass keeps soundness, and after it no claim is met by free boards: each was met and served, or found none and finds none.
-use Rattle.std.proofs.Common.{◌&&◌, ◌+◌, ◌++◌, ◌==◌, ◌∙◌, ◌∷◌, ◌≡◌, ◌≤◌, ◌⊎◌, Bool, List, None, Option, Some, ap, arith, cond, false, inl, inr, length, map}
-use Rattle.std.proofs.Common.{not, refl, subst, sym, true, ℕ, []}
-use Rattle.farm_sound.proofs.Names.{AllByRecursion, AllByRecursion-weaker, BoardRow, false≢true, Farm, filter, find, fold, found_has, job_of, JobRow, JobState}
+use Rattle.std.proofs.Common.{[], ◌&&◌, ◌+◌, ◌++◌, ◌==◌, ◌∙◌, ◌∷◌, ◌≡◌, ◌≤◌, ◌⊎◌, Bool, List, None, Option, Some, ap, arith, cond, false, inl, inr, length, map}
+use Rattle.std.proofs.Common.{not, refl, subst, sym, true, ℕ}
+use Rattle.farm_sound.proofs.Names.{AllByRecursion, AllByRecursion-weaker, BoardRow, Farm, filter, find, fold, found_has, job_of, JobRow, JobState}
 use Rattle.farm_sound.proofs.Names.{list_all, members, option_map, option_map_or, res_of, ResRow, true≢false, Want, zip}
 use Rattle.farm_types.specs.Names.{allocated_reservation, checks, Claimed, claims, claims_taken, expire, give, give_group, give_res, giving_back, is_due}
 use Rattle.farm_types.specs.Names.{is_free, is_group, is_waiting, IsAmong, IsSound, leads_claim, least, pass_over, phase, queue, serve, serve_all, Served}
@@ -20,7 +20,7 @@ use Rattle.farm_sound.proofs.Reservations.{IsSound-expire}
 use Rattle.farm_sound.proofs.Short.{IsCollectorUnmet-give, IsCollectorUnmet-pass_over}
 use Rattle.farm_sound.proofs.Serve.{AreApartClaims, IsOpen-give, IsOver, IsSound-give, as_many, filter_given, give_clock, over, res_kept, taken_apart}
 use Rattle.farm_sound.proofs.Serve.{taken_open}
-use Rattle.farm_sound.proofs.Tests.{same_number, waiting_from}
+use Rattle.farm_sound.proofs.Tests.{waiting_from}
 use Rattle.farm_sound.proofs.Unmet.{IsUnmet, IsUnmet-give}
 use Rattle.farm_sound.proofs.Where.{AllByRecursion-both, either, find_map}
 
@@ -42,11 +42,7 @@ waits_still : (r : ResRow) (name : List ℕ) (t : ℕ) (o : Option ResRow) (q : 
     → option_map (λ k. cond (k.number == r.number) (allocated_reservation name t k) k) o ≡ Some q → is_waiting q ≡ true
     → (o ≡ Some q) × ((q.number == r.number) ≡ false)
 waits_still r name t None q is waits = cc
-waits_still r name t (Some k) q is waits = by (k.number == r.number) refl is
-  where
-    by : (v : Bool) → (k.number == r.number) ≡ v → Some (cond v (allocated_reservation name t k) k) ≡ Some q → (Some k ≡ Some q) × ((q.number == r.number) ≡ false)
-    by true at is = let same : allocated_reservation name t k ≡ q = cc in absurd (false≢true (ap is_waiting same ∙ waits))
-    by false at is = let same : k ≡ q = cc in (is, ap (λ (x : ResRow). x.number == r.number) (sym same) ∙ at)
+waits_still r name t (Some k) q is waits = grind arith
 
 old_of_res : (F : Farm) (c d : Claimed) (r : ResRow) (bs : List BoardRow) (t : ℕ) → IsResClaim F c r → AllByRecursion (IsFreeBoard F) bs → length bs ≡ 1
     → IsClaim (give_res F r.number bs t) d → IsOld F c d
@@ -80,17 +76,7 @@ module _ (F : Farm) (group : ℕ) (bs : List BoardRow) where
   leader_was : (k : JobRow) (o : Option JobRow) → option_map (given JobState.Scheduled ps) o ≡ Some k → phase k.state ≡ 0 → ((m : JobRow) → o ≡ Some m → Parted m)
       → (o ≡ Some k) × ((k.group == group) ≡ false)
   leader_was k None is waiting part = cc
-  leader_was k (Some m) is waiting part = by (m.group == group) refl
-    where
-      same : given JobState.Scheduled ps m ≡ k
-      same = cc
-
-      by : (v : Bool) → (m.group == group) ≡ v → (Some m ≡ Some k) × ((k.group == group) ≡ false)
-      by true at =
-          let one : phase (given JobState.Scheduled ps m).state ≡ 1 = ap phase ((part m refl).0 (same_number m.group group at)) in
-          let two : phase (given JobState.Scheduled ps m).state ≡ phase k.state = ap (λ (x : JobRow). phase x.state) same in
-          absurd (omega (arith, one, two, waiting))
-      by false at = let stays : m ≡ k = sym ((part m refl).1 at) ∙ same in (ap Some stays, ap (λ (x : JobRow). x.group == group) (sym stays) ∙ at)
+  leader_was k (Some m) is waiting part = grind arith
 
   old_of_group : (c d : Claimed) (j : JobRow) → j.group ≡ group → IsGroupClaim F c j → AllByRecursion Parted F.jobs
       → IsClaim (give_group F group bs) d → IsOld F c d

@@ -1,5 +1,5 @@
 -- A change where a test passes is one put after another of the changed rows.
-use Rattle.std.proofs.Common.{◌==◌, ◌∙◌, ◌∷◌, ◌≡◌, Bool, List, Some, ap, arith, cond, false, map, refl, sym, true, ℕ, []}
+use Rattle.std.proofs.Common.{[], ◌==◌, ◌∙◌, ◌∷◌, ◌≡◌, Bool, List, Some, ap, arith, false, map, refl, sym, true, ℕ}
 use Rattle.farm_sound.proofs.Names.{AllByRecursion, AllByRecursion-weaker, BoardRow, bytes_eq, bytes_eq-Decides, Equal, filter, find, Greater, is_eq}
 use Rattle.farm_sound.proofs.Names.{is_eq-slice_cmp, IsTotalOrder, JobRow, Less, match_ordering, nat_cmp, nat_cmp_total, nat_list_cmp_total}
 use Rattle.std.specs.List.Sorted.{IsStrictlySortedBy}
@@ -25,15 +25,7 @@ module _ {R : Type 0} (cmp : R → R → Ordering) (total : IsTotalOrder cmp) (t
   pub puts_are_change : (rows : List R) → IsStrictlySortedBy cmp rows → put_all cmp rows (map f (filter test rows)) ≡ change_where test f rows
   unfolding IsStrictlySortedBy
   puts_are_change [] sorted = refl
-  puts_are_change (r ∷ rows) sorted = by (test r) (puts_are_change rows sorted.1)
-    where
-      by : (v : Bool) → put_all cmp rows (map f (filter test rows)) ≡ change_where test f rows
-          → put_all cmp (r ∷ rows) (map f (cond v (r ∷ filter test rows) (filter test rows))) ≡ cond v (f r) r ∷ change_where test f rows
-      by true rest =
-          ap (λ o. put_all cmp (match_ordering o (f r ∷ r ∷ rows) (f r ∷ rows) (r ∷ put cmp rows (f r))) (map f (filter test rows))) (keeps r)
-          ∙ above (f r) (map f (filter test rows)) rows (changed_above r (f r) rows (keeps r) sorted.0)
-          ∙ ap (λ rest. f r ∷ rest) rest
-      by false rest = above r (map f (filter test rows)) rows (changed_above r r rows (tied_itself total r) sorted.0) ∙ ap (λ rest. r ∷ rest) rest
+  puts_are_change (r ∷ rows) sorted = grind (arith, puts_are_change rows sorted.1, above (f r) (map f (filter test rows)) rows (changed_above r (f r) rows (keeps r) sorted.0), changed_above r (f r) rows (keeps r) sorted.0, above r (map f (filter test rows)) rows (changed_above r r rows (tied_itself total r) sorted.0), changed_above r r rows (tied_itself total r) sorted.0)
 
 -- ---- one row
 
@@ -42,15 +34,7 @@ filter_one : {R : Type 0} (cmp : R → R → Ordering) (test : R → Bool) → (
     → IsStrictlySortedBy cmp rows → find test rows ≡ Some r → filter test rows ≡ r ∷ []
 unfolding IsStrictlySortedBy
 filter_one cmp test apart r [] sorted found = cc
-filter_one cmp test apart r (x ∷ rows) sorted found = by (test x) refl found (λ later. filter_one cmp test apart r rows sorted.1 later)
-  where
-    by : (v : Bool) → test x ≡ v → cond v (Some x) (find test rows) ≡ Some r → (find test rows ≡ Some r → filter test rows ≡ r ∷ [])
-        → cond v (x ∷ filter test rows) (filter test rows) ≡ r ∷ []
-    by true is here rest =
-        let same : x ≡ r = cc in
-        let none : filter test rows ≡ [] = none_pass test rows (AllByRecursion-weaker (λ y less. apart x y less is) rows sorted.0) in
-        (λ i. same i ∷ none i)
-    by false is here rest = rest here
+filter_one cmp test apart r (x ∷ rows) sorted found = grind (arith, filter_one cmp test apart r rows sorted.1, none_pass test rows, AllByRecursion-weaker)
 
 -- changing it is putting the changed one
 pub put_is_change : {R : Type 0} (cmp : R → R → Ordering) (total : IsTotalOrder cmp) (test : R → Bool) (f : R → R) → ((r : R) → cmp (f r) r ≡ Equal)

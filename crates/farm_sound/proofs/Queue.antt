@@ -1,9 +1,8 @@
 -- The queue is the claims in their order, each once.
-use Rattle.std.proofs.Common.{◌++◌, ◌==◌, ◌∙◌, ◌∷◌, ◌≡◌, ◌⊎◌, IsNone, List, Some, ap, arith, inl, inr, map, refl, subst, sym, true, ℕ, []}
+use Rattle.std.proofs.Common.{[], ◌++◌, ◌==◌, ◌∙◌, ◌∷◌, ◌≡◌, ◌⊎◌, IsNone, List, Some, ap, arith, inl, inr, map, refl, subst, sym, true, ℕ}
 use Rattle.farm_sound.proofs.Names.{AllByRecursion, AllByRecursion-put, AllByRecursion-weaker, Equal, Farm, filter, Greater, IsTotalOrder, JobRow, Less}
 use Rattle.farm_sound.proofs.Names.{match_ordering, nat_cmp, Ordering, ordering_reverse, ranked, res_of, ResRow, true≢false}
 use Rattle.std.specs.List.Sorted.{IsPermutation}
-use Rattle.std.specs.Ordering.{ordering_then}
 use Rattle.std.proofs.lemmas.List.Sorted.{IsPermutation-append_right, IsPermutation-cons, IsPermutation-middle, IsPermutation-refl, IsPermutation-sym}
 use Rattle.std.proofs.lemmas.List.Sorted.{IsPermutation-trans}
 use Rattle.farm_types.specs.Names.{claim_cmp, Claimed, claims, EachTwo, group_claim, is_waiting, IsAmong, IsJobRow, IsSteady, job_cmp, leads_claim, put}
@@ -37,15 +36,7 @@ module _ {R : Type 0} (cmp : R → R → Ordering) (total : IsTotalOrder cmp) wh
 
   among_put : (x row : R) (rows : List R) → AllByRecursion (IsApart row) rows → IsAmong x (row ∷ rows) → IsAmong x (put cmp rows row)
   among_put x row [] apart at = at
-  among_put x row (r ∷ rows) apart at = by (among_put x row rows apart.1) (cmp row r) refl at
-    where
-      by : (IsAmong x (row ∷ rows) → IsAmong x (put cmp rows row)) → (o : Ordering) → cmp row r ≡ o → IsAmong x (row ∷ r ∷ rows)
-          → IsAmong x (match_ordering o (row ∷ r ∷ rows) (row ∷ rows) (r ∷ put cmp rows row))
-      by rest Less is at = at
-      by rest Equal is at = absurd (apart.0 is)
-      by rest Greater is (inl same) = inr (rest (inl same))
-      by rest Greater is (inr (inl same)) = inl same
-      by rest Greater is (inr (inr later)) = inr (rest (inr later))
+  among_put x row (r ∷ rows) apart at = grind (arith, among_put x row rows apart.1)
 
   -- the rows that are yet to come are apart from those that were put
   still_apart : (row : R) (changed rows : List R) → AllByRecursion (IsApart row) changed → AllByRecursion (λ c. AllByRecursion (IsApart c) rows) changed
@@ -68,23 +59,12 @@ module _ {R : Type 0} (cmp : R → R → Ordering) (total : IsTotalOrder cmp) wh
       → IsAmong x changed ⊎ IsAmong x rows → IsAmong x (put_all cmp rows changed)
   among_put_all x [] rows each apart (inl at) = absurd at
   among_put_all x [] rows each apart (inr at) = at
-  among_put_all x (c ∷ changed) rows each apart at =
-      among_put_all x changed (put cmp rows c) each.1 (still_apart c changed rows each.0 apart.1) (by at)
-    where
-      by : IsAmong x (c ∷ changed) ⊎ IsAmong x rows → IsAmong x changed ⊎ IsAmong x (put cmp rows c)
-      by (inl (inl same)) = inr (among_put x c rows apart.0 (inl same))
-      by (inl (inr later)) = inl later
-      by (inr there) = inr (among_put x c rows apart.0 (inr there))
+  among_put_all x (c ∷ changed) rows each apart at = grind (arith, among_put_all x changed (put cmp rows c) each.1 (still_apart c changed rows each.0 apart.1), still_apart c changed rows each.0 apart.1, among_put x c rows apart.0)
 
 -- ---- claims have different numbers
 
 claim_ties : (c d : Claimed) → claim_cmp c d ≡ Equal → c.number ≡ d.number
-claim_ties c d ties = by (nat_cmp d.priority c.priority) ties
-  where
-    by : (o : Ordering) → ordering_then o (nat_cmp c.number d.number) ≡ Equal → c.number ≡ d.number
-    by Less is = cc
-    by Equal is = ranked c.number d.number Equal (sym is)
-    by Greater is = cc
+claim_ties c d ties = grind arith
 
 module _ (F : Farm) (steady : IsSteady F) where
   abbrev IsOther : Claimed → Claimed → Type 0

@@ -1,9 +1,9 @@
 -- How large the numbers of a pass's reply are, and that a pass leaves the kept replies.
-use Rattle.std.proofs.Common.{◌+◌, ◌++◌, ◌∙◌, ◌∷◌, ◌≡◌, ◌≤◌, Bool, List, None, Option, Some, ap, arith, cond, false, length, map, not, refl, sym, true, ℕ, []}
-use Rattle.farm_sound.proofs.Names.{BoardRow, Farm, filter, fold, JobState, length-map, length_put, members, option_map_or}
+use Rattle.std.proofs.Common.{[], ◌+◌, ◌++◌, ◌∙◌, ◌∷◌, ◌≡◌, ◌≤◌, Bool, List, ap, arith, length, map, not, refl, ℕ}
+use Rattle.farm_sound.proofs.Names.{Farm, filter, fold, JobState, length-map, length_put, members}
 use Rattle.std.proofs.lemmas.List.{length-append}
-use Rattle.farm_types.specs.Names.{checks, claim_cmp, Claimed, claims, claims_taken, collect, give, group_claim, is_due, is_free, is_group, is_waiting}
-use Rattle.farm_types.specs.Names.{leads_claim, least, may_collect, pass_over, put, put_all, queue, res_claim, serve, serve_all, Served}
+use Rattle.farm_types.specs.Names.{checks, claim_cmp, Claimed, claims, claims_taken, collect, group_claim, is_due, is_group, is_waiting}
+use Rattle.farm_types.specs.Names.{leads_claim, may_collect, pass_over, put, put_all, queue, res_claim, serve, serve_all, Served}
 use Rattle.farm_sound.proofs.Checks.{checks_rest}
 use Rattle.farm_sound.proofs.Claims.{claim_total}
 use Rattle.farm_sound.proofs.Collect.{collect_is, pairs_for}
@@ -27,22 +27,11 @@ few_claims F =
 
 served_few : (t : ℕ) (cs : List Claimed) (s : Served) → (fold (serve t) s cs).claims ≤ s.claims + length cs
 served_few t [] s = omega arith
-served_few t (c ∷ cs) s = by (λ u. served_few t cs u) (least s.farm.boards (is_free s.farm.types) c.wants)
-  where
-    by : ((u : Served) → (fold (serve t) u cs).claims ≤ u.claims + length cs) → (o : Option (List BoardRow))
-        → (fold (serve t) (option_map_or (λ bs. record { farm = give s.farm c bs t; claims = s.claims + 1 }) o
-        (record { farm = pass_over s.farm c; claims = s.claims })) cs).claims ≤ s.claims + length (c ∷ cs)
-    by rest None = omega (arith, rest (record { farm = pass_over s.farm c; claims = s.claims }))
-    by rest (Some bs) = omega (arith, rest (record { farm = give s.farm c bs t; claims = s.claims + 1 }))
+served_few t (c ∷ cs) s = grind (arith, served_few t cs)
 
 split_length : (test : Claimed → Bool) (cs : List Claimed) → length (filter test cs ++ filter (λ c. not (test c)) cs) ≤ length cs
 split_length test [] = omega arith
-split_length test (c ∷ cs) = by (test c) (split_length test cs)
-  where
-    by : (v : Bool) → length (filter test cs ++ filter (λ c. not (test c)) cs) ≤ length cs
-        → length (cond v (c ∷ filter test cs) (filter test cs) ++ cond (not v) (c ∷ filter (λ c. not (test c)) cs) (filter (λ c. not (test c)) cs)) ≤ length (c ∷ cs)
-    by true low = omega arith
-    by false low = rw length-append (let l : length (filter test cs) + length (filter (λ c. not (test c)) cs) ≤ length cs = rw (sym (length-append (filter test cs) (filter (λ c. not (test c)) cs))) low in omega arith)
+split_length test (c ∷ cs) = grind (arith, split_length test cs, length-append)
 
 pub few_served : (F : Farm) (group t : ℕ) → (serve_all F group t).claims ≤ length F.reservations + length F.jobs
 few_served F group t =
@@ -56,13 +45,7 @@ over_kept F c = by_cases (λ (G : Farm). G.kept ≡ F.kept) (may_collect F c) (c
 
 served_kept : (t : ℕ) (cs : List Claimed) (s : Served) → (fold (serve t) s cs).farm.kept ≡ s.farm.kept
 served_kept t [] s = refl
-served_kept t (c ∷ cs) s = by (λ u. served_kept t cs u) (least s.farm.boards (is_free s.farm.types) c.wants)
-  where
-    by : ((u : Served) → (fold (serve t) u cs).farm.kept ≡ u.farm.kept) → (o : Option (List BoardRow))
-        → (fold (serve t) (option_map_or (λ bs. record { farm = give s.farm c bs t; claims = s.claims + 1 }) o
-        (record { farm = pass_over s.farm c; claims = s.claims })) cs).farm.kept ≡ s.farm.kept
-    by rest None = rest (record { farm = pass_over s.farm c; claims = s.claims }) ∙ over_kept s.farm c
-    by rest (Some bs) = rest (record { farm = give s.farm c bs t; claims = s.claims + 1 }) ∙ ap (λ (G : Farm). G.kept) (give_rest s.farm c bs t)
+served_kept t (c ∷ cs) s = grind (arith, served_kept t cs, over_kept s.farm c, give_rest s.farm c)
 
 pub pass_kept : (F : Farm) (group t : ℕ) → (serve_all (checks F t) group t).farm.kept ≡ F.kept
 pass_kept F group t = served_kept t (claims_taken (checks F t) group) (record { farm = checks F t; claims = 0 }) ∙ ap (λ (G : Farm). G.kept) (checks_rest (filter (is_due F t) F.boards) F)

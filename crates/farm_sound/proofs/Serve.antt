@@ -1,6 +1,6 @@
 -- The claims are served in turn.
-use Rattle.std.proofs.Common.{◌&&◌, ◌++◌, ◌==◌, ◌∙◌, ◌∷◌, ◌≡◌, ◌≤◌, Bool, List, Some, ap, arith, cond, false, inl, inr, length, map, nat_le, not, refl, subst}
-use Rattle.std.proofs.Common.{sym, true, ℕ, []}
+use Rattle.std.proofs.Common.{[], ◌&&◌, ◌++◌, ◌==◌, ◌∙◌, ◌∷◌, ◌≡◌, ◌≤◌, Bool, List, Some, ap, arith, cond, false, inl, inr, length, map, nat_le, not, refl, subst}
+use Rattle.std.proofs.Common.{sym, true, ℕ}
 use Rattle.farm_sound.proofs.Names.{AllByRecursion, AllByRecursion-weaker, BoardRow, Equal, Farm, filter, find, fold, found_has, job_of}
 use Rattle.std.specs.List.Sorted.{IsStrictlySortedBy}
 use Rattle.farm_sound.proofs.Names.{JobRow, JobState, length-map, Less, list_all, members, nat_tests, option_map, res_of, ResRow, tied_itself, true≢false, Want}
@@ -49,13 +49,7 @@ clock_kept state ps F = ap (λ (G : Farm). G.clock) (given_rest state ps F)
 -- a claim that is served changes jobs, boards and reservations alone
 pub give_rest : (F : Farm) (c : Claimed) (bs : List BoardRow) (t : ℕ)
     → record (give F c bs t) { jobs = F.jobs; boards = F.boards; reservations = F.reservations } ≡ F
-give_rest F c bs t = by_cases (λ (G : Farm). record G { jobs = F.jobs; boards = F.boards; reservations = F.reservations } ≡ F) c.reservation
-    (give_res F c.number bs t) (give_group F c.number bs) (λ _. of_res bs)
-    (λ _. ap (λ (G : Farm). record G { reservations = F.reservations }) (given_rest JobState.Scheduled (zip (members F c.number) bs) F))
-  where
-    of_res : (bs : List BoardRow) → record (give_res F c.number bs t) { jobs = F.jobs; boards = F.boards; reservations = F.reservations } ≡ F
-    of_res [] = refl
-    of_res (b ∷ bs) = refl
+give_rest F c bs t = grind (arith, by_cases (λ (G : Farm). record G { jobs = F.jobs; boards = F.boards; reservations = F.reservations } ≡ F) c.reservation (give_res F c.number bs t) (give_group F c.number bs), given_rest JobState.Scheduled (zip (members F c.number) bs) F)
 
 pub give_clock : (F : Farm) (c : Claimed) (bs : List BoardRow) (t : ℕ) → (give F c bs t).clock ≡ F.clock
 give_clock F c bs t = ap (λ (G : Farm). G.clock) (give_rest F c bs t)
@@ -85,16 +79,7 @@ pub filter_given : (ps : List (JobRow × BoardRow)) (group other : ℕ) (jobs : 
     → AllByRecursion (λ m. (m.group == group) ≡ false → given JobState.Scheduled ps m ≡ m) jobs
     → filter (λ r. r.group == other) (map (given JobState.Scheduled ps) jobs) ≡ filter (λ r. r.group == other) jobs
 filter_given ps group other [] apart all = refl
-filter_given ps group other (m ∷ jobs) apart all =
-    rw (ap (λ g. g == other) (given_group JobState.Scheduled ps m)) (by (m.group == other) refl (filter_given ps group other jobs apart all.1))
-  where
-    by : (v : Bool) → (m.group == other) ≡ v → filter (λ r. r.group == other) (map (given JobState.Scheduled ps) jobs) ≡ filter (λ r. r.group == other) jobs
-        → cond v (given JobState.Scheduled ps m ∷ filter (λ r. r.group == other) (map (given JobState.Scheduled ps) jobs)) (filter (λ r. r.group == other) (map (given JobState.Scheduled ps) jobs))
-        ≡ cond v (m ∷ filter (λ r. r.group == other) jobs) (filter (λ r. r.group == other) jobs)
-    by true is rest =
-        let same : m.group ≡ other = same_number m.group other is in
-        λ i. all.0 (ap (λ g. g == group) same ∙ apart) i ∷ rest i
-    by false is rest = rest
+filter_given ps group other (m ∷ jobs) apart all = grind (arith, filter_given ps group other jobs apart all.1, given_group JobState.Scheduled ps m, same_number m.group other, all.0, nat_tests)
 
 module _ (F : Farm) (group : ℕ) (bs : List BoardRow)
     (parted : AllByRecursion (λ m. (m.group == group) ≡ false → given JobState.Scheduled (zip (members F group) bs) m ≡ m) F.jobs) where

@@ -1,7 +1,8 @@
 -- After a call that makes a pass no claim is met by free boards, and the group that collects not by its own with them.
-use Rattle.std.proofs.Common.{◌+◌, ◌∙◌, ◌≡◌, List, None, Option, Some, refl, subst, sym, ℕ}
-use Rattle.farm_sound.proofs.Names.{Call, Cmd, Farm, KeptRow, option_map_or, put_kept, Reply}
-use Rattle.farm_types.specs.Names.{act, answer, change, Changed, Denied, farm_at_call, IsSound, keep, kind_of, refusal, Repeated, repeated_reply, step}
+use native.Mathlib.Omega.{arith}
+use Rattle.std.proofs.Common.{◌+◌, ◌≡◌, List, None, subst, sym, ℕ}
+use Rattle.farm_sound.proofs.Names.{Call, Cmd, Farm, KeptRow, Reply}
+use Rattle.farm_types.specs.Names.{act, answer, change, Changed, farm_at_call, IsSound, keep, refusal, step}
 use Rattle.farm_sound.specs.Served.{IsServed, IsCollectorUnmet}
 use Rattle.farm_sound.proofs.Answered.{answers_changed, answers_denied, answers_repeated}
 use Rattle.farm_sound.proofs.Step.{IsSound-moved_to}
@@ -11,13 +12,7 @@ use Rattle.farm_sound.proofs.Passed.{pass_is_short, pass_serves}
 module _ (P : Farm → Type 0) (stays : (F : Farm) (kept : List KeptRow) (count : ℕ) → P F → P (record F { kept = kept; count = count }))
     (passes : (F : Farm) (caller : List ℕ) → IsSound F → P (act F caller Cmd.Pass).farm) where
   left_kept : (G : Farm) (call : Call) (reply : Reply) (count : ℕ) → P G → P (record (keep call reply G) { count = count })
-  left_kept G call reply count is = by call.key
-    where
-      by : (key : Option (List ℕ))
-          → P (record (option_map_or
-          (λ k. put_kept G (record { caller = call.caller; key = k; kind = kind_of call.cmd; reply = reply })) key G) { count = count })
-      by None = stays G G.kept count is
-      by (Some key) = stays G (put_kept G (record { caller = call.caller; key = key; kind = kind_of call.cmd; reply = reply })).kept count is
+  left_kept G call reply count is = grind arith
 
   left_changed : (F : Farm) (call : Call) → call.cmd ≡ Cmd.Pass → None ≡ refusal F call → IsSound F → P (change F call).farm
   unfolding change
@@ -28,12 +23,7 @@ module _ (P : Farm → Type 0) (stays : (F : Farm) (kept : List KeptRow) (count 
       left_kept (act G call.caller call.cmd).farm call (act G call.caller call.cmd).reply (F.count + 1) acted
 
   pub left_stepped : (F : Farm) (call : Call) (reply : Reply) → call.cmd ≡ Cmd.Pass → answer F call ≡ Changed reply → IsSound F → P (step F call)
-  left_stepped F call reply pass changed sound = by (repeated_reply F call) refl (refusal F call) refl
-    where
-      by : (kept : Option Reply) → repeated_reply F call ≡ kept → (code : Option ℕ) → refusal F call ≡ code → P (step F call)
-      by (Some r) is code denied = let e : Changed reply ≡ Repeated r = sym changed ∙ (answers_repeated F call r (sym is)).answer in cc
-      by None is (Some code) denied = let e : Changed reply ≡ Denied code = sym changed ∙ (answers_denied F call code (sym is) (sym denied)).answer in cc
-      by None is None denied = subst P (sym (answers_changed F call (sym is) (sym denied)).step) (left_changed F call pass (sym denied) sound)
+  left_stepped F call reply pass changed sound = grind (arith, answers_repeated F call, answers_denied F call, answers_changed F call, left_changed F call pass)
 
 pub IsServed-step : (F : Farm) (call : Call) (reply : Reply) → call.cmd ≡ Cmd.Pass → answer F call ≡ Changed reply → IsSound F → IsServed (step F call)
 IsServed-step = left_stepped IsServed (λ F kept count is. is) (λ F caller sound. pass_serves F sound)

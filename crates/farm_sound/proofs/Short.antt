@@ -1,11 +1,12 @@
 -- The group that collects isn't met by the free boards and its own together, from when it began to the end of the pass.
-use Rattle.std.proofs.Common.{◌&&◌, ◌==◌, ◌∙◌, ◌∷◌, ◌≡◌, ◌≤◌, Bool, List, None, Option, Some, ap, cond, false, inl, inr, length, map, refl, subst, sym, true}
-use Rattle.std.proofs.Common.{zip, ℕ, []}
+use native.Mathlib.Omega.{arith}
+use Rattle.std.proofs.Common.{[], ◌&&◌, ◌==◌, ◌∙◌, ◌∷◌, ◌≡◌, ◌≤◌, Bool, List, None, Option, Some, ap, cond, false, inl, inr, length, map, refl, subst, sym, true}
+use Rattle.std.proofs.Common.{zip, ℕ}
 use Rattle.farm_sound.proofs.Names.{AllByRecursion, AllByRecursion-weaker, BoardRow, bytes_eq, bytes_eq-Decides, Farm, filter, fold, found_has, Holder}
 use Rattle.farm_sound.proofs.Names.{job_of, JobRow, JobState, members, option_map, option_map_or, State, TypeRow}
 use Rattle.std.specs.List.Sorted.{IsStrictlySortedBy}
 use Rattle.farm_types.specs.Names.{change_where, Claimed, collect, collect_member, first_free, freed_board, give, give_group, give_member, give_res}
-use Rattle.farm_types.specs.Names.{giving_back, held_board, hold, is_free, is_job_so, is_nobody, IsAmong, IsHeldBy, IsHeldByKeys, IsSound, IsSteady, job_cmp}
+use Rattle.farm_types.specs.Names.{giving_back, held_board, hold, is_free, is_job_so, is_nobody, IsHeldBy, IsHeldByKeys, IsSound, IsSteady, job_cmp}
 use Rattle.farm_types.specs.Names.{job_gives, job_hold, leads_claim, least, may_collect, pass_over, same_job_state, shown_hold}
 use Rattle.farm_sound.specs.Served.{IsCollectorUnmet}
 use Rattle.farm_sound.proofs.Claims.{IsOpen, IsOpenGroup}
@@ -21,7 +22,7 @@ use Rattle.farm_sound.proofs.Own.{only_board}
 use Rattle.farm_sound.proofs.Rows.{hold_nothing}
 use Rattle.farm_sound.proofs.Serve.{as_many, filter_given, group_collects, res_collects_not}
 use Rattle.farm_sound.proofs.Tests.{same_number}
-use Rattle.farm_sound.proofs.Unmet.{IsUnmet, Shrinks, fold_shrinks, not_free, unmet_shrinks}
+use Rattle.farm_sound.proofs.Unmet.{IsUnmet, Shrinks, fold_shrinks, unmet_shrinks}
 use Rattle.farm_sound.proofs.Where.{AllByRecursion-both, by_cases, find_map}
 
 -- ---- boards that are given back
@@ -45,21 +46,12 @@ freed_none : (own : Holder → Bool) (bs : List BoardRow) → AllByRecursion (λ
 freed_none own [] none = refl
 freed_none own (b ∷ bs) none = λ i. cond (none.0 i) (freed_board b) b ∷ freed_none own bs none.1 i
 
--- a board, in the holder's hands or as it was
-abbrev taken_if : Bool → Holder → BoardRow → BoardRow
-taken_if v h c = cond v (held_board h State.Reserved c) c
-
 -- a board is given to one that isn't such a holder
 given_freed : (types : List TypeRow) (own : Holder → Bool) (h : Holder) (name : List ℕ) → is_nobody h ≡ false → own h ≡ false → (bs : List BoardRow)
     → Shrinks types (freed own bs) (freed own (change_where (λ c. bytes_eq c.name name) (held_board h State.Reserved) bs))
 given_freed types own h name taken other [] b at free = at
 given_freed types own h name taken other (c ∷ bs) b (inr at) free = inr (given_freed types own h name taken other bs b at free)
-given_freed types own h name taken other (c ∷ bs) b (inl same) free = by (bytes_eq c.name name) same
-  where
-    by : (v : Bool) → b ≡ cond (own (taken_if v h c).holder) (freed_board (taken_if v h c)) (taken_if v h c) → IsAmong b (freed own (c ∷ bs))
-    by true is = absurd (not_free types h c taken
-        (subst (λ x. is_free types x ≡ true) (is ∙ ap (λ v. cond v (freed_board (held_board h State.Reserved c)) (held_board h State.Reserved c)) other) free))
-    by false is = inl is
+given_freed types own h name taken other (c ∷ bs) b (inl same) free = grind arith
 
 fold_freed : (state : JobState) (own : Holder → Bool) (ps : List (JobRow × BoardRow)) (F : Farm) → AllByRecursion (λ p. own (Holder.Job p.0.number) ≡ false) ps
     → Shrinks F.types (freed own F.boards) (freed own (fold (give_member state) F ps).boards)
@@ -75,18 +67,7 @@ taken_freed : (types : List TypeRow) (own : Holder → Bool) (h : Holder) (b : B
     → AllByRecursion (WasIdle b) bs → Shrinks types (freed own bs) (freed own (change_where (λ c. bytes_eq c.name b.name) (held_board h State.Reserved) bs))
 taken_freed types own h b taken nobody [] idles d at free = at
 taken_freed types own h b taken nobody (c ∷ bs) idles d (inr at) free = inr (taken_freed types own h b taken nobody bs idles.1 d at free)
-taken_freed types own h b taken nobody (c ∷ bs) idles d (inl same) free = by (bytes_eq c.name b.name) refl same
-  where
-    mine : (c.holder ≡ Holder.Nobody) × (c.state ≡ State.Idle) → (v : Bool) → d ≡ cond v (freed_board (held_board h State.Reserved c)) (held_board h State.Reserved c) → IsAmong d (freed own (c ∷ bs))
-    mine was true is =
-        let giving_back : freed_board c ≡ c = λ i. record c { holder = sym was.0 i; state = sym was.1 i } in
-        let none : own c.holder ≡ false = ap own was.0 ∙ nobody in
-        inl (is ∙ giving_back ∙ sym (ap (λ v. cond v (freed_board c) c) none))
-    mine was false is = absurd (not_free types h c taken (subst (λ x. is_free types x ≡ true) is free))
-
-    by : (v : Bool) → bytes_eq c.name b.name ≡ v → d ≡ cond (own (taken_if v h c).holder) (freed_board (taken_if v h c)) (taken_if v h c) → IsAmong d (freed own (c ∷ bs))
-    by true so is = mine (idles.0 so) (own h) is
-    by false so is = inl is
+taken_freed types own h b taken nobody (c ∷ bs) idles d (inl same) free = grind arith
 
 was_idle : (F : Farm) (b : BoardRow) → IsFreeBoard F b → IsSteady F → IsHeldByKeys F → AllByRecursion (WasIdle b) F.boards
 was_idle F b free steady holds = AllByRecursion-weaker
@@ -161,16 +142,7 @@ module _ (F : Farm) (c : Claimed) (j : JobRow) (bs : List BoardRow) (is : IsOpen
 
   -- a job collects as it did
   collects_still : (m : JobRow) → Share m → collects G.collector (after m) ≡ collects F.collector m
-  collects_still m share = by (m.group == j.group) refl
-    where
-      kept : G.collector ≡ F.collector
-      kept = collector_kept JobState.Scheduled ps F
-
-      by : (v : Bool) → (m.group == j.group) ≡ v → collects G.collector (after m) ≡ collects F.collector m
-      by true at =
-          (λ i. (given_group JobState.Scheduled ps m i == kept i) && same_job_state (share.mine (same_number m.group j.group at) i) JobState.Scheduling)
-          ∙ (λ i. (m.group == F.collector) && same_job_state (sym (share.was at) i) JobState.Scheduling)
-      by false at = λ i. collects (kept i) (share.other at i)
+  collects_still m share = grind (arith, collector_kept JobState.Scheduled ps F, given_group JobState.Scheduled ps m, share.mine, same_number m.group j.group, share.was, share.other)
 
   owned_still : (h : Holder) → owned G h ≡ owned F h
   owned_still Holder.Nobody = refl

@@ -1,7 +1,7 @@
 -- Groups: each member in the phase of the one before it, and all members in one phase.
-use Rattle.std.proofs.Common.{◌+◌, ◌-◌, ◌==◌, ◌∙◌, ◌≡◌, ◌≢◌, ◌≤◌, Bool, IsSomeAnd, List, None, Option, Some, ap, arith, false, length, refl, subst, suc, sym}
+use Rattle.std.proofs.Common.{◌+◌, ◌-◌, ◌==◌, ◌≡◌, ◌≢◌, ◌≤◌, Bool, IsSomeAnd, List, Some, arith, false, length, refl, subst, suc}
 use Rattle.std.proofs.Common.{true, zero, ℕ}
-use Rattle.farm_sound.proofs.Names.{AllByRecursion, AllByRecursion-weaker, BoardRow, bytes_eq, bytes_eq-Decides, Farm, filter, find, found_has, found_passes}
+use Rattle.farm_sound.proofs.Names.{AllByRecursion, AllByRecursion-weaker, bytes_eq, bytes_eq-Decides, Farm, filter, found_has, found_passes}
 use Rattle.farm_sound.proofs.Names.{job_of, JobRow, nat_tests}
 use Rattle.farm_types.specs.Names.{AreGroupsInPhase, Follows, IsJobRow, most_boards_of_type, phase}
 use Rattle.farm_sound.specs.ByRows.{IsInStep, IsOfFew}
@@ -63,13 +63,7 @@ module _ (F : Farm) where
           lead p group same (rest p is_p near_p)
 
   one_phase : (j m : JobRow) → IsLed j → IsLed m → m.group ≡ j.group → phase m.state ≡ phase j.state
-  one_phase j m led_j led_m group =
-      by (job_of F j.group) led_j (subst (λ k. IsSomeAnd (job_of F k) (λ first. phase first.state ≡ phase m.state)) group led_m)
-    where
-      by : (o : Option JobRow) → IsSomeAnd o (λ first. phase first.state ≡ phase j.state) → IsSomeAnd o (λ first. phase first.state ≡ phase m.state)
-          → phase m.state ≡ phase j.state
-      by None a b = absurd a
-      by (Some first) a b = sym b ∙ a
+  one_phase j m led_j led_m group = grind arith
 
   pub whole_from_steps : AllByRecursion (λ j. job_of F j.number ≡ Some j) F.jobs → AllByRecursion (IsJobRow F) F.jobs
       → AllByRecursion (IsInStep F) F.jobs → AreGroupsInPhase F
@@ -84,11 +78,4 @@ module _ (F : Farm) where
   -- ---- few of each board's type are few of each type
 
   pub few_of_kinds : AllByRecursion (IsOfFew F) F.boards → (kind : List ℕ) → length (filter (λ b. bytes_eq b.kind kind) F.boards) ≤ most_boards_of_type
-  few_of_kinds few kind = by (find (λ b. bytes_eq b.kind kind) F.boards) refl
-    where
-      by : (o : Option BoardRow) → find (λ b. bytes_eq b.kind kind) F.boards ≡ o → length (filter (λ b. bytes_eq b.kind kind) F.boards) ≤ most_boards_of_type
-      by None is = subst (λ n. n ≤ most_boards_of_type)
-          (sym (ap length (none_pass (λ b. bytes_eq b.kind kind) F.boards (all_fail (λ b. bytes_eq b.kind kind) F.boards is)))) (omega arith)
-      by (Some b) is =
-          let e : b.kind ≡ kind = (bytes_eq-Decides b.kind kind).0 (found_passes (λ b. bytes_eq b.kind kind) b F.boards is) in
-          subst (λ k. length (filter (λ b. bytes_eq b.kind k) F.boards) ≤ most_boards_of_type) e (found_has (IsOfFew F) (λ b. bytes_eq b.kind kind) b F.boards few is)
+  few_of_kinds few kind = grind (arith, none_pass, all_fail, bytes_eq-Decides, found_passes, found_has)

@@ -36,12 +36,7 @@ started_from s is = absurd (false≢true is)
 
 -- who waits for boards is in the first phase
 pub waits_from : (j : JobRow) → waits j ≡ true → phase j.state ≡ 0
-waits_from j is = by j.state is
-  where
-    by : (s : JobState) → (same_job_state s JobState.Submitted || same_job_state s JobState.Scheduling) ≡ true → phase s ≡ 0
-    by JobState.Submitted is = refl
-    by JobState.Scheduling is = refl
-    by s is = absurd (false≢true is)
+waits_from j is = grind arith
 
 pub scheduling_from : (s : JobState) → same_job_state s JobState.Scheduling ≡ true → s ≡ JobState.Scheduling
 scheduling_from JobState.Scheduling is = refl

@@ -1,10 +1,11 @@
 -- A claim that no free boards meet stays so while others are served: free boards only become fewer.
-use Rattle.std.proofs.Common.{◌&&◌, ◌∙◌, ◌∷◌, ◌≡◌, Bool, List, None, Option, Some, cond, false, inl, inr, refl, subst, sym, true, ℕ, []}
-use Rattle.farm_sound.proofs.Names.{AllByRecursion-weaker, BoardRow, bytes_eq, false≢true, Farm, fold, Holder, JobRow, JobState, list_all}
+use native.Mathlib.Omega.{arith}
+use Rattle.std.proofs.Common.{[], ◌&&◌, ◌∷◌, ◌≡◌, List, None, Option, Some, false, inl, inr, refl, subst, sym, true, ℕ}
+use Rattle.farm_sound.proofs.Names.{AllByRecursion-weaker, BoardRow, bytes_eq, Farm, fold, Holder, JobRow, JobState, list_all}
 use Rattle.std.specs.List.Sorted.{IsStrictlySortedBy}
 use Rattle.farm_sound.proofs.Names.{members, pointwise, State, TypeRow, Want, zip}
-use Rattle.farm_types.specs.Names.{are_apart, board_cmp, change_where, Claimed, fits, give, give_group, give_member, give_res, held_board, is_free, is_nobody}
-use Rattle.farm_types.specs.Names.{IsAmong, least, serves}
+use Rattle.farm_types.specs.Names.{are_apart, board_cmp, change_where, Claimed, fits, give, give_member, give_res, held_board, is_free, is_nobody}
+use Rattle.farm_types.specs.Names.{IsAmong, least}
 use Rattle.farm_sound.proofs.Least.{IsLeast-least, none_meets}
 use Rattle.farm_sound.proofs.Lists.{all_tested}
 use Rattle.farm_sound.proofs.Tests.{both}
@@ -31,20 +32,12 @@ unmet_shrinks types old new wants sorted shrinks none = by (least new (is_free t
         (AllByRecursion-weaker (λ b two. shrinks b two.0 two.1) bs
         (AllByRecursion-both (λ b. IsAmong b new) (λ b. is_free types b ≡ true) bs best.among free)) best.meeting)
 
--- a board in someone's hands isn't free
-pub not_free : (types : List TypeRow) (h : Holder) (b : BoardRow) → is_nobody h ≡ false → is_free types (held_board h State.Reserved b) ≡ true → ⊥
-not_free types h b taken free = false≢true (sym taken ∙ (both (serves types (held_board h State.Reserved b)) (is_nobody h) free).1)
-
 -- a board is given
 given_shrinks : (types : List TypeRow) (h : Holder) (name : List ℕ) → is_nobody h ≡ false → (bs : List BoardRow)
     → Shrinks types bs (change_where (λ c. bytes_eq c.name name) (held_board h State.Reserved) bs)
 given_shrinks types h name taken [] b at free = at
 given_shrinks types h name taken (c ∷ bs) b (inr at) free = inr (given_shrinks types h name taken bs b at free)
-given_shrinks types h name taken (c ∷ bs) b (inl same) free = by (bytes_eq c.name name) same
-  where
-    by : (v : Bool) → b ≡ cond v (held_board h State.Reserved c) c → IsAmong b (c ∷ bs)
-    by true is = absurd (not_free types h c taken (subst (λ x. is_free types x ≡ true) is free))
-    by false is = inl is
+given_shrinks types h name taken (c ∷ bs) b (inl same) free = grind arith
 
 pub fold_shrinks : (state : JobState) (ps : List (JobRow × BoardRow)) (F : Farm)
     → ((fold (give_member state) F ps).types ≡ F.types) × Shrinks F.types F.boards (fold (give_member state) F ps).boards
@@ -58,12 +51,7 @@ res_shrinks F n [] t = (refl, λ b at free. at)
 res_shrinks F n (b ∷ bs) t = (refl, given_shrinks F.types (Holder.Res n) b.name refl F.boards)
 
 pub give_shrinks : (F : Farm) (c : Claimed) (bs : List BoardRow) (t : ℕ) → ((give F c bs t).types ≡ F.types) × Shrinks F.types F.boards (give F c bs t).boards
-give_shrinks F c bs t = by c.reservation
-  where
-    by : (v : Bool) → ((cond v (give_res F c.number bs t) (give_group F c.number bs)).types ≡ F.types) × Shrinks F.types F.boards
-        (cond v (give_res F c.number bs t) (give_group F c.number bs)).boards
-    by true = res_shrinks F c.number bs t
-    by false = fold_shrinks JobState.Scheduled (zip (members F c.number) bs) F
+give_shrinks F c bs t = grind (arith, res_shrinks F c.number bs t, fold_shrinks JobState.Scheduled (zip (members F c.number) bs) F)
 
 -- so a claim that isn't met stays so when another is served
 pub IsUnmet-give : (F : Farm) (c : Claimed) (bs : List BoardRow) (t : ℕ) (wants : List Want) → IsStrictlySortedBy board_cmp (give F c bs t).boards

@@ -1,5 +1,6 @@
 -- Rows that are changed where they pass a test.
-use Rattle.std.proofs.Common.{◌∙◌, ◌∷◌, ◌≡◌, Bool, List, None, Option, Some, ap, cond, false, length, map, refl, true, []}
+use native.Mathlib.Omega.{arith}
+use Rattle.std.proofs.Common.{[], ◌∙◌, ◌∷◌, ◌≡◌, Bool, List, Some, ap, cond, false, length, map, refl, true}
 use Rattle.farm_sound.proofs.Names.{AllByRecursion, filter, find, found_passes, length-map, Less, option_map, Ordering}
 use Rattle.std.specs.List.Sorted.{IsStrictlySortedBy}
 use Rattle.farm_types.specs.Names.{change_where}
@@ -40,11 +41,7 @@ AllByRecursion-both P Q (r ∷ rows) p q = ((p.0, q.0), AllByRecursion-both P Q 
 pub find_map : {R : Type 0} (test : R → Bool) (f : R → R) → ((r : R) → test (f r) ≡ test r) → (rows : List R)
     → find test (map f rows) ≡ option_map f (find test rows)
 find_map test f same [] = refl
-find_map test f same (r ∷ rows) = rw (same r, find_map test f same rows) (by (test r))
-  where
-    by : (v : Bool) → cond v (Some (f r)) (option_map f (find test rows)) ≡ option_map f (cond v (Some r) (find test rows))
-    by true = refl
-    by false = refl
+find_map test f same (r ∷ rows) = grind (arith, find_map test f same rows)
 
 -- a row is found as before, and changed
 pub find_where : {R : Type 0} (p test : R → Bool) (f : R → R) → ((r : R) → p (f r) ≡ p r) → (rows : List R)
@@ -54,11 +51,7 @@ find_where p test f same rows = find_map p (changed test f) (changed_keeps p tes
 -- and as before where it isn't one of those that change
 pub find_untouched : {R : Type 0} (p test : R → Bool) (f : R → R) → ((r : R) → p (f r) ≡ p r) → ((r : R) → p r ≡ true → test r ≡ false) → (rows : List R)
     → find p (change_where test f rows) ≡ find p rows
-find_untouched {R = R} p test f same apart rows = find_where p test f same rows ∙ by (find p rows) refl
-  where
-    by : (o : Option R) → find p rows ≡ o → option_map (changed test f) o ≡ o
-    by None is = refl
-    by (Some r) is = ap (λ v. Some (cond v (f r) r)) (apart r (found_passes p r rows is))
+find_untouched {R = R} p test f same apart rows = grind (arith, find_where p test f same rows, found_passes p)
 
 pub find_touched : {R : Type 0} (p test : R → Bool) (f : R → R) → ((r : R) → p (f r) ≡ p r) → (r : R) (rows : List R) → find p rows ≡ Some r → test r ≡ true
     → find p (change_where test f rows) ≡ Some (f r)
@@ -69,11 +62,7 @@ find_touched p test f same r rows there so =
 pub filter_same : {R : Type 0} (test : R → Bool) (f : R → R) → ((r : R) → test (f r) ≡ test r) → (rows : List R)
     → filter test (map f rows) ≡ map f (filter test rows)
 filter_same test f same [] = refl
-filter_same test f same (r ∷ rows) = rw (same r, filter_same test f same rows) (by (test r))
-  where
-    by : (v : Bool) → cond v (f r ∷ map f (filter test rows)) (map f (filter test rows)) ≡ map f (cond v (r ∷ filter test rows) (filter test rows))
-    by true = refl
-    by false = refl
+filter_same test f same (r ∷ rows) = grind (arith, filter_same test f same rows)
 
 pub count_map : {R : Type 0} (test : R → Bool) (f : R → R) → ((r : R) → test (f r) ≡ test r) → (rows : List R)
     → length (filter test (map f rows)) ≡ length (filter test rows)

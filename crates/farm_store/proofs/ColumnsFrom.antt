@@ -1,5 +1,5 @@
 -- The columns of a row from one place on.
-use Rattle.std.proofs.Common.{refl, ◌≡◌, ℕ, zero, suc, [], ◌∷◌, length, ap, ap₂, sym, ◌∙◌, arith}
+use Rattle.std.proofs.Common.{[], refl, ◌≡◌, ℕ, zero, suc, ◌∷◌, length, ap, ap₂, sym, ◌∙◌, arith}
 use Rattle.farm_store.proofs.Names.{column, HasColumns, IsWide, Row, row_less_rowid, with_number}
 
 abbrev pub columns_from : ℕ → ℕ → Row → Row
@@ -41,9 +41,4 @@ of_unnumbered n r = shifted 0 n r
 
 -- the rowid, and what follows the column that stands for it
 pub of_numbered : (n : ℕ) (r : Row) → ◌≡◌ {A = Row} (column r 0 ∷ columns_from 2 n r) (columns_from 0 (suc n) (with_number r))
-of_numbered n r = ap (λ l. column r 0 ∷ l) (shifted 1 n r ∙ shifted 0 n (row_less_rowid r) ∙ ap (columns_from 0 n) (twice r) ∙ sym (shifted 0 n (with_number r)))
-  where
-    twice : (r : Row) → row_less_rowid (row_less_rowid r) ≡ row_less_rowid (with_number r)
-    twice [] = refl
-    twice (v ∷ []) = refl
-    twice (v ∷ w ∷ r) = refl
+of_numbered n r = grind (arith, column r 0, shifted 1 n r, shifted 0 n (row_less_rowid r), shifted 0 n (with_number r))

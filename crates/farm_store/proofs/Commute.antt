@@ -1,9 +1,9 @@
 -- Rows put into a farm are rows put into its tables.
-use Rattle.farm_store.proofs.Names.{BoardRow, Farm, int_cmp_is, JobRow, KeptRow, match_ordering, MatchOrdering, MetaRow, nat_cmp, nat_tests, put_rows, ResRow}
+use Rattle.farm_store.proofs.Names.{BoardRow, Farm, int_cmp_is, JobRow, KeptRow, MatchOrdering, MetaRow, nat_cmp, nat_tests, put_rows, ResRow}
 use Rattle.farm_store.proofs.Names.{Rows, TypeRow, value_cmp-Int, value_cmp-Text}
 use Rattle.std.specs.Prelude.{◌<ℤ◌, nat_lt, ◌==◌}
 use Rattle.std.proofs.lemmas.Int.{ints}
-use Rattle.std.proofs.Common.{arith, ◌<◌, Bool, true, false, cond, ◌≡◌, ℕ, pos, List, [], ◌∷◌, map, refl, sym, ap, ◌∙◌, Ordering, Less, Equal, Greater}
+use Rattle.std.proofs.Common.{[], arith, ◌<◌, Bool, true, false, cond, ◌≡◌, ℕ, pos, List, ◌∷◌, map, refl, sym, ap, ◌∙◌, Ordering, Less, Equal, Greater}
 use Rattle.std.specs.Cmp.Lexicographic.{slice_cmp}
 use Rattle.sqlite.specs.declared.types.Value.TheVariants.{Int, Text}
 use Rattle.sqlite_value.specs.Order.{value_cmp}
@@ -15,12 +15,7 @@ use Rattle.farm_store.proofs.PutAt.{put_tables}
 module _ {X Y : Type 0} (f : X → Y) (c : Y → Y → Ordering) (d : X → X → Ordering) (same : (a b : X) → c (f a) (f b) ≡ d a b) where
   map_put : (rows : List X) (x : X) → map f (put d rows x) ≡ put c (map f rows) (f x)
   map_put [] x = refl
-  map_put (r ∷ rows) x = rw (same x r, sym (map_put rows x)) (by (d x r))
-    where
-      by : (o : Ordering) → map f (match_ordering o (x ∷ r ∷ rows) (x ∷ rows) (r ∷ put d rows x)) ≡ match_ordering o (f x ∷ f r ∷ map f rows) (f x ∷ map f rows) (f r ∷ map f (put d rows x))
-      by Less = refl
-      by Equal = refl
-      by Greater = refl
+  map_put (r ∷ rows) x = grind (arith, map_put rows x)
 
   map_put_all : (rows changed : List X) → map f (put_all d rows changed) ≡ put_all c (map f rows) (map f changed)
   map_put_all rows [] = refl

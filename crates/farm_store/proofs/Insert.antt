@@ -1,5 +1,6 @@
 -- What INSERT of one row makes of the tables; and with ON CONFLICT, in a table that is keyed by its first column, a text: the row is written over the one that has the key, or is new.
-use Rattle.std.proofs.Common.{◌≡◌, inl, inr, ℕ, ℤ, List, [], ◌∷◌, ◌++◌, false, length, ◌/◌, slice_get, Option, Some, None, Ok, sym, ap, subst, ◌∙◌, refl, ◌||◌}
+use native.Mathlib.Omega.{arith}
+use Rattle.std.proofs.Common.{[], ◌≡◌, inl, inr, ℕ, ℤ, List, ◌∷◌, ◌++◌, false, length, ◌/◌, slice_get, Option, Some, None, Ok, sym, ap, subst, ◌∙◌, refl, ◌||◌}
 use Rattle.std.proofs.Common.{true, ap₂, is_eq, Equal}
 use Rattle.farm_store.proofs.Names.{Abort, agree, all_has, AreConflicts, AreListed, AtPlace, by_first, cases_Bool, cast_row, catalog_tree, Chosen, Column}
 use Rattle.farm_store.proofs.Names.{command_of, conflicts, Database, Does, farm_schema, Given, Has, HasInt, HoldsAt, ids_of, InsertOr, int_is, is_int, IsInside}
@@ -11,7 +12,7 @@ use Rattle.sqlite.specs.Source.TheVariants.{Values}
 use Rattle.sqlite.specs.Listing.{understood}
 use Rattle.sqlite.specs.Edit.{with_rowid, edit_of, are_fresh, without_all, put_all, id_in, taken_by}
 use Rattle.sqlite.specs.Rows.{Task, Written, Upserts, Judged, Tries, TriesEach, InsertsOr, count_of, mended, nothing, passes_over, Then, Gives, Edited, shown}
-use Rattle.sqlite.specs.Rows.{Updates, Puts, Clears, Meets}
+use Rattle.sqlite.specs.Rows.{Updates, Puts, Meets}
 use Rattle.sqlite.specs.State.{State, mode_of, ExecutesInside}
 use Rattle.sqlite.specs.declared.run.Mode.{Mode}
 use Rattle.sqlite_schema.specs.declared.command.Conflict.{Conflict}
@@ -203,11 +204,7 @@ module _ (name : List ℕ) (tree : ℕ) (columns : List Column) (width : ℕ) (p
 
       -- whichever rows have the key
       either : (found : List Row) → AreConflicts (Some (1 ∷ [])) farm_schema.indexes keyed_table (db tree) new found → (w : Written) → Meets the_task (Upserts the_task Abort new db []) new db the_clause found (Ok w) → Makes w.trees
-      either [] are w met = adds are w (puts_of met.0 met.2)
-        where
-          puts_of : (found : List Row) → Clears the_task Abort new db found (Ok w) → Puts the_task new db (Ok w)
-          puts_of [] h = h
-          puts_of (y ∷ more) h = h
+      either [] are w met = grind (arith, adds are w)
       either (there ∷ more) are w met =
           let s = are.sound there (inl refl) in
           updated s.0 s.1 (eq_is _ (sym (has_key s.0 s.1) ∙ s.2)) w (subst (λ (k : Row). Updates the_task (record { lets = []; body = query tree (rowid_alone width) project }) (x ++ rowid k ∷ shown keyed_table new) db (Ok w)) s.3 met)

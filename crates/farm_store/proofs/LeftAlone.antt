@@ -1,10 +1,8 @@
 -- What a call that only reads leaves of a connection.
-use Rattle.std.proofs.Common.{inl, inr, ◌≡◌, ◌⊎◌, ◌++◌, ℕ, false, List, [], Option, Some, None, sym, subst, ◌∙◌, arith}
-use Rattle.sqlite.specs.Clock.{timed}
+use Rattle.std.proofs.Common.{[], inl, inr, ◌≡◌, ◌⊎◌, ◌++◌, ℕ, false, List, sym, subst, ◌∙◌, arith}
 use Rattle.farm_store.proofs.Names.{AllByRecursion, AsksFor, Database, Error, IsWide, ReadsOnly, Row, ShowsTablesWith, StandsWith, TableColumns, TableRows}
 use Rattle.farm_store.proofs.Names.{TableSlot, Trees}
-use Rattle.sqlite.specs.State.{State, HasCleanDisk, Begins, FailsToQuery, FailsToShow, IsNotRun, IsRolledBack, IsUnchanged, Shown, Survives}
-use Rattle.sqlite_schema.specs.declared.command.Returning.{Returning}
+use Rattle.sqlite.specs.State.{State, HasCleanDisk, Begins, FailsToQuery, IsNotRun, IsRolledBack, IsUnchanged, Shown, Survives}
 use Rattle.farm_store.proofs.OnlyReads.{shown, shown_first}
 
 -- it is as it was, or it went back to the last commit
@@ -20,11 +18,7 @@ not_run_left sql params old new e (inr h) = inr h.3
 pub failed_left : (sql : List ℕ) (params : Row) (old new : State) (e : Error) → FailsToQuery sql params old new e → IsLeft old new
 unfolding FailsToQuery
 failed_left sql params old new e (inl h) = not_run_left sql params old new e h
-failed_left sql params old new e (inr h) = by h.0.returning h.2
-  where
-    by : (o : Option Returning) → FailsToShow old new sql h.0 (timed params h.0.formats h.1.now) e o → IsLeft old new
-    by None it = inl it.3
-    by (Some what) it = elim it [ inl still ↦ inl still.1 | inr undone ↦ inr undone.3 ]
+failed_left sql params old new e (inr h) = grind arith
 
 stands : (old new : State) (columns : TableColumns) (T : TableRows) → IsLeft old new → new.in_transaction ≡ false → ((db : Trees) → new.may_leave db → old.may_leave db) → StandsWith columns old T → StandsWith columns new T
 stands old new columns T (inl same) auto left at = record {

@@ -1,10 +1,11 @@
 -- A query that only reads, whatever the schema is.
-use Rattle.std.proofs.Common.{refl, inl, inr, ◌≡◌, ◌+◌, ℕ, Bool, true, false, if◌then◌else◌, List, [], Option, Some, None, Result, Ok, Err, IsSome, is_ok, sym}
+use native.Mathlib.Omega.{arith}
+use Rattle.std.proofs.Common.{[], refl, inl, inr, ◌≡◌, ◌+◌, ℕ, false, List, Option, Some, None, Result, Ok, Err, IsSome, is_ok, sym}
 use Rattle.std.proofs.Common.{ap, subst, ◌∙◌}
 use Rattle.sqlite.specs.Clock.{timed as with_time}
 use Rattle.farm_store.proofs.Names.{Held, OnlyReads, Reads, ReadsFirst, ReturnsFirstRows, ReturnsRows, Row, state, Trees}
 use Rattle.sqlite.specs.Given.{HasBegun, HasGiven, Returns}
-use Rattle.sqlite.specs.Listing.{understood, reads_listing, if_select, listing_schema, IsSourceOf}
+use Rattle.sqlite.specs.Listing.{understood, if_select, listing_schema, IsSourceOf}
 use Rattle.sqlite.specs.Schema.{Schema}
 use Rattle.sqlite.specs.State.{State, Begins, CommitsShowing, IsUnchanged, Shown, ShowsRows}
 use Rattle.sqlite_tied.specs.Compute.{everything}
@@ -54,12 +55,7 @@ bare schema text c alone is =
 -- and it is a query of the schema's own tables, where the listing has none of that name
 pub only_reads : (text : List ℕ) → ((schema : Schema) → IsBareIn schema text) → is_ok (if_select (compiled listing_schema text)) ≡ false → OnlyReads text
 unfolding understood
-only_reads text alone unlisted schema c is = by (reads_listing schema text) refl is
-  where
-    by : (b : Bool) → reads_listing schema text ≡ b → (if b then if_select (compiled listing_schema text) else compiled schema text) ≡ Ok c
-        → (reads_listing schema text ≡ false) × (c.returning ≡ None) × (c.formats ≡ [])
-    by true missing is = absurd (let e = sym unlisted ∙ ap is_ok is in cc)
-    by false there is = let none = bare schema text c (alone schema) is in (there, none.0, none.1)
+only_reads text alone unlisted schema c is = grind (arith, bare schema text c (alone schema))
 
 module _ (text : List ℕ) (only : OnlyReads text) where
   -- what a statement with this text showed, the query shows, and it changed nothing

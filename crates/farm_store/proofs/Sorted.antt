@@ -1,5 +1,6 @@
 -- Rows in the strict order of their keys.
-use Rattle.std.proofs.Common.{refl, ◌≡◌, ◌≢◌, ◌⊎◌, inl, inr, List, [], ◌∷◌, sym, ap, ◌∙◌, Ordering, Less, Equal, Greater}
+use native.Mathlib.Omega.{arith}
+use Rattle.std.proofs.Common.{[], refl, ◌≡◌, ◌≢◌, ◌⊎◌, inl, inr, List, ◌∷◌, sym, ap, ◌∙◌, Ordering, Less, Equal, Greater}
 use Rattle.farm_store.proofs.Names.{all_has, AllByRecursion, Has, IsStrict, IsTotalOrder, match_ordering, ordering_reverse, put, tied_back}
 
 pub all_put : {X : Type 0} (cmp : X → X → Ordering) (P : X → Type 0) (x : X) (ys : List X) → P x → AllByRecursion P ys → AllByRecursion P (put cmp ys x)
@@ -28,12 +29,7 @@ module _ {X : Type 0} {cmp : X → X → Ordering} (total : IsTotalOrder cmp) wh
 
   pub put_strict : (x : X) (ys : List X) → IsStrict cmp ys → IsStrict cmp (put cmp ys x)
   put_strict x [] up = (tt, tt)
-  put_strict x (y ∷ ys) up = go (cmp x y) refl (put_strict x ys up.1)
-    where
-      go : (o : Ordering) → cmp x y ≡ o → IsStrict cmp (put cmp ys x) → IsStrict cmp (match_ordering o (x ∷ y ∷ ys) (x ∷ ys) (y ∷ put cmp ys x))
-      go Less is more = ((is, all_map (λ b. cmp y b ≡ Less) (λ b. cmp x b ≡ Less) ys (λ b low. total.trans x y b is low) up.0), up)
-      go Equal is more = (all_map (λ b. cmp y b ≡ Less) (λ b. cmp x b ≡ Less) ys (λ b low. total.congr x y b is ∙ low) up.0, up.1)
-      go Greater is more = (all_put cmp (λ b. cmp y b ≡ Less) x ys (turned x y is) up.0, more)
+  put_strict x (y ∷ ys) up = grind (arith, put_strict x ys up.1, all_map, all_map (λ b. cmp y b ≡ Less) (λ b. cmp x b ≡ Less) ys, all_put cmp (λ b. cmp y b ≡ Less) x ys, turned x y)
 
   pub put_adds : (x : X) (ys : List X) → Has (put cmp ys x) x
   put_adds x [] = inl refl
@@ -41,14 +37,7 @@ module _ {X : Type 0} {cmp : X → X → Ordering} (total : IsTotalOrder cmp) wh
 
   pub put_keeps : (x : X) (ys : List X) (z : X) → Has ys z → cmp z x ≢ Equal → Has (put cmp ys x) z
   put_keeps x [] z h apart = absurd h
-  put_keeps x (y ∷ ys) z h apart = go (cmp x y) refl h (λ later. put_keeps x ys z later apart)
-    where
-      go : (o : Ordering) → cmp x y ≡ o → Has (y ∷ ys) z → (Has ys z → Has (put cmp ys x) z) → Has (match_ordering o (x ∷ y ∷ ys) (x ∷ ys) (y ∷ put cmp ys x)) z
-      go Less is here more = inr here
-      go Equal is (inl same) more = absurd (apart (tied_back total x z (ap (λ w. cmp x w) same ∙ is)))
-      go Equal is (inr later) more = inr later
-      go Greater is (inl same) more = inl same
-      go Greater is (inr later) more = inr (more later)
+  put_keeps x (y ∷ ys) z h apart = grind (arith, put_keeps x ys z)
 
   apart_if_below : (z x : X) → cmp x z ≡ Less → cmp z x ≢ Equal
   apart_if_below z x low tie = let e = sym low ∙ tied_back total z x tie in cc
@@ -59,13 +48,4 @@ module _ {X : Type 0} {cmp : X → X → Ordering} (total : IsTotalOrder cmp) wh
   pub put_has : (x : X) (ys : List X) (z : X) → IsStrict cmp ys → Has (put cmp ys x) z → (z ≡ x) ⊎ (Has ys z × (cmp z x ≢ Equal))
   put_has x [] z up (inl same) = inl same
   put_has x [] z up (inr none) = absurd none
-  put_has x (y ∷ ys) z up h = go (cmp x y) refl h (put_has x ys z up.1)
-    where
-      go : (o : Ordering) → cmp x y ≡ o → Has (match_ordering o (x ∷ y ∷ ys) (x ∷ ys) (y ∷ put cmp ys x)) z → (Has (put cmp ys x) z → (z ≡ x) ⊎ (Has ys z × (cmp z x ≢ Equal))) → (z ≡ x) ⊎ (Has (y ∷ ys) z × (cmp z x ≢ Equal))
-      go Less is (inl same) more = inl same
-      go Less is (inr (inl same)) more = inr (inl same, apart_if_below z x (ap (λ w. cmp x w) same ∙ is))
-      go Less is (inr (inr later)) more = inr (inr later, apart_if_below z x (total.trans x y z is (all_has (λ b. cmp y b ≡ Less) ys z up.0 later)))
-      go Equal is (inl same) more = inl same
-      go Equal is (inr later) more = inr (inr later, apart_if_below z x (total.congr x y z is ∙ all_has (λ b. cmp y b ≡ Less) ys z up.0 later))
-      go Greater is (inl same) more = inr (inl same, apart_if_above z x (ap (λ w. cmp w x) same ∙ turned x y is))
-      go Greater is (inr later) more = elim (more later) [ inl new ↦ inl new | inr old ↦ inr (inr old.0, old.1) ]
+  put_has x (y ∷ ys) z up h = grind (arith, put_has x ys z up.1, apart_if_below z x, all_has, all_has (λ b. cmp y b ≡ Less) ys z up.0, apart_if_above z x, turned x y)

@@ -1,16 +1,14 @@
 -- The words of a sound farm are words.
-use Rattle.std.proofs.Common.{◌≡◌, inl, inr, ℕ, true, List, [], ◌∷◌, Option, None, Some, IfSome, IsSome, IsTrue, subst}
+use native.Mathlib.Omega.{arith}
+use Rattle.std.proofs.Common.{[], inl, inr, ℕ, List, ◌∷◌, Option, None, Some, IfSome, IsSome, IsTrue, subst}
 use Rattle.farm_store.proofs.Names.{AllByRecursion, cases_Bool, Farm, find}
-use Rattle.std.specs.Option.{option_map_or}
 use Rattle.std.specs.Str.{bytes_eq}
 use Rattle.std.proofs.lemmas.Slice.Eq.{bytes_eq-Decides}
-use Rattle.farm_types.specs.Limits.{longest_name}
-use Rattle.farm_types.specs.Words.{IsName, IsTags, is_word, is_tags}
+use Rattle.farm_types.specs.Words.{IsName, IsTags}
 use Rattle.farm_types.specs.Proper.{is_want}
 use Rattle.farm_types.specs.Sound.{IsSound, IsBoardRow, IsBoardOf, IsJobText, texts_of}
 use Rattle.farm_types.specs.declared.rows.Want.{Want}
 use Rattle.farm_types.proofs.Put.{AllByRecursion-weaker}
-use Rattle.farm_types.proofs.WordLemmas.{and_parts}
 use Rattle.farm_store.specs.Readable.{IsReadable, IsReadableType}
 
 -- a name that was found among names is one
@@ -22,11 +20,7 @@ found_name name_of (r ∷ rows) names name found = elim (cases_Bool (bytes_eq (n
 ]
 
 want_kind : (w : Want) → IsTrue (is_want w) → IfSome w.kind IsName × IsTags w.tags
-want_kind w want = let both = and_parts (option_map_or (is_word longest_name) w.kind true) (is_tags w.tags) want in (by w.kind both.0, both.1)
-  where
-    by : (kind : Option (List ℕ)) → option_map_or (is_word longest_name) kind true ≡ true → IfSome kind IsName
-    by None h = tt
-    by (Some name) h = h
+want_kind w want = grind arith
 
 named_board : (F : Farm) → AllByRecursion (IsBoardRow F) F.boards → (board : Option (List ℕ)) → IsBoardOf F board → IfSome board IsName
 named_board F boards None known = tt

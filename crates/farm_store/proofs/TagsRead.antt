@@ -1,12 +1,11 @@
 -- Tags that were read from a text.
-use Rattle.std.proofs.Common.{refl, ◌≡◌, ℕ, ◌&&◌, Bool, true, false, cond, List, length, Result, Ok, Err, IsErrAnd, sym, ap, ◌∙◌, arith}
+use Rattle.std.proofs.Common.{◌≡◌, ℕ, true, false, List, Result, Ok, Err, IsErrAnd, sym, ap, ◌∙◌, arith}
 use Rattle.std.specs.Prelude.{nat_le, nat_lt}
 use Rattle.farm_store.proofs.Names.{list_all, nat_tests, ReadsWord, tags_read_back, Value}
 use Rattle.sqlite.specs.declared.types.Value.TheVariants.{Text}
-use Rattle.farm_types.specs.Words.{IsTags, is_tag, is_tags, rise}
-use Rattle.farm_types.specs.Tags.{tag_parts, tags_read, tags_text}
+use Rattle.farm_types.specs.Words.{IsTags, is_tags}
+use Rattle.farm_types.specs.Tags.{tags_read, tags_text}
 use Rattle.farm_types.specs.Reads.{FaultOrNoMemory, refused_code}
-use Rattle.farm_types.specs.Refusals.{bad_tag, bad_count}
 use Rattle.farm_types.specs.declared.fault.WordFault.{WordFault}
 use Rattle.farm_types.proofs.WordLemmas.{and_parts}
 
@@ -16,16 +15,7 @@ few n h = grind (arith, nat_tests)
 -- they are tags
 pub read_good : (text : List ℕ) (tags : List (List ℕ)) → tags_read text ≡ Ok tags → IsTags tags
 unfolding tags_read is_tags
-read_good text tags read = by (nat_lt 16 (length (tag_parts text))) (list_all is_tag (tag_parts text) && rise (tag_parts text)) refl refl read
-  where
-    by : (many good : Bool) → nat_lt 16 (length (tag_parts text)) ≡ many → (list_all is_tag (tag_parts text) && rise (tag_parts text)) ≡ good
-        → cond many (Err bad_count) (cond good (Ok (tag_parts text)) (Err bad_tag)) ≡ Ok tags → (nat_le (length tags) 16 && list_all is_tag tags && rise tags) ≡ true
-    by true good is_many is_good read = absurd (let e = read in cc)
-    by false false is_many is_good read = absurd (let e = read in cc)
-    by false true is_many is_good read =
-        let same : tag_parts text ≡ tags = cc in
-        let both = and_parts (list_all is_tag (tag_parts text)) (rise (tag_parts text)) is_good in
-        rw (sym same, few (length (tag_parts text)) is_many, both.0, both.1)
+read_good text tags read = grind (arith, list_all, and_parts, few, nat_tests)
 
 pub same_text : (s t : List ℕ) → Text s ≡ Text t → s ≡ t
 same_text s t e = cc

@@ -1,5 +1,5 @@
 -- What a table keeps at each step, and that the log leads on.
-use Rattle.std.proofs.Common.{◌≡◌, ℕ, zero, suc, ◌+◌, add-one, ◌<◌, List, [], ◌∷◌, ◌++◌, length, get_or, set, Bool, true, false, cond, Result, Ok, Err, Some}
+use Rattle.std.proofs.Common.{[], ◌≡◌, ℕ, zero, suc, ◌+◌, add-one, ◌<◌, List, ◌∷◌, ◌++◌, length, get_or, set, Bool, true, false, Result, Ok, Err, Some}
 use Rattle.std.proofs.Common.{None, sym, ap, ◌∙◌, refl, subst, arith}
 use Rattle.std.specs.List.{AllByRecursion, find}
 use Rattle.std.specs.List.Sorted.{IsBinarySearchResult, IsSearchInRange, IsStrictlySortedBy}
@@ -7,8 +7,7 @@ use Rattle.std.specs.Cmp.{IsTotalOrder}
 use Rattle.std.specs.Ordering.{is_eq, ordering_reverse}
 use Rattle.std.specs.declared.cmp.Ordering.TheVariants.{Less, Equal, Greater}
 use Rattle.std.specs.declared.cmp.Ordering.{Ordering}
-use Rattle.std.proofs.lemmas.Cmp.{tied_itself, alike_right}
-use mathlib.Core.Bool.{true≢false}
+use Rattle.std.proofs.lemmas.Cmp.{tied_itself}
 use Rattle.farm_types.specs.Names.{change_where, put, put_all}
 use Rattle.farm_types.proofs.Put.{AllByRecursion-put, AllByRecursion-weaker, put_sorted, put_at, put_searched, found_passes}
 use Rattle.farm_types.proofs.Searched.{found_at}
@@ -73,21 +72,11 @@ module _ {R : Type 0} (cmp : R → R → Ordering) (test : R → Bool) (f : R �
   one_changes [] i d sorted low passes = absurd (omega arith)
   one_changes (r ∷ rows) zero d sorted low passes =
       rw passes (ap (λ rest. f r ∷ rest) (none_change rows (AllByRecursion-weaker (λ y less. apart r y less passes) rows sorted.0)))
-  one_changes (r ∷ rows) (suc i) d sorted low passes =
-      let less : cmp r (get_or rows i d) ≡ Less = fit_at (λ y. cmp r y ≡ Less) rows i d sorted.0 (omega arith) in
-      by (test r) refl less (one_changes rows i d sorted.1 (omega arith) passes)
-    where
-      by : (v : Bool) → test r ≡ v → cmp r (get_or rows i d) ≡ Less → change_where test f rows ≡ set rows i (f (get_or rows i d)) → cond v (f r) r ∷ change_where test f rows ≡ r ∷ set rows i (f (get_or rows i d))
-      by true is less rest = absurd (true≢false (sym passes ∙ apart r (get_or rows i d) less is))
-      by false is less rest = ap (λ rest. r ∷ rest) rest
+  one_changes (r ∷ rows) (suc i) d sorted low passes = grind (arith, one_changes rows i d sorted.1 (omega arith) passes, fit_at (λ y. cmp r y ≡ Less) rows i d sorted.0 (omega arith))
 
 pub nobody_changes : {R : Type 0} (test : R → Bool) (f : R → R) (rows : List R) → find test rows ≡ None → rows ≡ change_where test f rows
 nobody_changes test f [] none = refl
-nobody_changes test f (r ∷ rows) none = by (test r) none (nobody_changes test f rows)
-  where
-    by : (v : Bool) → cond v (Some r) (find test rows) ≡ None → (find test rows ≡ None → rows ≡ change_where test f rows) → r ∷ rows ≡ cond v (f r) r ∷ change_where test f rows
-    by true is rest = cc
-    by false is rest = ap (λ rest. r ∷ rest) (rest is)
+nobody_changes test f (r ∷ rows) none = grind (arith, nobody_changes test f rows)
 
 is_eq-Equal : (o : Ordering) → is_eq o ≡ true → o ≡ Equal
 is_eq-Equal Less e = cc
@@ -95,19 +84,8 @@ is_eq-Equal Equal e = refl
 is_eq-Equal Greater e = cc
 
 module _ {R K : Type 0} (key : R → K) (c : K → K → Ordering) (total : IsTotalOrder c) (eq : K → K → Bool) (ties : (a b : K) → eq a b ≡ is_eq (c a b)) (k : K) where
-  pub keys_apart : (x y : R) → by_key key c x y ≡ Less → eq (key x) k ≡ true → eq (key y) k ≡ true → false ≡ true
-  keys_apart x y less here there =
-      let at_x : c (key x) k ≡ Equal = is_eq-Equal _ (sym (ties (key x) k) ∙ here) in
-      let at_y : c (key y) k ≡ Equal = is_eq-Equal _ (sym (ties (key y) k) ∙ there) in
-      let tie : c (key x) (key y) ≡ Equal = alike_right total (key y) k (key x) at_y ∙ at_x in
-      cc
-
   pub apart_by_key : (x y : R) → by_key key c x y ≡ Less → eq (key x) k ≡ true → eq (key y) k ≡ false
-  apart_by_key x y less here = by (eq (key y) k) refl
-    where
-      by : (v : Bool) → eq (key y) k ≡ v → v ≡ false
-      by true is = sym (keys_apart x y less here is)
-      by false is = refl
+  apart_by_key x y less here = grind arith
 
   -- where a binary search ends
   pub found_place : (rows : List R) → IsStrictlySortedBy (by_key key c) rows → (place : Result ℕ ℕ) → IsSearchInRange place (length rows) → IsBinarySearchResult (λ r. c (key r) k) rows place → IsFoundAt rows (find (λ r. eq (key r) k) rows) place

@@ -74,11 +74,7 @@ parts_of_some (c ∷ text) some = refl
 -- a part that is refused refuses the list
 pub refused_part : (fault : WordFault) (part : List ℕ) (parts : List (List ℕ)) → FaultOrNoMemory {Y = List ℕ} (refused_code fault) (word_or (is_tag part) part bad_tag) → (is_tag part ≡ false → list_all is_tag parts ≡ false) → FaultOrNoMemory {Y = List (List ℕ)} (refused_code fault) (list_of_tags parts)
 refused_part NoMemory part parts bad all = tt
-refused_part (Refused refusal) part parts bad all = by (is_tag part) refl bad
-  where
-    by : (b : Bool) → is_tag part ≡ b → word_or b part bad_tag ≡ Err refusal.code → list_of_tags parts ≡ Err refusal.code
-    by true is bad = cc
-    by false is bad = let code : bad_tag ≡ refusal.code = cc in rw (all is, code)
+refused_part (Refused refusal) part parts bad all = grind arith
 
 pub none_put : (items : List (List ℕ)) → items ≡ [] → (items ≡ put_all text_cmp [] []) × IsStrictlySortedBy text_cmp items × AllByRecursion IsTag items × (length items ≤ 0)
 unfolding IsStrictlySortedBy
@@ -99,11 +95,7 @@ one_put tags items new at tag copy lt here same is put_is sorted each small new_
 -- a short list of tags that rises is tags
 pub tags_checked : (parts items : List (List ℕ)) → list_of_tags parts ≡ Ok items → length parts ≤ 16 → rise items ≡ true → IsTags items
 unfolding is_tags
-tags_checked parts items read small up = by (list_all is_tag parts) refl read
-  where
-    by : (b : Bool) → list_all is_tag parts ≡ b → cond b (Ok parts) (Err bad_tag) ≡ Ok items → nat_le (length items) 16 && list_all is_tag items && rise items ≡ true
-    by true all read = let same : parts ≡ items = cc in rw (few (length items) (rw same at small), rw same at all, up)
-    by false all read = cc
+tags_checked parts items read small up = grind (arith, nat_tests)
 
 not_many : (n : ℕ) → nat_le n 16 ≡ true → nat_lt 16 n ≡ false
 not_many n small = grind (arith, nat_tests)

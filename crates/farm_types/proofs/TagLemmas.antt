@@ -1,7 +1,7 @@
 -- The key of a tag, by the place of the first '=', and what a tag is by it.
-use Rattle.std.proofs.Common.{◌≡◌, ℕ, ◌+◌, ◌<◌, ◌≤◌, ◌==◌, ◌&&◌, ◌||◌, Bool, true, false, cond, not, List, [], ◌∷◌, length, take, drop, Some, None, sym, ap}
+use Rattle.std.proofs.Common.{◌≡◌, ℕ, ◌+◌, ◌<◌, ◌==◌, ◌&&◌, ◌||◌, Bool, true, false, cond, not, List, [], ◌∷◌, length, take, drop, Some, None, sym, ap}
 use Rattle.std.proofs.Common.{◌∙◌, refl, arith, suc, add-one, ◌++◌, append_assoc, get_or}
-use Rattle.std.specs.List.{position, prefix_len, list_all, slice_split, onto_first}
+use Rattle.std.specs.List.{position, prefix_len, list_all, slice_split}
 use Rattle.std.proofs.lemmas.List.{take_all, take_more, length-take}
 use Rattle.farm_types.specs.Tags.{tags_text, tag_parts}
 use mathlib.Core.Bool.{true≢false}
@@ -16,25 +16,13 @@ use Rattle.std.proofs.lemmas.Str.{IsUtf8-from_ascii}
 use Rattle.farm_types.specs.Words.{tag_key, is_tag, is_word, is_name_byte}
 
 pub key_at : (xs : List ℕ) (end : ℕ) → position (λ c. c == 61) xs ≡ Some end → take end xs ≡ tag_key xs
-key_at xs end is = by (nat_lt (prefix_len (λ c. not (c == 61)) xs) (length xs)) is
-  where
-    by : (b : Bool) → cond b (Some (prefix_len (λ c. not (c == 61)) xs)) None ≡ Some end → take end xs ≡ tag_key xs
-    by true is = let e : prefix_len (λ c. not (c == 61)) xs ≡ end = cc in ap (λ n. take n xs) (sym e)
-    by false is = cc
+key_at xs end is = grind (arith, nat_tests)
 
 pub key_whole : (xs : List ℕ) → position (λ c. c == 61) xs ≡ None → xs ≡ tag_key xs
-key_whole xs is = by (nat_lt (prefix_len (λ c. not (c == 61)) xs) (length xs)) refl is
-  where
-    by : (b : Bool) → nat_lt (prefix_len (λ c. not (c == 61)) xs) (length xs) ≡ b → cond b (Some (prefix_len (λ c. not (c == 61)) xs)) None ≡ None → xs ≡ tag_key xs
-    by true e is = cc
-    by false e is = let h : length xs ≤ prefix_len (λ c. not (c == 61)) xs = grind (arith, nat_tests) in sym (take_all (prefix_len (λ c. not (c == 61)) xs) xs h)
+key_whole xs is = grind (arith, take_all (prefix_len (λ c. not (c == 61)) xs) xs, nat_tests)
 
 short_key : (xs : List ℕ) (end : ℕ) → position (λ c. c == 61) xs ≡ Some end → end < length xs
-short_key xs end is = by (nat_lt (prefix_len (λ c. not (c == 61)) xs) (length xs)) refl is
-  where
-    by : (b : Bool) → nat_lt (prefix_len (λ c. not (c == 61)) xs) (length xs) ≡ b → cond b (Some (prefix_len (λ c. not (c == 61)) xs)) None ≡ Some end → end < length xs
-    by true lt is = let e : prefix_len (λ c. not (c == 61)) xs ≡ end = cc in grind (arith, nat_tests)
-    by false lt is = cc
+short_key xs end is = grind (arith, nat_tests)
 
 text_itself : (text : List ℕ) → bytes_eq text text ≡ true
 text_itself text = (bytes_eq-Decides text text).1 refl
@@ -135,28 +123,15 @@ tags_text-more tags at tag lt is =
 
 -- no comma stands in a tag, so the parts of a canonical text are its tags
 no_comma : (c : ℕ) → is_name_byte c ≡ true → not (c == 44) ≡ true
-no_comma c is = by (c == 44) refl
-  where
-    by : (b : Bool) → (c == 44) ≡ b → not b ≡ true
-    by true same = let e : c ≡ 44 = grind (arith, nat_tests) in absurd (true≢false (sym is ∙ ap is_name_byte e))
-    by false other = refl
+no_comma c is = grind (arith, nat_tests)
 
 whole : (xs : List ℕ) → list_all (λ c. not (c == 44)) xs ≡ true → slice_split (λ c. c == 44) xs ≡ xs ∷ []
 whole [] free = refl
-whole (x ∷ xs) free = by (whole xs) (x == 44) free
-  where
-    by : (list_all (λ c. not (c == 44)) xs ≡ true → slice_split (λ c. c == 44) xs ≡ xs ∷ []) → (b : Bool) → (not b && list_all (λ c. not (c == 44)) xs) ≡ true → cond b ([] ∷ slice_split (λ c. c == 44) xs) (onto_first x (slice_split (λ c. c == 44) xs)) ≡ (x ∷ xs) ∷ []
-    by rest true free = cc
-    by rest false free = rw (rest free)
+whole (x ∷ xs) free = grind (arith, whole xs, nat_tests)
 
 cut : (xs tail : List ℕ) → list_all (λ c. not (c == 44)) xs ≡ true → slice_split (λ c. c == 44) (xs ++ (44 ∷ tail)) ≡ xs ∷ slice_split (λ c. c == 44) tail
 cut [] tail free = refl
-cut (x ∷ xs) tail free = by (cut xs tail) (x == 44) free
-  where
-    by : (list_all (λ c. not (c == 44)) xs ≡ true → slice_split (λ c. c == 44) (xs ++ (44 ∷ tail)) ≡ xs ∷ slice_split (λ c. c == 44) tail) → (b : Bool) → (not b && list_all (λ c. not (c == 44)) xs) ≡ true
-        → cond b ([] ∷ slice_split (λ c. c == 44) (xs ++ (44 ∷ tail))) (onto_first x (slice_split (λ c. c == 44) (xs ++ (44 ∷ tail)))) ≡ (x ∷ xs) ∷ slice_split (λ c. c == 44) tail
-    by rest true free = cc
-    by rest false free = rw (rest free)
+cut (x ∷ xs) tail free = grind (arith, cut xs tail, nat_tests)
 
 split_text : (tag : List ℕ) (tags : List (List ℕ)) → list_all is_tag (tag ∷ tags) ≡ true → slice_split (λ c. c == 44) (tags_text (tag ∷ tags)) ≡ tag ∷ tags
 split_text tag [] all = whole tag (tag_bytes (λ c. not (c == 44)) refl no_comma tag (and_parts (is_tag tag) true all).0)

@@ -4,7 +4,7 @@ use Rattle.std.specs.Prelude.{nat_le}
 use Rattle.std.specs.List.{list_all}
 use Rattle.std.specs.Str.{IsUtf8, IsAscii, is_utf8}
 use Rattle.std.proofs.lemmas.Str.{IsUtf8-from_ascii, IsUtf8-nil, is_utf8-from_IsUtf8}
-use Rattle.std.proofs.lemmas.Str.Ascii.{IsAscii-nil, IsAscii-cons}
+use Rattle.std.proofs.lemmas.Str.Ascii.{IsAscii-nil}
 use Rattle.std.proofs.lemmas.Bool.Decides.{nat_tests}
 use Rattle.farm_types.specs.Words.{is_name_byte, is_word}
 
@@ -13,11 +13,7 @@ below_ascii c is = grind (arith, nat_tests)
 
 pub ascii_bytes : (xs : List ℕ) → list_all is_name_byte xs ≡ true → IsAscii xs
 ascii_bytes [] all = IsAscii-nil
-ascii_bytes (x ∷ xs) all = by (ascii_bytes xs) (is_name_byte x) refl all
-  where
-    by : (list_all is_name_byte xs ≡ true → IsAscii xs) → (b : Bool) → is_name_byte x ≡ b → (b && list_all is_name_byte xs) ≡ true → IsAscii (x ∷ xs)
-    by rest true here all = IsAscii-cons x xs (below_ascii x here) (rest all)
-    by rest false here all = cc
+ascii_bytes (x ∷ xs) all = grind (arith, ascii_bytes xs)
 
 pub and_parts : (p q : Bool) → (p && q) ≡ true → (p ≡ true) × (q ≡ true)
 and_parts true q is = (refl, is)

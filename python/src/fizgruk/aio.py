@@ -5,10 +5,12 @@
     async with AsyncClient() as client, client.board("hdmi") as board:
         ...
 
-Each call goes over a thread of the loop's executor: so there is one client, and what it does at lost
-answers, restarts and losses is the same. A wait that is canceled ends within its next look.
+Each call goes over a thread of its own: so there is one client, and what it does at lost answers, restarts and
+losses is the same, and no call waits for another, as giving a board back would in a pool that is full of those who
+wait for it. A wait that is canceled ends within its next look.
 """
 import asyncio
+import concurrent.futures
 import contextlib
 import functools
 import threading
@@ -20,9 +22,8 @@ from typing import (
 from fizgruk import waiting
 from fizgruk.client import HOUR, LOG, Client
 from fizgruk.errors import HoldLost
-from fizgruk.holding import Hold
+from fizgruk.holding import Hold, Priority
 from fizgruk.models import Board
-from fizgruk.reservations import Priority
 from fizgruk.waiting import Tell
 
 if TYPE_CHECKING:  # (Python 3.9 hasn't these, and type checkers know them of themselves)
@@ -36,6 +37,20 @@ Own = TypeVar("Own", bound="AsyncClient")
 
 class Canceled(BaseException):
     """The task that awaits a call was canceled: raised in the call's thread."""
+
+
+def begun(call: Callable[[], Found]) -> "asyncio.Future[Found]":
+    """What a call gives that has begun in a thread of its own."""
+    work: "concurrent.futures.Future[Found]" = concurrent.futures.Future()
+
+    def run() -> None:
+        try:
+            work.set_result(call())
+        except BaseException as fault:  # pylint: disable=broad-except # (it is raised where it is awaited)
+            work.set_exception(fault)
+
+    threading.Thread(target=run).start()
+    return asyncio.wrap_future(work)
 
 
 async def in_thread(call: Callable[..., Found], *words: Any, **more: Any) -> Found:
@@ -56,7 +71,7 @@ async def in_thread(call: Callable[..., Found], *words: Any, **more: Any) -> Fou
         finally:
             del waiting.SLEEPS.sleep
 
-    work = asyncio.get_running_loop().run_in_executor(None, run)
+    work = begun(run)
     try:
         found = await asyncio.shield(work)
     except asyncio.CancelledError:
@@ -104,7 +119,7 @@ class AsyncHold:
         try:
             return await in_thread(self._hold.__enter__)
         except asyncio.CancelledError:
-            await ended(asyncio.to_thread(self._hold.end))  # (it may have come just now)
+            await ended(begun(self._hold.end))  # (it may have come just now)
             raise
 
     async def __aexit__(
@@ -117,7 +132,7 @@ class AsyncHold:
             task.uncancel()
         end = HoldLost(self.lost) if is_own else fault
         leave = functools.partial(self._hold.__exit__, type(end), end, None)
-        await ended(asyncio.to_thread(leave))
+        await ended(begun(leave))
 
     def _interrupt(self) -> None:
         if self._task is not None and not self._is_lost:

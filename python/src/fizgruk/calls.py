@@ -2,6 +2,7 @@
 that are sent again, a command under its key, where no answer came."""
 import base64
 import copy
+import functools
 import http.client
 import json
 import os
@@ -15,7 +16,7 @@ from typing import Any, Callable, Dict, Iterable, Iterator, List, NamedTuple, Op
 
 from fizgruk import models, records
 from fizgruk.bounds import MOST_WANTS
-from fizgruk.errors import Code, Refused, Unreachable
+from fizgruk.errors import Code, Refused, Unreachable, sentence_of
 from fizgruk.settings import Settings, address_of
 
 NOT_LET_IN, NOT_FOUND, TOO_LARGE, NOTHING_BEYOND, TOO_MANY = 401, 404, 413, 416, 429
@@ -96,13 +97,8 @@ class Remembered:
     """A desk whose views are asked for once each."""
 
     def __init__(self, desk: Looker):
-        self.desk = desk
-        self.seen: Dict[str, Row] = {}
-
-    def look(self, path: str) -> Row:
-        if path not in self.seen:
-            self.seen[path] = self.desk.look(path)
-        return self.seen[path]
+        self.history = getattr(desk, "history", None)
+        self.look = functools.lru_cache(maxsize=None)(desk.look)
 
 
 class Desk:
@@ -114,12 +110,10 @@ class Desk:
         self.server = settings.server
         self.user = settings.user
         self.timeout = settings.timeout
-        self.access: Optional[str] = None  # where ssh(1) goes for boards, where that is said
+        self.history, self.access = settings.history, settings.access
         self.patience = patience
         # what is told, once a call, where it gets no answer at first and is sent again
         self.tell_trouble: Callable[[str], None] = lambda trouble: None
-        # what is called before a command is given
-        self.tell_where: Callable[[], None] = lambda: None
         self._told = told_by(settings.server)
         self._address = address
         self._front = address.path.rstrip("/")
@@ -167,7 +161,6 @@ class Desk:
     def tell(self, path: str, body: Body = None, key: Optional[str] = None) -> Row:
         """Gives a command, again and again under its key until an answer comes; without a key it is
         sent once."""
-        self.tell_where()
         fields = {"x-key": key} if key else {}
         sent = json.dumps(body).encode() if isinstance(body, dict) else body
         return self._answer("POST", path, sent, fields, key is not None)
@@ -175,7 +168,6 @@ class Desk:
     def nudge(self, path: str) -> Row:
         """Gives a command that does no harm when it is done twice, a pass or a refresh, so it needs
         no key."""
-        self.tell_where()
         return self._answer("POST", path, None, {}, True)
 
     def stream(self, path: str, begin: int = 0) -> Iterator[bytes]:
@@ -191,10 +183,10 @@ class Desk:
             if answer.status in UNKNOWN:
                 raise Unreachable(f"{answer.status} {answer.reason}", self.server)
             if answer.status not in (200, 206):
-                self._meaning(Answer(answer.status, answer.reason, answer.read()))
+                self._meaning(Answer(answer.status, answer.reason, answer.read()), path)
             yield from _read(answer, 0 if answer.status == 206 else begin)
         except (OSError, http.client.HTTPException) as fault:
-            raise Unreachable(str(fault) or type(fault).__name__, self.server) from fault
+            raise Unreachable(sentence_of(fault), self.server) from fault
         finally:
             line.close()
 
@@ -210,7 +202,7 @@ class Desk:
             is_limited = answer is not None and answer.status == TOO_MANY
             is_known = answer is not None and answer.status not in UNKNOWN
             if answer is not None and is_known and not (is_limited and has_time):
-                return self._meaning(answer)
+                return self._meaning(answer, path)
             if not has_time or not (again or is_limited):
                 raise Unreachable(trouble, self.server)
             if not is_told:
@@ -226,13 +218,13 @@ class Desk:
         try:
             answer = self._exchange(method, path, body, fields)
         except (OSError, http.client.HTTPException) as fault:
-            trouble = str(fault) or type(fault).__name__
+            trouble = sentence_of(fault)
             if _is_final(fault):
                 raise Unreachable(trouble, self.server) from fault
             return None, trouble
         return answer, f"{answer.status} {answer.reason}"
 
-    def _meaning(self, answer: Answer) -> Row:
+    def _meaning(self, answer: Answer, path: str) -> Row:
         """What an answer says, where it isn't a refusal."""
         try:
             told = json.loads(answer.body, object_hook=self._told)
@@ -250,16 +242,17 @@ class Desk:
             refusal.about(self.asked_as())
         elif code == Code.FORBIDDEN:
             refusal.about(f"asked as {self.user}")
+        elif code == Code.NO_SUCH_ROUTE:
+            refusal.about(f"{self.server} has no {path}")
         raise refusal
 
     # ---- connections
 
-    def _exchange(
-        self, method: str, path: str, body: Optional[bytes], fields: Dict[str, str]
-    ) -> Answer:
+    def _exchange(self, method: str, path: str, body: Optional[bytes], fields: Dict[str, str]) -> Answer:
         """One request and its answer. A server may close a connection that it kept just as it is
-        used again: then the request goes out over a new one."""
-        kept = self._kept()
+        used again: then the request goes out over a new one. A command without a key may have been done
+        then, so it never goes over a kept one."""
+        kept = self._kept() if method == "GET" or "x-key" in fields else None
         if kept is not None:
             try:
                 return self._exchange_over(kept, method, path, body, fields)
@@ -307,9 +300,7 @@ class Desk:
     def _opened(self) -> http.client.HTTPConnection:
         host, port = self._address.hostname or "", self._address.port
         if self._context:
-            return http.client.HTTPSConnection(
-                host, port, timeout=self.timeout, context=self._context
-            )
+            return http.client.HTTPSConnection(host, port, timeout=self.timeout, context=self._context)
         return http.client.HTTPConnection(host, port, timeout=self.timeout)
 
 
@@ -367,7 +358,8 @@ def number_of(desk: "Desk", said: Row) -> int:
 
 def rows_of(desk: Looker, name: str) -> List[Row]:
     """The rows of a view."""
-    rows = desk.look(f"/{name}").get(name)
+    path = f"/{name}"
+    rows = desk.look(path).get(LISTS[path][0] if path in LISTS else name)
     if not isinstance(rows, list):
         raise Unreachable(NO_DESKS, getattr(desk, "server", ""))
     return rows

@@ -6,13 +6,12 @@ import logging
 import time
 from typing import Callable, Dict, Iterator, List, Literal, Optional, Sequence, TypeVar, Union
 
-from fizgruk import calls, history, job_file, models, notes, records, settings, usage, waiting
+from fizgruk import calls, history, job_file, models, notes, settings, waiting
 from fizgruk.artifacts import Artifact
 from fizgruk.calls import Body, Desk, Row, fresh_key, part
 from fizgruk.errors import BadJobFile, Code, FizgrukError, Refused
 from fizgruk.history import Past
-from fizgruk.holding import Hold
-from fizgruk.reservations import Priority
+from fizgruk.holding import Hold, Priority
 from fizgruk.waiting import Tell, Wait
 
 LOG = logging.getLogger("fizgruk")
@@ -50,8 +49,6 @@ class Client:
             "timeout": seconds, "config": config, "history": history, "lab": lab,
         }
         self._desk = Desk(settings.read_settings(given), patience)
-        said = settings.values_of(given, "desk", settings.refuse)
-        self._place, self._desk.access = said["history"], said["access"]
         self._desk.tell_trouble = lambda trouble: LOG.warning(
             "waiting for the desk at %s: %s", self.server, trouble
         )
@@ -119,9 +116,7 @@ class Client:
             body["every"] = every
         self._tell("/types", body, key)
 
-    def add_board(
-        self, name: str, type: str, tags: Sequence[str] = (), *, key: Optional[str] = None
-    ) -> None:
+    def add_board(self, name: str, type: str, tags: Sequence[str] = (), *, key: Optional[str] = None) -> None:
         """Adds a board, in Maintenance."""
         self._tell("/boards", {"name": name, "type": type, "tags": list(tags)}, key)
 
@@ -193,9 +188,7 @@ class Client:
         said = history.log_of(self._past(), self._desk, number)
         return b"".join(said).decode(errors="replace")
 
-    def follow(
-        self, number: int, timeout: Optional[float] = HOUR, *, every: float = 2.0
-    ) -> Iterator[str]:
+    def follow(self, number: int, timeout: Optional[float] = HOUR, *, every: float = 2.0) -> Iterator[str]:
         """What a job says, piece by piece, until it has ended; a job that hasn't begun is waited
         for."""
         wait = Wait(self._desk, f"job {number} hasn't ended", timeout, every, LOG.info)
@@ -216,9 +209,9 @@ class Client:
         return b"".join(left.bytes_of(left.of(name)))
 
     def notes(self, board: str) -> Dict[str, str]:
-        """What the lab has noted of a board: of `place`, `owner`, `wiki`, `comment` those that there
-        are."""
-        return notes.notes_of(self._desk, self._place).of(board)
+        """What the lab has noted of a board: of `place`, `owner`, `wiki`, `comment` and `reason` those that
+        there are."""
+        return notes.notes_of(self._desk).of(board)
 
     def history(
         self, board: Optional[str] = None, last: int = LAST
@@ -226,10 +219,7 @@ class Client:
         """The last jobs that ended, the newest first; of a board its jobs and the changes of its
         health."""
         past = self._past()
-        if board is None:
-            return [past_of(it) for it in past.newest()[:last]]
-        rows = [it for it in past.rows() if board in records.boards_of(it)]
-        return [past_of(it) for it in rows[::-1][:last]]
+        return [past_of(it) for it in (past.jobs(last) if board is None else past.of_board(board, last))]
 
     def usage(
         self, since: Union[datetime.datetime, datetime.timedelta] = datetime.timedelta(days=30),
@@ -241,16 +231,14 @@ class Client:
         moment = since.timestamp() if isinstance(since, datetime.datetime) else time.time() - ago
         past = self._past()
         rows = [*past.rows(), *(past.holds() or ())]
-        return [models.Use(**it) for it in usage.uses_of(rows, int(moment), by)]
+        return [models.Use(**it) for it in history.uses_of(rows, int(moment), by)]
 
     def _past(self) -> Past:
-        return history.past_of(self._desk, self._place)
+        return history.past_of(self._desk)
 
     # ---- reservations
 
-    def reserve(
-        self, *tags: str, priority: Priority = None, key: Optional[str] = None
-    ) -> int:
+    def reserve(self, *tags: str, priority: Priority = None, key: Optional[str] = None) -> int:
         """Reserves a board that has all of these tags. Gives the reservation's number; it lives for
         a minute, and for one more with each refresh."""
         body: Dict[str, object] = {"tags": list(tags)}

@@ -37,6 +37,17 @@ class Code(enum.IntEnum):
     BAD_JOB_FILE = 70
 
 
+def sentence_of(fault: BaseException) -> str:
+    """What went wrong, in words: of the system's fault without its number."""
+    not_trusted = getattr(fault, "verify_message", "")
+    if not_trusted:
+        return f"its certificate isn't trusted: {not_trusted}"
+    if isinstance(fault, OSError) and fault.strerror and isinstance(fault.errno, int):
+        name = f"{fault.filename}: " if fault.filename else ""
+        return f"{name}{fault.strerror[:1].lower()}{fault.strerror[1:]}"
+    return str(fault) or type(fault).__name__
+
+
 class FizgrukError(Exception):
     """Any error of this package."""
 
@@ -53,8 +64,8 @@ class Refused(FizgrukError):
         self.text = text
 
     def about(self, what: str) -> "Refused":
-        """This refusal, and what it is about."""
-        self.args = (f"{self}: {what}",)
+        """This refusal, and what it is about, which says more than that there is no such route."""
+        self.args = (what if self.code == Code.NO_SUCH_ROUTE else f"{self}: {what}",)
         return self
 
 

@@ -60,9 +60,8 @@ def wants_of(data: bytes) -> List[Want]:
 def wants_in(tree: Dict[str, Any]) -> List[Want]:
     if "roles" not in tree:
         return [Want(tree["device_type"], tuple(tree.get("tags", ())))]
-    roles = [tree["roles"][it] for it in sorted(tree["roles"], key=str.encode)]
-    wanted = [(Want(it["device_type"], tuple(it.get("tags", ()))), it["count"]) for it in roles]
-    return [want for want, count in wanted for _ in range(count)]
+    roles = tree["roles"].values()
+    return [Want(it["device_type"], tuple(it.get("tags", ()))) for it in roles for _ in range(it["count"])]
 
 
 def why_refused(desk: calls.Looker, refusal: Refused, data: bytes) -> Refused:
@@ -71,7 +70,7 @@ def why_refused(desk: calls.Looker, refusal: Refused, data: bytes) -> Refused:
         fault = fault_of(data)
         return refusal.about(fault) if fault else refusal
     if refusal.code == Code.NO_SUCH_BOARDS:
-        return wants.told(desk, refusal, wants_of(data))
+        return wants.explained(desk, refusal, wants_of(data))
     if refusal.code == Code.NO_SUCH_TYPE:
         try:
             there = {it["name"] for it in desk.look("/types")["types"]}

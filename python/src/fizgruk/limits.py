@@ -1,8 +1,8 @@
 """How long a job may run: `[timeouts] job` of its text, written as LAVA writes it, or the
 dispatcher's default, and never longer than the dispatcher's most."""
 import dataclasses
-import math
 import re
+import reprlib
 from typing import List, Optional, Tuple
 
 from fizgruk import toml_text
@@ -58,10 +58,8 @@ def short_time_of(text: str, units: str) -> Optional[float]:
 def _number_of(unit: object, count: object) -> float:
     if unit not in UNITS:
         raise BadTime(f"{unit!r} is none of {', '.join(UNITS)}")
-    if isinstance(count, bool) or not isinstance(count, (int, float)):
-        raise BadTime(f"{count!r} is no number of {unit}")
-    if not (math.isfinite(count) and 0 <= count <= LONGEST):
-        raise BadTime(f"{count!r} is no number of {unit}")
+    if isinstance(count, bool) or not isinstance(count, (int, float)) or not 0 <= count <= LONGEST:
+        raise BadTime(f"{reprlib.repr(count)} is no number of {unit}")
     return count
 
 

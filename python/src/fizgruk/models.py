@@ -224,20 +224,13 @@ View = TypeVar("View")
 MAYBE: Dict[object, Callable[..., Any]] = {Optional[Results]: Results, Optional[Left]: Left}
 
 
-def view_of(kind: Callable[..., View], told: object) -> View:
+def view_of(kind: Callable[..., View], told: Any) -> View:
     """What the desk told, as a view of this kind. Fields that the view hasn't are left out, so that
     a later desk may tell more; words are taken as they come."""
-    if not isinstance(told, dict):
-        raise Unreachable("the answer isn't a desk's")
-    values: Dict[str, Any] = {}
-    for field in dataclasses.fields(cast(Any, kind)):
-        value = told.get(field.name)
-        try:
-            values[field.name] = value_of(value, field.type)
-        except ValueError:
-            text = f"the answer isn't a desk's: {field.name} is {reprlib.repr(value)}"
-            raise Unreachable(text) from None
-    return kind(**values)
+    fault = fault_of(kind, told, True)
+    if fault:
+        raise Unreachable(f"the answer isn't a desk's: {fault}")
+    return kind(**{name: value_of(told.get(name), field) for name, field, _ in _plain_kinds(kind)})
 
 
 @functools.lru_cache(maxsize=None)
@@ -250,17 +243,18 @@ def _plain_kinds(kind: Callable[..., object]) -> Tuple[Tuple[str, Any, Optional[
     )
 
 
-def fault_of(kind: Callable[..., object], told: object) -> str:
-    """What isn't of its kind in a view, if anything. What it lacks is no fault."""
+def fault_of(kind: Callable[..., object], told: object, is_whole: bool = False) -> str:
+    """What isn't of its kind in a view, if anything. What it lacks is a fault of a whole one alone."""
     if not isinstance(told, dict):
         return f"a row is {reprlib.repr(told)}"
     for name, field, plain in _plain_kinds(kind):
-        if name not in told or type(told[name]) is plain:
+        value = told.get(name)
+        if type(value) is plain or not (is_whole or name in told):
             continue
         try:
-            value_of(told[name], field)
+            value_of(value, field)
         except (ValueError, Unreachable):
-            return f"{name} is {reprlib.repr(told[name])}"
+            return f"{name} is {reprlib.repr(value)}"
     return ""
 
 

@@ -1,16 +1,14 @@
 """Notes of boards: where one stands, whose it is, where one reads on. A lab keeps them in a file of TOML,
 of which farm-dispatch makes notes.json in its folder, for the site."""
 import dataclasses
-import os
-from typing import Any, Dict, Optional
+import json
+from typing import Any, Dict
 
-from fizgruk import calls, toml_text, words
-from fizgruk._tools import disk
-from fizgruk.errors import Refused, Unreachable
+from fizgruk import calls, present, toml_text, words
 from fizgruk.words import BadFile
 
-FILE = "notes.json"
-KEYS = ("place", "owner", "wiki", "comment")
+FILE, LAB_FILE = "notes.json", "/etc/farm/notes.toml"
+KEYS = ("place", "owner", "wiki", "comment", "reason")
 ADDRESSES = ("https://", "http://")
 LONGEST = 1000  # letters of a text
 LONGEST_FILE = 1_000_000
@@ -48,6 +46,31 @@ def notes_in(text: str) -> Dict[str, Note]:
     return found
 
 
+def with_reason(text: str, board: str, reason: str) -> str:
+    """A lab's file in which it is noted why a board has its health; an empty reason is taken out. Raises BadFile
+    where that can't be written into it line by line."""
+    before = notes_in(text)
+    row = toml_text.tree_of(text).get("boards", {}).get(board)
+    lines = text.splitlines(keepends=True)
+    said = [f"reason = {json.dumps(reason, ensure_ascii=False)}\n"] if reason else []
+    if row is None:
+        lines += ["" if text.endswith("\n") or not text else "\n", f'[boards."{board}"]\n', *said] if reason else []
+    else:
+        at = toml_text.line_of(text, ("boards", board, *(["reason"] if "reason" in row else [])))
+        lines[at - 1 if "reason" in row else at : at] = said
+    after = {**before, board: {**before.get(board, {}), "reason": reason}}
+    try:
+        if _without_empty(notes_in("".join(lines))) == _without_empty(after):
+            return "".join(lines)
+    except BadFile as fault:
+        raise BadFile(f"the reason of board {board} can't be written: {fault}") from fault
+    raise BadFile(f"board {board} is written in another way there than as [boards.{board}]")
+
+
+def _without_empty(boards: Dict[str, Note]) -> Dict[str, Note]:
+    return {name: {key: it.strip() for key, it in row.items() if it.strip()} for name, row in boards.items() if any(row.values())}
+
+
 def _note_of(row: Dict[str, Any]) -> Note:
     for key, value in row.items():
         if key not in KEYS:
@@ -71,12 +94,6 @@ def told(said: object) -> Notes:
     return Notes(found, str(said.get("fault") or "")[:LONGEST])
 
 
-def notes_of(desk: calls.Looker, place: Optional[str]) -> Notes:
-    """The notes of a dispatcher's folder, or those that stand beside a desk; none where there are
-    none."""
-    try:
-        if not place:
-            return told(desk.look(f"/{FILE}"))
-        return told(disk.object_in(os.path.join(os.path.expanduser(place), FILE), 2 * LONGEST_FILE))
-    except (Refused, Unreachable):
-        return Notes({})
+def notes_of(desk: calls.Looker) -> Notes:
+    """The notes that the dispatcher shows; none where there are none."""
+    return told(present.said_in(desk, FILE))

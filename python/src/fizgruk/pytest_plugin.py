@@ -9,21 +9,26 @@ lost meanwhile, the test that runs with it is interrupted, and fails with HoldLo
 after it.
 """
 import contextlib
+import random
 import signal
 import threading
+import time
 from types import FrameType
 from typing import Any, Callable, Dict, Generator, Iterator, List, Optional, Tuple, TypeVar, Union
 
 import pytest
 
-from fizgruk import holding, reservations
+from fizgruk import holding
 from fizgruk.client import HOUR, Client
-from fizgruk.errors import FizgrukError, HoldLost
+from fizgruk.errors import FizgrukError, HoldLost, TimedOut
+from fizgruk.holding import BlockWatch, Interrupt
 from fizgruk.models import Board
-from fizgruk.watching import BlockWatch, Interrupt
 
 # Signals that end a process without a word, and here end the session as Ctrl-C does.
 SIGNALS = (signal.SIGTERM, signal.SIGHUP)
+# Who holds one board and waits for another gives all back after so many seconds, and asks again after a while: of two
+# sessions that wait for each other's one gets its boards so.
+FIRST_TRY, PAUSE = 10.0, 5.0
 MARK = (
     "farm(*tags, boards=1, scope='function', priority=None): the fixture boards has so many boards that"
     " have these tags and those of --farm, for the test or for the session"
@@ -46,7 +51,7 @@ def pytest_addoption(parser: pytest.Parser) -> None:
     )
     group.addoption(
         "--farm-priority", metavar="P", help="low, medium, high, or 0 to 100 (50)",
-        type=reservations.priority_of,
+        type=holding.priority_of,
     )
     group.addoption(
         "--farm-timeout", metavar="SECONDS", help="wait so long for a board (3600)", type=float,
@@ -196,7 +201,9 @@ def board(pytestconfig: pytest.Config, request: pytest.FixtureRequest) -> Iterat
     """A board of the farm that has the tags of --farm, for the time of the session."""
     skip_without_farm(pytestconfig)
     client: Client = request.getfixturevalue("farm_client")
-    with held(pytestconfig, client, (), None, asks_for_board) as found:
+    timeout = pytestconfig.getoption("--farm-timeout")
+    with held(pytestconfig, client, (), None, asks_for_board, timeout, False) as found:
+        assert found is not None
         yield found
 
 
@@ -213,9 +220,7 @@ def boards(
         return
     item = request.node
     with contextlib.ExitStack() as stack:
-        yield [stack.enter_context(
-            held(pytestconfig, farm_shared.client, want[0], want[2], lambda it: it is item)
-        ) for _ in range(want[1])]
+        yield held_together(pytestconfig, farm_shared.client, stack, want, lambda it: it is item)
 
 
 Want = Tuple[Tuple[str, ...], int, Union[int, str, None]]  # tags, how many boards, and the priority
@@ -245,9 +250,7 @@ class Shared:
             return is_shared and "boards" in fixtures_of(item) and want_of(mark) == want
 
         if want not in self.held:
-            self.held[want] = [self.stack.enter_context(
-                held(self.config, self.client, want[0], want[2], asks)
-            ) for _ in range(want[1])]
+            self.held[want] = held_together(self.config, self.client, self.stack, want, asks)
         return self.held[want]
 
 
@@ -262,18 +265,45 @@ def skip_without_farm(config: pytest.Config) -> None:
         pytest.skip("it wants a board of the farm: pytest --farm TAGS")
 
 
+def held_together(
+    config: pytest.Config, client: Client, stack: contextlib.ExitStack, want: Want, asks: Asks
+) -> List[Board]:
+    """As many boards as are wanted, which are held until the stack ends. None is kept for long while others are waited
+    for."""
+    until = time.monotonic() + config.getoption("--farm-timeout")
+    patience = FIRST_TRY
+    while True:
+        with contextlib.ExitStack() as tried:
+            found: List[Board] = []
+            while len(found) < want[1]:
+                left = max(0.0, until - time.monotonic())
+                is_short = 0 < len(found) and patience < left
+                board = tried.enter_context(
+                    held(config, client, want[0], want[2], asks, patience if is_short else left, is_short)
+                )
+                if board is None:
+                    break
+                found.append(board)
+            else:
+                stack.push(tried.pop_all())
+                return found
+        patience *= 2
+        tell(config, f"gives back {len(found)} boards, since {want[1]} weren't to be had at once, and asks again")
+        time.sleep(random.uniform(0, PAUSE))
+
+
 @contextlib.contextmanager
 def held(
     config: pytest.Config, client: Client, tags: Tuple[str, ...], priority: Union[int, str, None],
-    asks: Asks,
-) -> Iterator[Board]:
-    """A board that has these tags and those of --farm, whose loss is told to the tests that ask for
-    it."""
+    asks: Asks, timeout: float, is_tried: bool,
+) -> Iterator[Optional[Board]]:
+    """A board that has these tags and those of --farm, whose loss is told to the tests that ask for it; None where it
+    is only tried, and doesn't come within the time."""
     wanted = dict.fromkeys([*tags, *(tags_of(config) or ())])
     hold = client.board(
         *wanted,
         priority=config.getoption("--farm-priority") if priority is None else priority,
-        timeout=config.getoption("--farm-timeout"),
+        timeout=timeout,
         tell=lambda text: tell(config, text),
     )
     try:
@@ -281,6 +311,9 @@ def held(
             tell(config, f"{found.name} is held by reservation {found.reservation}")
             yield found
     except FizgrukError as fault:
+        if is_tried and isinstance(fault, TimedOut):
+            yield None
+            return
         is_told = hold.watch is not None and hold.watch.is_told
         if not (isinstance(fault, HoldLost) and is_told):
             pytest.fail(str(fault), pytrace=False)

@@ -22,35 +22,36 @@ BLOCK = 65536
 ALL_HEALTHS = ("Good", "Unknown", "Maintenance")
 
 
-def _is_text(told: object) -> bool:
+def is_text(told: object) -> bool:
     return isinstance(told, str)
 
 
-def _is_number(told: object) -> bool:
+def is_number(told: object) -> bool:
     return isinstance(told, int) and not isinstance(told, bool) and 0 <= told < 2**63
 
 
-def _is_number_if_known(told: object) -> bool:
-    return told is None or _is_number(told)
+def is_number_if_known(told: object) -> bool:
+    return told is None or is_number(told)
 
 
-def _are_names(told: object) -> bool:
-    return isinstance(told, list) and all(map(_is_text, told))
+def are_names(told: object) -> bool:
+    return isinstance(told, list) and all(map(is_text, told))
 
 
-# The kinds of lines, each with its fields and what each of them is.
-FIELDS: Dict[str, Dict[str, Callable[[object], bool]]] = {
+Fields = Dict[str, Callable[[object], bool]]  # the fields of a row, and what each of them is
+# The kinds of lines, each with its fields.
+FIELDS: Dict[str, Fields] = {
     "job": {
-        "job": _is_number, "group": _is_number, "owner": _is_text, "boards": _are_names,
-        "type": _is_text, "name": _is_text, "submitted": _is_number_if_known, "began": _is_number,
-        "ended": _is_number, "outcome": _is_text, "reason": _is_text,
+        "job": is_number, "group": is_number, "owner": is_text, "boards": are_names,
+        "type": is_text, "name": is_text, "submitted": is_number_if_known, "began": is_number,
+        "ended": is_number, "outcome": is_text, "reason": is_text,
     },
     "health": {
-        "board": _is_text, "from": _is_text, "to": _is_text, "at": _is_number, "reason": _is_text,
+        "board": is_text, "from": is_text, "to": is_text, "at": is_number, "reason": is_text,
     },
     "hold": {  # of farm-watch
-        "key": _is_text, "reservation": _is_number, "owner": _is_text, "board": _is_text,
-        "type": _is_text, "began": _is_number, "ended": _is_number, "reason": _is_text,
+        "key": is_text, "reservation": is_number, "owner": is_text, "board": is_text,
+        "type": is_text, "began": is_number, "ended": is_number, "reason": is_text,
     },
 }
 
@@ -87,9 +88,7 @@ class History:
 
     def add_jobs(self, rows: List[Dict[str, Any]]) -> None:
         """Adds the lines of jobs that ended, of those that have none yet."""
-        new = [
-            it for it in rows if self.written.get(it["group"], {}).get(it["job"]) != it["began"]
-        ]
+        new = [it for it in rows if self.written.get(it["group"], {}).get(it["job"]) != it["began"]]
         self._add(new)
         for row in new:
             self._note_written(row)
@@ -144,7 +143,7 @@ class History:
             self.effects.pop(row["board"], None)
             return
         self.jobs.append(row)
-        effect = _effect_of(row)
+        effect = effect_of(row)
         for board in row["boards"]:
             if effect:
                 self.effects[board] = effect
@@ -169,8 +168,8 @@ def is_check(row: Dict[str, Any]) -> bool:
     return (row["name"], row["owner"]) == (CHECK, "admin")
 
 
-def _effect_of(row: Dict[str, Any]) -> Optional[Effect]:
-    """What a job's end does to its board's health: the desk's rules (MACHINE.md, Finish)."""
+def effect_of(row: Dict[str, Any]) -> Optional[Effect]:
+    """What a job's end does to its board's health: the desk's rules (MACHINE.md, Change)."""
     if row["outcome"] == "Canceled":
         return None
     if is_check(row):
@@ -202,8 +201,12 @@ def row_of(line: bytes) -> Optional[Dict[str, Any]]:
     that isn't of its kind."""
     row = disk.object_of(line)
     wanted = FIELDS.get(str(row.get("kind")), {})
-    is_line = all(name in row and is_so(row[name]) for name, is_so in wanted.items())
-    return row if wanted and is_line else None
+    return row if wanted and is_row(row, wanted) else None
+
+
+def is_row(row: Any, fields: Fields) -> bool:
+    """Whether it is an object that has these fields, each of its kind."""
+    return isinstance(row, dict) and all(name in row and is_so(row[name]) for name, is_so in fields.items())
 
 
 def append(file: str, rows: List[Dict[str, Any]]) -> None:

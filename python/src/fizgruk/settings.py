@@ -6,7 +6,6 @@ where that lab is named. What names a lab goes before what is less near: given t
 environment, and in the environment, before the files."""
 import configparser
 import dataclasses
-import difflib
 import getpass
 import netrc
 import os
@@ -15,8 +14,8 @@ import stat
 import urllib.parse
 from typing import Any, Callable, Dict, List, Mapping, Optional, Sequence, Tuple
 
-from fizgruk.errors import BadSettings
-from fizgruk.words import NAMES
+from fizgruk.errors import BadSettings, sentence_of
+from fizgruk.words import NAMES, nearest
 
 SYSTEM_FILE, OWN_FILE = "/etc/farm/desk.ini", "~/.config/farm/desk.ini"
 SERVER = "http://127.0.0.1:880"
@@ -26,16 +25,11 @@ SECONDS = "30"
 WORDS = ("server", "user", "password_file", "ca_file", "timeout")
 OF_LAB = (*WORDS, "history", "access")
 OF_DISPATCH = (
-    "limit", "most", "retry", "clock", "keep_logs", "cage", "log_limit", "folder_limit",
-    "memory_limit", "process_limit", "artifacts_limit", "artifact_limit", "artifact_count", "serves",
-    "notes",
+    "limit", "most", "clock", "keep_logs", "log_limit", "folder_limit", "artifacts_limit",
+    "artifact_limit", "artifact_count", "workers", "notes",
 )
 # The sections of a file, each with its settings.
-SECTIONS = {
-    "desk": (*OF_LAB, "lab"),
-    "dispatch": (*WORDS, *OF_DISPATCH),
-    "watch": WORDS,
-}
+SECTIONS = {"desk": (*OF_LAB, "lab"), "dispatch": (*WORDS, *OF_DISPATCH), "watch": WORDS}
 LAB = re.compile(r"lab +(\S+)")  # the name of a lab's section
 LAB_FORM = "[lab NAME]"
 BadWords = Callable[[str], None]  # raises that a setting is misspelt
@@ -44,13 +38,16 @@ Given = Mapping[str, Any]  # what goes before all else; `config` names the file 
 
 @dataclasses.dataclass(frozen=True)
 class Settings:
-    """An address, a user, and how many seconds a network call may wait."""
+    """An address, a user, and how many seconds a network call may wait; the dispatcher's folder, where that is
+    on this machine, and where ssh(1) goes for boards, where that is said."""
 
     server: str
     user: str
     password: Optional[str]
     ca_file: Optional[str]
     timeout: float
+    history: Optional[str] = None
+    access: Optional[str] = None
 
 
 def refuse(text: str) -> None:
@@ -66,7 +63,7 @@ def read_settings(
     server = found["server"] or SERVER
     address = address_of(server)
     login, password = _password_of(found["password_file"], address.hostname or "")
-    asks = found["user"] or user or login or getpass.getuser()
+    asks = found["user"] or user or login or _login()
     if not NAMES.fullmatch(asks):
         raise BadSettings(f"{asks!r} is no name of a user")
     if login is not None and login != asks:
@@ -74,7 +71,8 @@ def read_settings(
     if password is not None and address.scheme == "http" and address.hostname not in LOOPBACK:
         raise BadSettings(f"a password isn't sent to {server}, which has no TLS")
     ca_file = os.path.expanduser(found["ca_file"]) if found["ca_file"] else None
-    return Settings(server, asks, password, ca_file, _seconds(found["timeout"] or SECONDS))
+    seconds = _seconds(found["timeout"] or SECONDS)
+    return Settings(server, asks, password, ca_file, seconds, found.get("history"), found.get("access"))
 
 
 def values_of(given: Given, section: str, bad_words: BadWords) -> Dict[str, Optional[str]]:
@@ -99,20 +97,20 @@ def labs_of(given: Given) -> List[str]:
     """The labs that the files of settings have a section for, in their order."""
     around = _environment_of("desk", SECTIONS["desk"], refuse)
     files = _files_read(given.get("config") or around.get("config"))
-    return list(dict.fromkeys(it for _, read in files for it in _labs_in(read)))
+    return list(dict.fromkeys(lab for lab, *_ in _labs_in(files)))
 
 
 def _of_lab(files: "Files", lab: str, bad_words: BadWords) -> Dict[str, str]:
     """What the section of a lab says."""
-    known = [it for _, read in files for it in _labs_in(read)]
+    sections = _labs_in(files)
+    known = [it[0] for it in sections]
     if lab not in known:
         which = meant(lab, known) if known else f"there is no section {LAB_FORM}"
         raise BadSettings(f"the settings have no lab {lab}: {which}")
     found: Dict[str, str] = {}
-    for file, read in files:
-        for name in read.sections():
-            if _lab_in(name) == lab:
-                found.update(_words_of(file, read, name, OF_LAB, bad_words))
+    for known_lab, file, read, name in sections:
+        if known_lab == lab:
+            found.update(_words_of(file, read, name, OF_LAB, bad_words))
     if "server" not in found:
         raise BadSettings(f"[lab {lab}] has no server")
     return found
@@ -124,8 +122,10 @@ def _lab_in(name: str) -> Optional[str]:
     return match[1] if match and NAMES.fullmatch(match[1]) else None
 
 
-def _labs_in(read: configparser.ConfigParser) -> List[str]:
-    return [it for it in map(_lab_in, read.sections()) if it is not None]
+def _labs_in(files: "Files") -> List[Tuple[str, str, configparser.ConfigParser, str]]:
+    """The labs' sections: of which lab each is, and where it stands."""
+    found = ((_lab_in(name), file, read, name) for file, read in files for name in read.sections())
+    return [(lab, file, read, name) for lab, file, read, name in found if lab is not None]
 
 
 def _environment_of(section: str, words: Sequence[str], bad_words: BadWords) -> Dict[str, str]:
@@ -161,9 +161,7 @@ def _files_read(named: Optional[str]) -> Files:
     return found
 
 
-def _said_in(
-    files: Files, section: str, words: Sequence[str], bad_words: BadWords
-) -> Dict[str, str]:
+def _said_in(files: Files, section: str, words: Sequence[str], bad_words: BadWords) -> Dict[str, str]:
     """What the files say in a section."""
     found: Dict[str, str] = {}
     for file, read in files:
@@ -189,9 +187,9 @@ def _words_of(
 
 def meant(word: str, known: Sequence[str], head: str = "") -> str:
     """What a misspelt word may mean. `head` stands before each in what is told."""
-    near = difflib.get_close_matches(word, known, 1)
+    near = nearest(word, known)
     if near:
-        return f"is {head}{near[0]} meant?"
+        return f"is {head}{near} meant?"
     return f"there are {', '.join(head + it for it in known)}"
 
 
@@ -214,16 +212,27 @@ def address_of(server: str) -> urllib.parse.SplitResult:
     raise BadSettings(f"{server} is no address of a server, as {SERVER} is one")
 
 
+def _login() -> str:
+    try:
+        return getpass.getuser()
+    except (KeyError, OSError) as fault:  # (an account of a number alone, as in a container)
+        raise BadSettings("who asks isn't said, and this account has no name: --user NAME") from fault
+
+
 def _password_of(file: Optional[str], host: str) -> Tuple[Optional[str], Optional[str]]:
     """Whom a password belongs to, where ~/.netrc says so, and the password."""
     if file:
         return None, _first_line(os.path.expanduser(file))
+    own = os.path.expanduser("~/.netrc")
     try:
-        entry = netrc.netrc().authenticators(host)
+        entry = netrc.netrc(own).authenticators(host)  # (which looks at the modes of no file that is named)
+        others = stat.S_IMODE(os.stat(own).st_mode) & 0o077
     except FileNotFoundError:
         return None, None
-    except (netrc.NetrcParseError, OSError) as fault:
-        raise BadSettings(f"~/.netrc: {' '.join(str(fault).split())}") from fault
+    except (netrc.NetrcParseError, OSError, UnicodeDecodeError) as fault:
+        raise BadSettings(f"~/.netrc: {' '.join(sentence_of(fault).split())}") from fault
+    if entry and others:
+        raise BadSettings(f"{own} holds a password of {host}, and others may read it: chmod 600")
     return (entry[0], entry[2]) if entry else (None, None)
 
 
@@ -234,7 +243,7 @@ def _first_line(file: str) -> str:
                 raise BadSettings(f"{file} holds a password, and others may read it: chmod 600")
             return text.readline().rstrip("\r\n")
     except (OSError, UnicodeDecodeError) as fault:
-        raise BadSettings(f"{file} can't be read: {fault}") from fault
+        raise BadSettings(f"{file} can't be read: {sentence_of(fault)}") from fault
 
 
 def _seconds(text: str) -> float:

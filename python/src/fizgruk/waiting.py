@@ -3,7 +3,7 @@ import threading
 import time
 from typing import Callable, Dict, List, Optional, Sequence, Set, TypeVar
 
-from fizgruk import calls, wants
+from fizgruk import calls, present, wants
 from fizgruk.calls import Desk, Row
 from fizgruk.errors import Code, Refused, ReservationEnded, TimedOut, Unreachable
 
@@ -19,9 +19,7 @@ SLEEPS = threading.local()
 class Wait:
     """What a wait asks the desk, look after look, and what it tells where that changes."""
 
-    def __init__(
-        self, desk: Desk, about: str, timeout: Optional[float], every: float, tell: Tell
-    ) -> None:
+    def __init__(self, desk: Desk, about: str, timeout: Optional[float], every: float, tell: Tell) -> None:
         """`about` is what is waited for, as it is told where the time is over."""
         self.desk = desk.of_patience(0)
         self.about = about
@@ -71,25 +69,20 @@ class Wait:
         left = self.every if self.timeout is None else self.timeout - waited
         getattr(SLEEPS, "sleep", time.sleep)(max(0.0, min(self.every, left)))
 
-    def place(self, kind: str, number: int) -> str:
-        """Where a claim stands, as `place 2 of 5 in the queue`, or nothing where it isn't there."""
-        queue = calls.rows_of(self.desk, "queue")
-        for place, claim in enumerate(queue, 1):
-            if (claim["kind"], claim["number"]) == (kind, number):
-                return f"place {place} of {len(queue)} in the queue"
-        return ""
-
     def lab(self) -> wants.Lab:
         """The boards as they are now."""
         if self.checked is None:
             self.checked = wants.checked_types(self.desk)
-        return wants.Lab(self.desk, self.checked, self.owners)
+        return wants.Lab(self.desk, self.checked, self.owners, present.Present(self.desk))
 
     def reason(self, lab: wants.Lab, wanted: List[wants.Want]) -> str:
         """Why these wants wait, behind a colon, or nothing."""
         self.note_met(lab.is_met(wanted))
-        why = lab.reason(wanted)
-        return f": {why}" if why else ""
+        return behind_colon(lab.reason(wanted))
+
+
+def behind_colon(why: str) -> str:
+    return f": {why}" if why else ""
 
 
 def wait_for_board(wait: Wait, number: int, tags: Optional[Sequence[str]]) -> Row:
@@ -105,7 +98,7 @@ def wait_for_board(wait: Wait, number: int, tags: Optional[Sequence[str]]) -> Ro
             wait.note_own()
             refreshed = time.monotonic()
         # (the boards are shown after the queue: a pass between the two gives it its board)
-        place = wait.place("reservation", number)
+        place = wants.place_of(wait.desk, "reservation", number)
         lab = wait.lab()
         board = lab.held_by(f"reservation {number}")
         if board:
@@ -163,12 +156,20 @@ def wait_for_group(wait: Wait, number: int) -> List[Row]:
     return wait.until_there(look)
 
 
+def silence_of(wait: Wait, members: List[Row]) -> str:
+    """Which workers of these jobs' boards don't answer."""
+    if not present.Present(wait.desk).silent():
+        return ""
+    lab, names = wait.lab(), {it["board"] for it in members}
+    return lab.silence([it for it in lab.boards if it["name"] in names])
+
+
 def state_and_place(wait: Wait, members: List[Row]) -> str:
     """The state of the first of these members, where its group stands, and why it waits."""
     state = str(members[0]["state"])
-    if state not in ("Submitted", "Scheduling"):
-        return state
-    place = wait.place("group", members[0]["group"])
+    if state not in wants.QUEUED:
+        return state + behind_colon(silence_of(wait, members))
+    place = wants.place_of(wait.desk, "group", members[0]["group"])
     if not place:
         return state
     lab = wait.lab()

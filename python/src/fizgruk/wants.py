@@ -1,14 +1,17 @@
 """What claims want, which boards fit, and why they don't get them."""
+import functools
 import itertools
 import time
-from typing import Any, Callable, Dict, List, NamedTuple, Optional, Set, Tuple
+from typing import Callable, Dict, List, NamedTuple, Optional, Sequence, Set, Tuple
 
-from fizgruk import calls
+from fizgruk import calls, present
+from fizgruk.calls import Row
 from fizgruk.errors import Refused, Unreachable
 
 # The healths of boards that nobody gets, as they are told.
 OUT = {"Retired": "Retired", "Bad": "Bad", "Maintenance": "in Maintenance"}
 MOST_NAMED = 4
+QUEUED = ("Submitted", "Scheduling")  # the states of jobs that are in the queue
 
 
 class Want(NamedTuple):
@@ -18,25 +21,35 @@ class Want(NamedTuple):
     tags: Tuple[str, ...]
 
 
-def want_of_job(view: Dict[str, Any]) -> Want:
+def want_of_job(view: Row) -> Want:
     return Want(view["type"], tuple(view["tags"]))
 
 
-def want_of_reservation(row: Dict[str, Any]) -> Want:
+def want_of_reservation(row: Row) -> Want:
     return Want("", tuple(row["tags"]))
 
 
-def fits(board: Dict[str, Any], want: Want) -> bool:
+def fits(board: Row, want: Want) -> bool:
     """Whether a board has a want's type and tags, the one of its name among them."""
     tags = {*board["tags"], f"name={board['name']}"}
     return want.kind in ("", board["type"]) and set(want.tags) <= tags
+
+
+def fitting(boards: List[Row], wants: Sequence[Want]) -> List[Row]:
+    """The boards that fit one of these wants or more."""
+    return [it for it in boards if any(fits(it, want) for want in wants)]
 
 
 def described(want: Want) -> str:
     return " ".join([want.kind or "board", *(["with"] if want.tags else []), *want.tags])
 
 
-def listed(boards: List[Dict[str, Any]], text_of: Callable[[Dict[str, Any]], str]) -> str:
+def of_boards(wants: Sequence[Want], what: str) -> str:
+    """What is told of several wants together."""
+    return f"of {len(wants)} boards ({'; '.join(dict.fromkeys(map(described, wants)))}) {what}"
+
+
+def listed(boards: List[Row], text_of: Callable[[Row], str]) -> str:
     """A text of each of the first few boards, and how many more there are."""
     texts = [text_of(it) for it in boards[:MOST_NAMED]]
     more = [f"{len(boards) - MOST_NAMED} more"] if len(boards) > MOST_NAMED else []
@@ -44,59 +57,98 @@ def listed(boards: List[Dict[str, Any]], text_of: Callable[[Dict[str, Any]], str
 
 
 class Lab:
-    """A desk's boards at one moment, and what is asked of the desk about those who hold them."""
+    """A desk's boards at one moment, and what is asked about them once it is needed."""
 
-    def __init__(self, desk: calls.Looker, checked: Set[str], owners: Dict[str, str]):
-        """`checked` are the types that have a check; `owners` is filled, and kept by the caller."""
+    def __init__(
+        self, desk: calls.Looker, checked: Optional[Set[str]] = None, owners: Optional[Dict[str, str]] = None,
+        now: Optional[present.Present] = None,
+    ):
+        """`checked` are the types that have a check, where they are known; `owners` is filled, and kept by the caller;
+        `now` is what the dispatcher tells, of which nothing is asked without it."""
         self.desk = desk
         self.checked = checked
-        self.owners = owners
-        self.boards = desk.look("/boards")["boards"]
+        self.owners = {} if owners is None else owners
+        self.now = now
+        self.boards: List[Row] = desk.look("/boards")["boards"]
 
-    def held_by(self, holder: str) -> Optional[Dict[str, Any]]:
+    @functools.cached_property
+    def silent(self) -> Dict[str, str]:
+        """What is told of each worker that doesn't answer."""
+        return self.now.silent() if self.now else {}
+
+    def has_check(self, kind: str) -> bool:
+        """Whether the boards of a type are checked."""
+        if self.checked is None:
+            self.checked = checked_types(self.desk)
+        return kind in self.checked
+
+    def held_by(self, holder: str) -> Optional[Row]:
         """The board that `job 3` or `reservation 4` holds, or None."""
-        found: List[Dict[str, Any]] = [it for it in self.boards if it["holder"] == holder]
-        return found[0] if found else None
+        return next((it for it in self.boards if it["holder"] == holder), None)
 
     def reason(self, wants: List[Want]) -> str:
-        """Why these wants wait: nothing where boards for them are free, or may become so by
-        themselves and nothing more is known."""
+        """Why these wants wait; nothing where boards for them are free."""
         lack = self.lack(wants)
-        if len(wants) != 1:
-            return lack
-        return "; ".join(it for it in (self.waits(wants[0]), "none can come" if lack else "") if it)
+        if len(wants) == 1:
+            why = [self.waits(wants[0]), "none can come" if lack else ""]
+        else:
+            why = [lack or self.taken(wants)]
+        silence = self.silence(fitting(self.boards, wants)) if any(why) else ""
+        return "; ".join(filter(None, [*why, silence]))
+
+    def silence(self, boards: List[Row]) -> str:
+        """Which workers of these boards, but for those that are out of use, don't answer."""
+        names = dict.fromkeys(present.worker_of(it) for it in boards if it["health"] not in OUT)
+        return "; ".join(self.silent[it] for it in names if it in self.silent)
+
+    def taken(self, wants: List[Want]) -> str:
+        """Which of these wants no free boards meet, and why the boards that fit aren't free; nothing where such
+        boards meet them all."""
+        free = self.free()
+        short = short_of(wants, free)
+        if short is None:
+            return ""
+        if len(short) == 1:
+            return self.waits(short[0])
+        others = [it for it in fitting(self.boards, short) if it not in free]
+        taken = listed(others, lambda it: f"{it['name']} is {self.state_and_holder(it)}")
+        return of_boards(short, f"only {len(fitting(free, short))} free: {taken}")
+
+    def free(self) -> List[Row]:
+        return [it for it in self.boards if not self.state(it)]
 
     def waits(self, want: Want) -> str:
         """How many boards fit a want, and why none of them is free; nothing where one is."""
-        fitting = [it for it in self.boards if fits(it, want)]
-        states = [self.state(it) for it in fitting]
-        if not fitting:
+        boards = fitting(self.boards, [want])
+        states = [self.state(it) for it in boards]
+        if not boards:
             return "no board fits"
         if "" in states:
             return ""
-        if len(fitting) == 1:
-            return f"1 board fits, {self.state_and_holder(fitting[0])}"
-        held = [it for it, state in zip(fitting, states) if state == "held"]
+        if len(boards) == 1:
+            return f"1 board fits, {self.state_and_holder(boards[0])}"
+        held = [it for it, state in zip(boards, states) if state == "held"]
         counts = [
             f"{states.count(it)} {it}" + (f" ({self.holders(held)})" if it == "held" else "")
             for it in sorted(set(states))
         ]
-        return f"{len(fitting)} boards fit: {', '.join(counts)}"
+        return f"{len(boards)} boards fit: {', '.join(counts)}"
 
-    def state(self, board: Dict[str, Any]) -> str:
+    def state(self, board: Row) -> str:
         """Why nobody gets a board, or nothing where it is free."""
         if board["health"] in OUT:
             return OUT[board["health"]]
         if board["holder"] != "none":
             return "held"
-        unchecked = board["health"] == "Unknown" and board["type"] in self.checked
-        return "Unknown until it is checked" if unchecked else ""
+        if board["health"] == "Unknown" and self.has_check(board["type"]):
+            return "Unknown until it is checked"
+        return "without its worker" if present.worker_of(board) in self.silent else ""
 
-    def state_and_holder(self, board: Dict[str, Any]) -> str:
+    def state_and_holder(self, board: Row) -> str:
         state = self.state(board)
         return f"held by {self.holders([board])}" if state == "held" else state
 
-    def holders(self, boards: List[Dict[str, Any]]) -> str:
+    def holders(self, boards: List[Row]) -> str:
         """Those who hold these boards, with the owners of the first few."""
         return listed(boards, lambda it: f"{it['holder']} of {self.owner(it['holder'])}")
 
@@ -104,8 +156,10 @@ class Lab:
         """Whose a holder is: `job 3` or `reservation 4`."""
         if holder not in self.owners:
             kind, number = holder.split()
+            board = self.held_by(holder)
             if kind == "job":
-                self.owners[holder] = self.desk.look(f"/jobs/{number}")["owner"]
+                run = self.now.row_of(present.JOBS, int(number), board["name"]) if self.now and board else None
+                self.owners[holder] = (run or self.desk.look(f"/jobs/{number}"))["owner"]
             else:
                 for row in self.desk.look("/reservations")["reservations"]:
                     self.owners[f"reservation {row['number']}"] = row["owner"]
@@ -113,7 +167,7 @@ class Lab:
 
     def is_met(self, wants: List[Want]) -> bool:
         """Whether free boards meet these wants."""
-        return short_of(wants, [it for it in self.boards if not self.state(it)]) is None
+        return short_of(wants, self.free()) is None
 
     def lack(self, wants: List[Want]) -> str:
         """Which of these wants can't be met by boards that aren't Retired, Bad or in Maintenance,
@@ -122,28 +176,21 @@ class Lab:
         short = short_of(wants, able)
         if short is None:
             return ""
-        fitting = [it for it in self.boards if any(fits(it, want) for want in short)]
-        out = [it for it in fitting if it["health"] in OUT]
-        return lacking(short, len(fitting) - len(out), out)
+        out = [it for it in fitting(self.boards, short) if it["health"] in OUT]
+        why = listed(out, lambda it: f"{it['name']} is {OUT[it['health']]}") or "no other board fits"
+        if len(short) == 1:
+            return f"no {described(short[0])} can come: {why}"
+        return of_boards(short, f"only {len(fitting(able, short))} can come: {why}")
 
 
-def short_of(wants: List[Want], boards: List[Dict[str, Any]]) -> Optional[Tuple[Want, ...]]:
+def short_of(wants: List[Want], boards: List[Row]) -> Optional[Tuple[Want, ...]]:
     """Some of these wants, as few as can be, that fewer of these boards fit than they are, or None
     where there are none such: then all are met, each by a board of its own (Hall's theorem)."""
     for size in range(1, len(wants) + 1):
         for some in itertools.combinations(wants, size):
-            if sum(any(fits(it, want) for want in some) for it in boards) < size:
+            if len(fitting(boards, some)) < size:
                 return some
     return None
-
-
-def lacking(some: Tuple[Want, ...], able: int, out: List[Dict[str, Any]]) -> str:
-    """That no boards can come for wants, or too few, and which are out of use."""
-    why = listed(out, lambda it: f"{it['name']} is {OUT[it['health']]}") or "no other board fits"
-    if len(some) == 1:
-        return f"no {described(some[0])} can come: {why}"
-    wanted = "; ".join(dict.fromkeys(described(it) for it in some))
-    return f"of {len(some)} boards ({wanted}) only {able} can come: {why}"
 
 
 def why_none(desk: calls.Looker, wants: List[Want]) -> str:
@@ -154,13 +201,11 @@ def why_none(desk: calls.Looker, wants: List[Want]) -> str:
     if short is None:
         return ""  # there are by now
     if len(short) > 1:
-        wanted = "; ".join(dict.fromkeys(described(it) for it in short))
-        fitting = sum(any(fits(it, want) for want in short) for it in boards)
-        return f"of {len(short)} boards ({wanted}) there are {fitting}"
+        return of_boards(short, f"there are {len(fitting(boards, short))}")
     return _lacking_tags(short[0], boards)
 
 
-def told(desk: calls.Looker, refusal: Refused, wants: List[Want]) -> Refused:
+def explained(desk: calls.Looker, refusal: Refused, wants: List[Want]) -> Refused:
     """A refusal of wants (22), and why, as far as the desk says it."""
     try:
         why = why_none(desk, wants)
@@ -169,7 +214,7 @@ def told(desk: calls.Looker, refusal: Refused, wants: List[Want]) -> Refused:
     return refusal.about(why) if why else refusal
 
 
-def _lacking_tags(want: Want, boards: List[Dict[str, Any]]) -> str:
+def _lacking_tags(want: Want, boards: List[Row]) -> str:
     """Which tags of a want no board of its type has, or that none has all of them."""
     what = want.kind or "board"
     boards = [it for it in boards if want.kind in ("", it["type"])]
@@ -188,40 +233,71 @@ def checked_types(desk: calls.Looker) -> Set[str]:
 
 # ---- the queue
 
-# Of so many claims from the head of the queue on, and for so many seconds, it is asked what they
-# want, a call a job; of the group that collects in any case.
+
+def place_of(desk: calls.Looker, kind: str, number: int) -> str:
+    """Where a claim stands, as `place 2 of 5 in the queue`, or nothing where it isn't there."""
+    queue = calls.rows_of(desk, "queue")
+    for place, claim in enumerate(queue, 1):
+        if (claim["kind"], claim["number"]) == (kind, number):
+            return f"place {place} of {len(queue)} in the queue"
+    return ""
+
+
+# Of so many claims, and for so many seconds, the desk is asked what they want where the dispatcher doesn't tell it, a call
+# a job; of the group that collects in any case.
 MOST_ASKED, LONGEST_ASKED = 50, 3.0
 
 
-def notes_of(desk: calls.Looker, queue: List[Dict[str, Any]]) -> Dict[int, str]:
-    """What is to be said of claims in the queue, by their numbers: the one that collects boards,
-    and those that wait for boards of which none can come."""
-    if not queue:
-        return {}
-    collector = desk.look("/status").get("collector", 0)  # a desk of the first edition has none
-    lab = Lab(desk, set(), {})
-    reservations = {}
-    if any(it["kind"] == "reservation" for it in queue[:MOST_ASKED]):
-        reservations = {it["number"]: it for it in desk.look("/reservations")["reservations"]}
-    until = time.monotonic() + LONGEST_ASKED
-    notes = {}
-    for place, claim in enumerate(queue):
-        collects = claim["kind"] == "group" and claim["number"] == collector
-        if not collects and (place >= MOST_ASKED or time.monotonic() > until):
-            continue
-        lack = lab.lack(wants_of(desk, claim, reservations))
-        notes[claim["number"]] = "; ".join(
-            it for it in ("collects boards" if collects else "", lack) if it
-        )
-    return notes
+class Claims:
+    """What claims of the queue want, and why they wait: as the dispatcher tells it, or the desk where that doesn't."""
 
+    def __init__(self, desk: calls.Looker):
+        self.desk = calls.Remembered(desk)
+        self.now = present.Present(self.desk)
 
-def wants_of(
-    desk: calls.Looker, claim: Dict[str, Any], reservations: Dict[int, Dict[str, Any]]
-) -> List[Want]:
-    """What a claim of the queue wants. A group's members have consecutive numbers."""
-    if claim["kind"] == "reservation":
-        row = reservations.get(claim["number"])
-        return [want_of_reservation(row)] if row else []
-    numbers = range(claim["number"], claim["number"] + claim["boards"])
-    return [want_of_job(desk.look(f"/jobs/{it}")) for it in numbers]
+    @functools.cached_property
+    def lab(self) -> Lab:
+        return Lab(self.desk, now=self.now)
+
+    @property
+    def groups(self) -> Dict[int, Row]:
+        """The groups that the dispatcher tells of."""
+        return self.now.rows(present.GROUPS)
+
+    def is_known(self, claim: Row) -> bool:
+        """Whether the dispatcher tells what a group wants; of a group of another size it is another farm's word."""
+        return bool(len(self.groups.get(claim["number"], {}).get("wants", ())) == claim["boards"])
+
+    def members(self, claim: Row) -> List[Row]:
+        """What the members of a group want, which have consecutive numbers; none of a reservation."""
+        if claim["kind"] != "group":
+            return []
+        if self.is_known(claim):
+            return list(self.groups[claim["number"]]["wants"])
+        return [self.desk.look(f"/jobs/{claim['number'] + it}") for it in range(claim["boards"])]
+
+    def kinds(self, claim: Row) -> List[str]:
+        """The types of the boards that a claim wants; a reservation wants boards of any."""
+        return list(dict.fromkeys(str(it["type"]) for it in self.members(claim)))
+
+    def wants(self, claim: Row) -> List[Want]:
+        if claim["kind"] == "group":
+            return [want_of_job(it) for it in self.members(claim)]
+        rows = self.desk.look("/reservations")["reservations"]
+        return [want_of_reservation(it) for it in rows if it["number"] == claim["number"]]
+
+    def reasons(self, queue: List[Row]) -> Dict[int, str]:
+        """Why claims wait, by their numbers, and that one collects boards."""
+        # (one of a single board collects none; a desk of the first edition has no collector)
+        is_many = any(it["boards"] > 1 for it in queue)
+        collector = self.desk.look("/status").get("collector", 0) if is_many else 0
+        until = time.monotonic() + LONGEST_ASKED
+        reasons = {}
+        for place, claim in enumerate(queue):
+            collects = claim["number"] == collector
+            may_ask = place < MOST_ASKED and time.monotonic() <= until
+            if collects or may_ask or claim["kind"] == "reservation" or self.is_known(claim):
+                wanted = self.wants(claim)
+                why = [*(["collects boards"] if collects else []), self.lab.reason(wanted) if wanted else ""]
+                reasons[claim["number"]] = "; ".join(filter(None, why))
+        return reasons

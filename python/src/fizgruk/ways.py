@@ -15,7 +15,7 @@ PORT, ACCOUNT = 2222, "board"
 BLOCK = 65536
 KEPT = 1_000_000  # bytes of a console that are looked through
 ENDS_WITHIN = 10.0
-BAD_WORDS, NOT_YOURS, LOST = 2, 5, 6
+LOST = 6  # a status of farm-access(8)
 # A board's own keys change with what runs on it, and farm-access says which board it is.
 FOR_BOARDS = (
     "StrictHostKeyChecking=no", "UserKnownHostsFile=/dev/null", "GlobalKnownHostsFile=/dev/null",
@@ -47,9 +47,7 @@ def words_of(to: str, board: str, *words: str, options: Sequence[str] = ("-T",))
     return ["ssh", *options, "--", to, board, *words]
 
 
-def ssh_words(
-    to: str, board: str, words: Sequence[str], user: str = "root", port: int = 22
-) -> List[str]:
+def ssh_words(to: str, board: str, words: Sequence[str], user: str = "root", port: int = 22) -> List[str]:
     """The command that goes to a board's own sshd, by farm-access."""
     proxy = shlex.join(words_of(to, board, "tcp", str(port))).replace("%", "%%")
     options = [f"ProxyCommand={proxy}", *FOR_BOARDS]

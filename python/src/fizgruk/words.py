@@ -1,13 +1,20 @@
 """The words of job and lab files, and whether a text is one: the same rules as the desk's."""
 import contextlib
 import re
-from typing import Any, Dict, Iterator, List, Tuple
+from typing import Any, Dict, Iterable, Iterator, List, Optional, Tuple
 
 from fizgruk.bounds import MOST_TAGS, NAME, TAG_KEY, TAG_VALUE
 
 LETTER = "[A-Za-z0-9_.-]"
 NAMES = re.compile(f"{LETTER}{{1,{NAME}}}")
 TAGS = re.compile(f"{LETTER}{{1,{TAG_KEY}}}(={LETTER}{{1,{TAG_VALUE}}})?")
+
+
+def nearest(word: str, known: Iterable[str]) -> Optional[str]:
+    """The known word that a misspelt one may mean, if one is near."""
+    import difflib  # (which a tool that has its words right begins without)
+
+    return next(iter(difflib.get_close_matches(word, list(known), 1)), None)
 
 
 class BadFile(Exception):
@@ -41,6 +48,15 @@ def name_of(value: object, what: str) -> str:
         letters = "letters, digits, '-', '_', '.'"
         raise BadFile(f"{what} {value!r} isn't a name of 1 to {NAME} {letters}")
     return value
+
+
+def board_name_of(value: object, what: str) -> str:
+    """The name of a board that is to be added. The desk takes `.` and `..` too, but what stands between it and its
+    users takes an address with these for another one."""
+    name = name_of(value, what)
+    if name in (".", ".."):
+        raise BadFile(f"{what} {name!r} would lead its address elsewhere")
+    return name
 
 
 def whole_of(value: object, what: str) -> int:

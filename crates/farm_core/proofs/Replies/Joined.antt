@@ -1,9 +1,9 @@
 -- The text under which a reply stands in the map: its caller, a space, its key. A space stands below
 -- each byte of a name, so these texts stand in the order of callers and then keys.
-use Rattle.std.proofs.Common.{◌≡◌, ◌∙◌, ◌<◌, ◌+◌, ◌&&◌, ◌==◌, ℕ, suc, List, [], ◌∷◌, map, length, take, drop, Bool, true, false, cond, IsTrue, nat_le, Some}
+use Rattle.std.proofs.Common.{[], ◌≡◌, ◌∙◌, ◌<◌, ◌+◌, ◌&&◌, ◌==◌, ℕ, suc, List, ◌∷◌, map, length, take, drop, Bool, true, false, IsTrue, nat_le}
 use Rattle.std.proofs.Common.{refl, sym, ap, subst, arith}
 use Rattle.std.specs.Prelude.{option_map}
-use Rattle.farm_core.proofs.Names.{AllByRecursion, bytes_eq, Equal, find, Global, Greater, is_eq, KeptRow, Less, list_all, match_ordering, nat_cmp, nat_tests}
+use Rattle.farm_core.proofs.Names.{AllByRecursion, bytes_eq, Equal, find, Global, Greater, is_eq, Less, list_all, nat_cmp, nat_tests}
 use Rattle.farm_core.proofs.Names.{Ordering, ordering_then, same_names, string_bytes}
 use Rattle.std.specs.Map.{lookup}
 use Rattle.std.specs.BTreeMap.{insert_entry}
@@ -92,28 +92,13 @@ rows_cmp e f one other =
 pub All-insert_entry : (P : String Global → Type 0) (k : String Global) (v : KeptReply) (es : List (String Global × KeptReply)) → P k → AllByRecursion (λ e. P e.0) es
     → AllByRecursion (λ e. P e.0) (insert_entry string_cmp es k v)
 All-insert_entry P k v [] here all = (here, tt)
-All-insert_entry P k v (e ∷ es) here all = by (string_cmp k e.0) (All-insert_entry P k v es here all.1)
-  where
-    by : (o : Ordering) → AllByRecursion (λ e. P e.0) (insert_entry string_cmp es k v)
-        → AllByRecursion (λ e. P e.0) (match_ordering o ((k, v) ∷ e ∷ es) ((e.0, v) ∷ es) (e ∷ insert_entry string_cmp es k v))
-    by Less rest = (here, all)
-    by Equal rest = all
-    by Greater rest = (all.0, rest)
+All-insert_entry P k v (e ∷ es) here all = grind (arith, All-insert_entry P k v es here all.1)
 
 -- an entry is inserted where its row is put
 pub rows_insert : (k : String Global) (v : KeptReply) (es : List (String Global × KeptReply)) → IsJoined (string_bytes k) → AllByRecursion (λ e. IsJoined (string_bytes e.0)) es
     → map kept_row (insert_entry string_cmp es k v) ≡ put kept_cmp (map kept_row es) (kept_row (k, v))
 rows_insert k v [] here all = refl
-rows_insert k v (e ∷ es) here all = rw (sym (rows_cmp (k, v) e here all.0)) (by (string_cmp k e.0) refl (rows_insert k v es here all.1))
-  where
-    by : (o : Ordering) → string_cmp k e.0 ≡ o → map kept_row (insert_entry string_cmp es k v) ≡ put kept_cmp (map kept_row es) (kept_row (k, v))
-        → map kept_row (match_ordering o ((k, v) ∷ e ∷ es) ((e.0, v) ∷ es) (e ∷ insert_entry string_cmp es k v))
-        ≡ match_ordering o (kept_row (k, v) ∷ map kept_row (e ∷ es)) (kept_row (k, v) ∷ map kept_row es) (kept_row e ∷ put kept_cmp (map kept_row es) (kept_row (k, v)))
-    by Less is rest = refl
-    by Equal is rest =
-        let same = same_texts (string_bytes k) (string_bytes e.0) is in
-        λ i. record { caller = joined_caller (sym same i); key = joined_key (sym same i); kind = v.kind; reply = v.reply } ∷ map kept_row es
-    by Greater is rest = ap (λ rs. kept_row e ∷ rs) rest
+rows_insert k v (e ∷ es) here all = grind (arith, rows_insert k v es here all.1, rows_cmp (k, v) e here all.0, same_texts (string_bytes k) (string_bytes e.0))
 
 -- the query's texts are the row's where the keys tie
 same_test : (a b c d : List ℕ) → is_eq (ordering_then (text_cmp a c) (text_cmp b d)) ≡ (bytes_eq c a && bytes_eq d b)
@@ -137,20 +122,4 @@ same_test a b c d =
 pub rows_find : (caller key : List ℕ) → IsName caller → (es : List (String Global × KeptReply)) → AllByRecursion (λ e. IsJoined (string_bytes e.0)) es
     → lookup (λ l. is_eq (text_cmp (joined caller key) (string_bytes l))) es ≡ option_map kept_reply (find (λ r. bytes_eq r.caller caller && bytes_eq r.key key) (map kept_row es))
 rows_find caller key name [] all = refl
-rows_find caller key name (e ∷ es) all =
-    ap (λ v. cond v (Some e.1) (lookup (λ l. is_eq (text_cmp (joined caller key) (string_bytes l))) es)) tests
-    ∙ by (bytes_eq (kept_row e).caller caller && bytes_eq (kept_row e).key key) (rows_find caller key name es all.1)
-  where
-    test : KeptRow → Bool
-    test r = bytes_eq r.caller caller && bytes_eq r.key key
-
-    tests : is_eq (text_cmp (joined caller key) (string_bytes e.0)) ≡ test (kept_row e)
-    tests =
-        ap (λ t. is_eq (text_cmp (joined caller key) t)) all.0.is
-        ∙ ap is_eq (joined_cmp caller key (joined_caller (string_bytes e.0)) (joined_key (string_bytes e.0)) (name_bytes caller name) all.0.caller)
-        ∙ same_test caller key (joined_caller (string_bytes e.0)) (joined_key (string_bytes e.0))
-
-    by : (v : Bool) → lookup (λ l. is_eq (text_cmp (joined caller key) (string_bytes l))) es ≡ option_map kept_reply (find test (map kept_row es))
-        → cond v (Some e.1) (lookup (λ l. is_eq (text_cmp (joined caller key) (string_bytes l))) es) ≡ option_map kept_reply (cond v (Some (kept_row e)) (find test (map kept_row es)))
-    by true rest = refl
-    by false rest = rest
+rows_find caller key name (e ∷ es) all = grind (arith, rows_find caller key name es all.1, is_eq, bytes_eq, joined_cmp, name_bytes, same_test)

@@ -1,9 +1,9 @@
 -- Packed entries and their rows.
-use Rattle.std.proofs.Common.{◌≡◌, ◌∙◌, ◌+◌, ◌≤◌, ◌++◌, ◌&&◌, ℕ, List, [], ◌∷◌, map, length, take, drop, get_or, Bool, true, false, cond, Some, None, refl, sym}
+use Rattle.std.proofs.Common.{[], ◌≡◌, ◌∙◌, ◌+◌, ◌≤◌, ◌++◌, ◌&&◌, ℕ, List, ◌∷◌, map, length, take, drop, get_or, Bool, Some, None, refl, sym}
 use Rattle.std.proofs.Common.{ap, arith, length-append, length-drop, Result, Ok, Err, MatchResult}
 use Rattle.std.specs.Prelude.{option_map}
-use Rattle.farm_core.proofs.Names.{AllByRecursion, bytes_eq, Equal, find, Greater, is_eq, IsStrictlySortedBy, kept_total, KeptRow, Less, Ordering}
-use Rattle.farm_core.proofs.Names.{ordering_then, same_names}
+use Rattle.farm_core.proofs.Names.{AllByRecursion, bytes_eq, find, is_eq, IsStrictlySortedBy, kept_total, KeptRow, Less, Ordering}
+use Rattle.farm_core.proofs.Names.{same_names}
 use Rattle.std.specs.List.Sorted.{IsBinarySearchResult, IsSearchInRange}
 use Rattle.std.proofs.lemmas.List.{take-append-le, take_all, drop-append-le, map-append}
 use Rattle.farm_types.specs.Names.{kept_cmp, text_cmp}
@@ -55,11 +55,7 @@ key_at texts caller key =
 
 pub find_map : {E R : Type 0} (f : E → R) (test : R → Bool) (es : List E) → find test (map f es) ≡ option_map f (find (λ e. test (f e)) es)
 find_map f test [] = refl
-find_map f test (e ∷ es) = by (test (f e)) (find_map f test es)
-  where
-    by : (v : Bool) → find test (map f es) ≡ option_map f (find (λ e. test (f e)) es) → cond v (Some (f e)) (find test (map f es)) ≡ option_map f (cond v (Some e) (find (λ e. test (f e)) es))
-    by true rest = refl
-    by false rest = rest
+find_map f test (e ∷ es) = grind (arith, find_map f test es)
 
 All-map : {E R : Type 0} (f : E → R) (P : R → Type 0) (es : List E) → AllByRecursion P (map f es) → AllByRecursion (λ e. P (f e)) es
 All-map f P [] all = tt
@@ -76,14 +72,7 @@ is_asked q r = bytes_eq r.caller q.caller && bytes_eq r.key q.key
 
 -- the texts are the same where the keys tie
 pub texts_tie : (r q : KeptRow) → is_asked q r ≡ is_eq (kept_cmp r q)
-texts_tie r q =
-    ap (λ a. a && bytes_eq r.key q.key) (same_names r.caller q.caller) ∙ ap (λ b. is_eq (text_cmp r.caller q.caller) && b) (same_names r.key q.key)
-    ∙ by (text_cmp r.caller q.caller) (text_cmp r.key q.key)
-  where
-    by : (a b : Ordering) → (is_eq a && is_eq b) ≡ is_eq (ordering_then a b)
-    by Less b = refl
-    by Equal b = refl
-    by Greater b = refl
+texts_tie r q = grind (arith, bytes_eq r.key q.key, same_names r.caller q.caller, is_eq (text_cmp r.caller q.caller), same_names r.key q.key)
 
 -- ---- one entry more
 
@@ -104,14 +93,7 @@ row_at texts caller key row e its_caller its_key start long_caller long_key kind
 
 pub rows_push : (texts some all caller key : List ℕ) (es more : List Entry) (row : KeptRow) (e : Entry) → some ≡ texts ++ caller → all ≡ some ++ key → more ≡ es ++ e ∷ []
     → AllByRecursion (LiesIn texts) es → entry_row ((texts ++ caller) ++ key) e ≡ row → map (entry_row all) more ≡ map (entry_row texts) es ++ row ∷ []
-rows_push texts some all caller key es more row e first second pushed lie here =
-    let grown : all ≡ (texts ++ caller) ++ key = second ∙ ap (λ s. s ++ key) first in
-    ap (λ s. map (entry_row s) more) grown ∙ ap (map (entry_row ((texts ++ caller) ++ key))) pushed
-    ∙ map-append (entry_row ((texts ++ caller) ++ key)) es (e ∷ [])
-    ∙ (λ i. both i ++ here i ∷ [])
-  where
-    both : map (entry_row ((texts ++ caller) ++ key)) es ≡ map (entry_row texts) es
-    both = rows_stay (texts ++ caller) key es (lie_still texts caller es lie) ∙ rows_stay texts caller es lie
+rows_push texts some all caller key es more row e first second pushed lie here = grind (arith, map-append (entry_row ((texts ++ caller) ++ key)) es (e ∷ []), rows_stay (texts ++ caller) key es (lie_still texts caller es lie), lie_still texts caller es lie, rows_stay texts caller es lie)
 
 pub lie_push : (texts some all caller key : List ℕ) (es more : List Entry) (e : Entry) → some ≡ texts ++ caller → all ≡ some ++ key → more ≡ es ++ e ∷ []
     → e.start ≡ length texts → e.caller ≡ length caller → e.key ≡ length key → AllByRecursion (LiesIn texts) es → AllByRecursion (LiesIn all) more

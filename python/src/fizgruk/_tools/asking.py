@@ -46,8 +46,6 @@ def values_of(section: str, options: argparse.Namespace) -> Dict[str, Optional[s
     return settings.values_of(vars(options), section, options.bad_words)
 
 
-def settings_of(
-    section: str, options: argparse.Namespace, user: Optional[str] = None
-) -> Settings:
+def settings_of(section: str, options: argparse.Namespace, user: Optional[str] = None) -> Settings:
     """The settings of a tool's calls; `user` is who asks where nothing names one."""
     return settings.read_settings(vars(options), section, user, options.bad_words)

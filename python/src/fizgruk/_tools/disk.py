@@ -1,13 +1,12 @@
 """Files that a machine's stop leaves whole, locks that end with the process that has them, and files
 that others may have made."""
-import contextlib
 import errno
 import fcntl
 import json
 import os
 import stat
 import time
-from typing import Any, Callable, Dict, Iterator, Optional, Union
+from typing import Any, Dict, Optional, Union
 
 MOST = 1_048_576  # bytes of a file of a tool's own, of which none is near that
 PAUSE = 0.05
@@ -21,6 +20,13 @@ def sync_folder(folder: str) -> None:
         os.fsync(opened)
     finally:
         os.close(opened)
+
+
+def made_for_all(folder: str) -> str:
+    """A folder whose files others may read by their names."""
+    os.makedirs(folder, exist_ok=True)
+    os.chmod(folder, 0o711)
+    return folder
 
 
 def write_whole(file: str, text: str, mode: int = READABLE) -> None:
@@ -65,44 +71,14 @@ def take_lock(file: str, mode: int = 0o640) -> Optional[int]:
     return opened
 
 
-def take_lock_in_time(
-    file: str, seconds: float, is_vain: Callable[[], bool] = lambda: False
-) -> Optional[int]:
-    """The same, where another may have it for a moment: it is tried for so many seconds, or until
-    that is in vain."""
+def take_lock_in_time(file: str, seconds: float) -> Optional[int]:
+    """The same, where another may have it for a moment: it is tried for so many seconds."""
     for _ in range(round(seconds / PAUSE)):
         lock = take_lock(file)
-        if lock is not None or is_vain():
+        if lock is not None:
             return lock
         time.sleep(PAUSE)
     return None
-
-
-@contextlib.contextmanager
-def locked(file: str, mode: int = 0o640) -> Iterator[bool]:
-    """Has the lock of a file meanwhile, where nobody else has: says whether."""
-    lock = take_lock(file, mode)
-    try:
-        yield lock is not None
-    finally:
-        if lock is not None:
-            os.close(lock)
-
-
-def is_locked(file: str, against: int = fcntl.LOCK_EX) -> bool:
-    """Whether a process has a lock on this file that stands against one of this kind."""
-    access = os.O_RDWR if against == fcntl.LOCK_EX else os.O_RDONLY
-    try:
-        opened = os.open(file, access | os.O_CLOEXEC | os.O_NOFOLLOW)
-    except OSError:
-        return False
-    try:
-        fcntl.flock(opened, against | fcntl.LOCK_NB)
-        return False
-    except BlockingIOError:
-        return True
-    finally:
-        os.close(opened)
 
 
 def object_of(said: Union[str, bytes]) -> Dict[str, Any]:

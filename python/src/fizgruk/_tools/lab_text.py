@@ -1,5 +1,4 @@
 """A lab file's types and boards, read as `farm import` reads them."""
-import difflib
 from typing import Any, Dict, List, NamedTuple, Sequence, Tuple
 
 from fizgruk import toml_text, words
@@ -9,10 +8,7 @@ from fizgruk.words import BadFile
 CHECKS = ("none", "hours", "jobs")
 # The keys of a lab file's tables, and what is said of another that isn't misspelt.
 KEYS = {"types": ("check", "every"), "boards": ("type", "tags")}
-HINTS = {
-    ("boards", "health"): ": desk health sets it",
-    ("types", "every"): ": it has no check",
-}
+HINTS = {("boards", "health"): ": desk health sets it", ("types", "every"): ": it has no check"}
 
 
 class Addition(NamedTuple):
@@ -34,11 +30,11 @@ def additions_of(text: str) -> List[Addition]:
     their names, then the boards in theirs. The first fault is raised as BadFile."""
     tree = toml_text.tree_of(text)
     found = []
-    for section, body_of in (("types", type_of), ("boards", board_of)):
+    for section, body_of, named in (("types", type_of, words.name_of), ("boards", board_of, words.board_name_of)):
         rows = words.table_of(tree.get(section, {}), section)
         for name in sorted(rows, key=str.encode):
             try:
-                words.name_of(name, "its name")
+                named(name, "its name")
                 row = words.table_of(rows[name], "it")
                 found.append(Addition(section, name, {"name": name, **body_of(row)}))
             except BadFile as fault:
@@ -60,9 +56,7 @@ def warnings_of(text: str, more: Sequence[str] = ()) -> List[str]:
             for key in row:
                 if is_ignored(section, key, row) and (section, key) not in used:
                     found.setdefault((section, key), []).append((section, name, key))
-    lines = sorted(
-        (toml_text.line_of(text, paths[0]), warning_of(it, paths)) for it, paths in found.items()
-    )
+    lines = sorted((toml_text.line_of(text, paths[0]), warning_of(it, paths)) for it, paths in found.items())
     empty = [] if any(tree.get(it) for it in KEYS) else ["it has neither types nor boards"]
     return [f"line {line}: {warning}" for line, warning in lines] + empty
 
@@ -88,8 +82,8 @@ def warning_of(key: Tuple[str, str], paths: List[Sequence[str]]) -> str:
     section, word = key
     where = f"{section[:-1]} {paths[0][1]}: " if section else ""
     more = f", and {len(paths) - 1} more" if len(paths) > 1 else ""
-    meant = difflib.get_close_matches(word, KEYS.get(section, KEYS), 1)
-    hint = f": is {meant[0]} meant?" if meant and meant[0] != word else HINTS.get(key, "")
+    meant = words.nearest(word, KEYS.get(section, KEYS))
+    hint = f": is {meant} meant?" if meant and meant != word else HINTS.get(key, "")
     return f"{where}{word} is ignored{more}{hint}"
 
 

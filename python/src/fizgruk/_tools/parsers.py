@@ -5,12 +5,14 @@ In a text 'words' in quotes are typed or shown as they stand, and a word in capi
 that an option or an argument names so."""
 import argparse
 import contextlib
+import re
 import shutil
 import sys
 import textwrap
-from typing import Any, Callable, List, Optional, Sequence, Tuple
+from typing import Any, Callable, List, NoReturn, Optional, Sequence, Tuple
 
 from fizgruk.version import VERSION
+from fizgruk.words import nearest
 
 NARROWEST, WIDEST = 40, 100
 Statuses = Sequence[Tuple[str, str]]
@@ -31,6 +33,7 @@ class Parser(argparse.ArgumentParser):
         self.section = ""
         self.settings: Optional[argparse._ArgumentGroup] = None
         self.settings_about = ""
+        self.short = ""  # what --help prints in the place of all, where that is more than a screen
         self.add_argument("-h", "--help", action="help", help="Show this help.")
 
     def option(self, name: str, value: str, about: str, **more: Any) -> None:
@@ -63,6 +66,36 @@ class Parser(argparse.ArgumentParser):
         self._lay_out()
         return super().format_help()
 
+    def print_help(self, file: Any = None) -> None:
+        if self.short:
+            self._print_message(f"{self.format_usage()}\n{self.short}", file or sys.stdout)
+        else:
+            super().print_help(file)
+
+    def parse_args(  # type: ignore[override]
+        self, args: Optional[Sequence[str]] = None, namespace: Optional[argparse.Namespace] = None
+    ) -> argparse.Namespace:
+        """The options; a word that is none is told by the command that it was given to."""
+        found, rest = self.parse_known_args(args, namespace)
+        if rest:
+            one: Parser = getattr(found, "parser", self)
+            known = [name for it in (*options_of(one), *settings_of(one)) for name in it.option_strings]
+            near = nearest(rest[0], known)
+            what = "option" if rest[0].startswith("-") else "argument"
+            one.error(f"there is no {what} {rest[0]}" + (f": is {near} meant?" if near else ""))
+        return found
+
+    def error(self, message: str) -> NoReturn:
+        """Ends the tool; of a word without end its begin is told."""
+        super().error(re.sub(r"\S{100,}", lambda it: f"{it[0][:40]}..", message))
+
+    def _check_value(self, action: argparse.Action, value: Any) -> None:
+        if isinstance(action, argparse._SubParsersAction) and value not in action.choices:
+            near = nearest(value, action.choices)
+            which = f"is {near} meant?" if near else f"'{self.prog} --help' lists them"
+            self.error(f"there is no command {value}: {which}")
+        super()._check_value(action, value)
+
     def _lay_out(self) -> None:
         """Puts the texts into lines of the terminal's width."""
         self.usage = "\n       ".join(_wrapped_form(it) for it in forms_of(self))
@@ -93,7 +126,7 @@ def whole(least: int, most: int) -> Callable[[str], int]:
     """What reads a word that is a whole number of this span."""
 
     def number(text: str) -> int:
-        if text.isascii() and text.isdigit() and least <= int(text) <= most:
+        if text.isascii() and text.isdigit() and len(text) < 20 and least <= int(text) <= most:
             return int(text)
         raise NoNumber(f"{text} is no number from {least:,} to {most:,}")
 
@@ -203,9 +236,7 @@ def filled(text: str, less: int = 0) -> str:
 
 
 def _wrapped(text: str, wide: int, first: str = "", later: str = "") -> str:
-    return textwrap.fill(
-        text, wide, initial_indent=first, subsequent_indent=later, break_on_hyphens=False
-    )
+    return textwrap.fill(text, wide, initial_indent=first, subsequent_indent=later, break_on_hyphens=False)
 
 
 def _wrapped_form(form: str) -> str:

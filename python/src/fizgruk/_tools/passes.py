@@ -2,7 +2,6 @@
 folder, which it writes and farm-metrics reads."""
 import dataclasses
 import json
-import math
 import os
 import time
 
@@ -10,9 +9,6 @@ from fizgruk._tools import disk
 
 FILE = "passes.json"
 LONGEST_FILE = 4096
-LONGEST = 3  # periods that a dispatcher waits for others
-EARLIER = 0.9  # of the time that is left, so that who waited comes before who passed
-SHORTEST = 0.1
 
 
 @dataclasses.dataclass(frozen=True)
@@ -22,27 +18,6 @@ class Passes:
 
     count: int
     at: float
-
-
-class Turns:
-    """Whose turn a pass is, where several dispatchers share a desk: of those who wait it is the one
-    that waits longest. Each command moves the desk's clock, so what others do may look like a pass;
-    therefore nobody waits for more than three times the period."""
-
-    def __init__(self, every: float, is_shared: bool):
-        self.every, self.is_shared = every, is_shared
-        self.last = time.monotonic() - every
-        self.wait = every  # seconds until it is looked at again
-
-    def is_mine(self, clock: float) -> bool:
-        """Whether this one passes now, where the desk's clock says when the last command was."""
-        now, self.wait = time.monotonic(), self.every
-        age = time.time() - clock
-        if self.is_shared and 0 <= age < self.every and now - self.last < LONGEST * self.every:
-            self.wait = max(SHORTEST, EARLIER * (self.every - age))
-            return False
-        self.last = now
-        return True
 
 
 class Counter:
@@ -70,11 +45,7 @@ def passes_in(file: str) -> Passes:
     text = disk.text_in(file, LONGEST_FILE)
     if text is None:
         raise FileNotFoundError(file)
-    try:
-        said = json.loads(text)
-        count, at = said["count"], float(said["at"])
-    except (ValueError, TypeError, KeyError, OverflowError, RecursionError) as fault:
-        raise ValueError(f"{file} has no count of passes") from fault
-    if type(count) is not int or not 0 <= count < 2**63 or not math.isfinite(at):
-        raise ValueError(f"{file} has no count of passes")
-    return Passes(count, at)
+    count, at = map(disk.object_of(text).get, ("count", "at"))
+    if type(count) is int and isinstance(at, (int, float)) and 0 <= count < 2**63 and 0 <= at < 2**63:
+        return Passes(count, float(at))
+    raise ValueError(f"{file} has no count of passes")

@@ -1,7 +1,7 @@
 """Views of the desk as lines of text."""
 import functools
 import time
-from typing import Any, Callable, Dict, List, Sequence, Tuple
+from typing import Any, Callable, Dict, List, Mapping, Sequence, Tuple
 
 from fizgruk import limits
 
@@ -9,6 +9,11 @@ Column = Tuple[str, Callable[[Dict[str, Any]], Any]]  # its title, and what a ro
 LEASED = ("waiting", "allocated")
 ENDED = ("expired", "canceled")
 WIDEST = 60  # a job's name, or a reason
+# Where lines are wider than the terminal, columns are left out, in this order, until there is room for the others with
+# these texts cut; the first two columns are never cut.
+LEFT_OUT = ("CHECKED", "KIND", "ROLE", "GROUP", "PRIORITY", "BOARDS", "TOOK", "TYPE", "BEGAN", "RESULT", "TESTS", "TAGS")
+CUT = ("TAGS", "NAME", "REASON", "TESTS", "ABOUT", "COMMAND", "BODY")
+SHORTEST = 16  # letters to which they are cut
 SHORT = 120  # seconds that are shown as such
 
 
@@ -17,11 +22,9 @@ def of(*keys: str) -> List[Column]:
     return [(it.upper(), functools.partial(_shown, it)) for it in keys]
 
 
-def _shown(key: str, row: Dict[str, Any]) -> Any:
+def _shown(key: str, row: Mapping[str, Any]) -> Any:
     value = row[key]
-    if isinstance(value, list):
-        return " ".join(value)
-    return "-" if value == "" else value
+    return " ".join(value) if isinstance(value, list) else value
 
 
 def time_left(reservation: Dict[str, Any], now: float) -> str:
@@ -51,10 +54,10 @@ def span(seconds: int) -> str:
     return f"{seconds // 3600}:{seconds // 60 % 60:02}:{seconds % 60:02}"
 
 
-def printable(text: str) -> str:
+def printable(text: str, widest: int = WIDEST) -> str:
     """A text of somebody else's as it is shown on a terminal."""
     shown = "".join(it if it.isprintable() else "?" for it in text)
-    return shown if len(shown) <= WIDEST else f"{shown[: WIDEST - 2]}.."
+    return shown if len(shown) <= widest else f"{shown[: widest - 2]}.."
 
 
 BOARDS = [
@@ -66,12 +69,10 @@ BOARDS = [
 TYPES = [*of("name"), ("CHECK", check_of)]
 QUEUE = [
     *of("place", "number", "kind", "priority", "boards", "owner", "type", "waited"),
-    ("NAME", lambda it: printable(it["name"]) or "-"),
+    ("NAME", lambda it: printable(it["name"])),
+    *of("reason"),
 ]
-NOTE: List[Column] = [("NOTE", lambda it: it["note"])]  # where a claim of the queue has one
-JOBS = of(
-    "number", "group", "kind", "state", "result", "board", "type", "role", "priority", "owner", "tags"
-)
+JOBS = of("number", "group", "kind", "state", "result", "board", "type", "role", "priority", "owner", "tags")
 RESERVATIONS = [
     *of("number", "state"),
     ("LEFT", lambda it: time_left(it, time.time())),
@@ -79,17 +80,44 @@ RESERVATIONS = [
 ]
 
 
-def lines_of(rows: Sequence[Dict[str, Any]], columns: Sequence[Column]) -> List[str]:
-    """A line of titles and a line a row; numbers stand at the right of their column."""
-    cells = [[call(row) for _, call in columns] for row in rows]
-    texts = [[title for title, _ in columns]] + [[str(it) for it in row] for row in cells]
-    widths = [max(len(line[place]) for line in texts) for place in range(len(columns))]
-    right = [bool(cells) and isinstance(cells[0][place], int) for place in range(len(columns))]
-    lines = []
-    for line in texts:
-        padded = [
-            text.rjust(width) if at_right else text.ljust(width)
-            for text, width, at_right in zip(line, widths, right)
-        ]
-        lines.append(" ".join(padded).rstrip())
-    return lines
+def lines_of(rows: Sequence[Dict[str, Any]], columns: Sequence[Column], width: int = 0) -> List[str]:
+    """A line of titles and a line a row, none of them wider than a terminal of this width, where one is said; numbers
+    stand at the right of their column."""
+    table = []
+    for title, call in columns:
+        cells = [call(row) for row in rows]
+        texts = [title, *(str(it) or "-" for it in cells)]
+        wide = max(map(len, texts))
+        is_number = bool(cells) and isinstance(cells[0], int)
+        table.append([it.rjust(wide) if is_number else it.ljust(wide) for it in texts])
+    return [" ".join(line).rstrip() for line in zip(*(fitted(table, width) if width else table))]
+
+
+def fitted(table: List[List[str]], width: int) -> List[List[str]]:
+    """The columns of a table, as far as a terminal has room for them."""
+    titles = [column[0].strip() for column in table]
+    widths = {title: len(column[0]) for title, column in zip(titles, table)}
+    may_cut = {it: min(widths[it], SHORTEST) for it in titles[2:] if it in CUT}
+    for title in LEFT_OUT:
+        if sum({**widths, **may_cut}.values()) + len(widths) - 1 > width:
+            widths.pop(title, None)
+            may_cut.pop(title, None)
+    while sum(widths.values()) + len(widths) - 1 > width and any(widths[it] > may_cut[it] for it in may_cut):
+        widths[max(may_cut, key=lambda it: widths[it] - may_cut[it])] -= 1
+    return [
+        [cut(text, widths[title]) for text in column] for title, column in zip(titles, table) if title in widths
+    ]
+
+
+def cut(text: str, width: int) -> str:
+    """A cell that isn't wider than its column."""
+    short = text.rstrip()
+    return (short if len(short) <= width else f"{short[: width - 2]}..").ljust(width)
+
+
+def facts_of(row: Mapping[str, Any]) -> str:
+    """A line for each of a row's keys, or more, of which the later are indented."""
+    width = max(map(len, row)) + 2
+    return "".join(
+        f"{f'{key}:':{width}}{_shown(key, row) or '-'}".replace("\n", f"\n{' ' * width}") + "\n" for key in row
+    )

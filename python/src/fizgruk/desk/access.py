@@ -5,7 +5,6 @@ import sys
 from typing import List, Sequence
 
 from fizgruk import calls, ways
-from fizgruk._tools import asking
 from fizgruk.desk import holding
 
 AS_ADMIN, WATCH, LOG = "--as-admin", "--watch", "--log"
@@ -15,8 +14,8 @@ HOW_TO_LEAVE = "the console of {} (Enter ~. leaves it)"
 
 
 def show_console(desk: calls.Desk, options: argparse.Namespace) -> int:
-    to = destination_of(desk, options)
-    terminal = ["-t"] if sys.stdin.isatty() and not options.log else ["-T"]
+    to = destination_of(desk)
+    terminal = ["-t"] if sys.stdin and sys.stdin.isatty() and not options.log else ["-T"]
     if options.reserve:
         if options.watch or options.log or options.as_admin:
             options.parser.error("--reserve goes without the others")
@@ -36,22 +35,22 @@ def show_console(desk: calls.Desk, options: argparse.Namespace) -> int:
 def switch_power(desk: calls.Desk, options: argparse.Namespace) -> int:
     more = [AS_ADMIN] * options.as_admin
     words = ["power", options.verb, *more]
-    return become(ways.words_of(destination_of(desk, options), options.board, *words))
+    return become(ways.words_of(destination_of(desk), options.board, *words))
 
 
 def enter_board(desk: calls.Desk, options: argparse.Namespace) -> int:
     user, at, board = options.board.rpartition("@")
     words: Sequence[str] = options.words[1:] if options.words[:1] == ["--"] else options.words
     user = user if at else "root"
-    return become(ways.ssh_words(destination_of(desk, options), board, words, user))
+    return become(ways.ssh_words(destination_of(desk), board, words, user))
 
 
 def show_ways(desk: calls.Desk, options: argparse.Namespace) -> int:
-    return become(ways.words_of(destination_of(desk, options), options.board, "ways"))
+    return become(ways.words_of(destination_of(desk), options.board, "ways"))
 
 
-def destination_of(desk: calls.Desk, options: argparse.Namespace) -> str:
-    return ways.way_of(asking.values_of("desk", options)["access"], desk.server)
+def destination_of(desk: calls.Desk) -> str:
+    return ways.way_of(desk.access, desk.server)
 
 
 def become(words: List[str]) -> int:

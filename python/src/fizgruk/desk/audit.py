@@ -1,8 +1,10 @@
 """Who did what with a board: the lines that the site writes of each accepted command."""
 import argparse
 import collections
+import functools
+import itertools
 import re
-from typing import Any, Callable, Deque, Dict, Iterator, List, Optional, Tuple
+from typing import Any, Callable, Deque, Dict, Iterator, List, Optional
 
 from fizgruk import calls
 from fizgruk._tools import disk, tables
@@ -28,10 +30,10 @@ Row = Dict[str, Any]
 
 def show_audit(desk: calls.Desk, options: argparse.Namespace) -> int:
     """Shows the last accepted commands that concern a board, the newest last."""
-    boards = Boards(desk)
+    board_of = boards_of(desk)
     found: Deque[Row] = collections.deque(maxlen=options.last or LAST)
     for row in rows_in(options.file or FILE):
-        if is_about(row, options.board, boards.of):
+        if is_about(row, options.board, board_of):
             found.append(row)
     rows = list(found)
     return views.show(options, {"audit": rows}, rows, COLUMNS)
@@ -47,9 +49,12 @@ def rows_in(file: str) -> Iterator[Row]:
 
 
 def row_of(line: bytes) -> Optional[Row]:
+    """A line's row. Its command is as it was asked, of which what stands behind a `?` counts for nothing."""
     said = disk.object_of(line)
     names = ("at", "login", "from", "command", "body")
-    return said if all(isinstance(said.get(it), str) for it in names) else None
+    if not all(isinstance(said.get(it), str) for it in names):
+        return None
+    return {**said, "command": said["command"].partition("?")[0]}
 
 
 def is_about(row: Row, board: str, board_of: Callable[[str, int], str]) -> bool:
@@ -78,21 +83,19 @@ def _names(body: str, board: str) -> bool:
     return said.get("name") == board or isinstance(tags, list) and f"name={board}" in tags
 
 
-class Boards:
-    """Which board a job or a reservation has or had, as the desk says."""
+def boards_of(desk: calls.Desk) -> Callable[[str, int], str]:
+    """What says which board a job or a reservation has or had, as the desk does."""
+    looks = itertools.count()
 
-    def __init__(self, desk: calls.Desk):
-        self.desk = desk
-        self.known: Dict[Tuple[str, int], str] = {}
-        self.has_reservations = False
+    @functools.lru_cache(maxsize=None)
+    def reserved() -> Dict[int, str]:
+        return {it["number"]: it["board"] for it in desk.look("/reservations")["reservations"]}
 
-    def of(self, kind: str, number: int) -> str:
-        if kind == "reservations" and not self.has_reservations:
-            self.has_reservations = True
-            rows = self.desk.look("/reservations")["reservations"]
-            self.known.update({(kind, it["number"]): it["board"] for it in rows})
-        key = (kind, number)
-        if kind == "jobs" and key not in self.known and len(self.known) < MOST_LOOKS:
-            job = calls.job_of(self.desk, number)
-            self.known[key] = job["board"] if job else ""  # (another farm's)
-        return self.known.get(key, "")
+    @functools.lru_cache(maxsize=None)
+    def board_of(kind: str, number: int) -> str:
+        if kind == "reservations":
+            return reserved().get(number, "")
+        job = calls.job_of(desk, number) if next(looks) < MOST_LOOKS else None
+        return str(job["board"]) if job else ""  # (another farm's)
+
+    return board_of

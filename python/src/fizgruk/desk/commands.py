@@ -1,67 +1,81 @@
 """The commands of desk: the name of each, what does it, what its --help and docs/desk.1 say of it, and
 its options and arguments. The first sentence stands in the list of `desk --help`."""
 import argparse
-from typing import Any, Callable, Dict
+from typing import Any, Callable, Dict, Union
 
 from fizgruk._tools import asking, parsers
 from fizgruk._tools.lab_text import CHECKS
 from fizgruk._tools.parsers import Parser, one_of
 from fizgruk.bounds import HEALTHS, LONGEST_EVERY
-from fizgruk.desk import (
-    access, admin, artifacts, audit, claims, holding, lab_import, orders, past_jobs, tokens, usage, views,
-)
-from fizgruk.reservations import priority_of
-from fizgruk.usage import BY
+from fizgruk.desk import access, admin, audit, holding, orders, past_jobs, views
+from fizgruk.history import BY
 
 Part = Callable[[Parser], None]  # adds an option or an argument
 NUMBER = parsers.whole(1, 10**9 - 1)
+
+
+def key_of(text: str) -> str:
+    """A key, as far as it can be sent: the desk says what else is none."""
+    if text.isascii() and text.isprintable():
+        return text
+    raise argparse.ArgumentTypeError(f"{ascii(text)} is no key of letters, digits and '-', '_' and '.'")
+
+
+def priority(text: str) -> Union[int, str]:
+    """A word, or a number, of which the desk says whether it is a priority."""
+    return parsers.whole(0, 10**9)(text) if text.isascii() and text.isdigit() else text
+
+
+def hold_of(text: str) -> Union[int, str]:
+    """A reservation's number, or a board's name."""
+    return NUMBER(text) if text.isascii() and text.isdigit() else text
+
 
 ABOUT = """\
 Speaks with the desk of a board farm, at its address or through the proxy in front of it. Each \
 command is sent under a fresh key (those of an import under keys made of the names), and again \
 under the same key where no answer came, so that it is done once. A refresh, which does no harm \
 when it is done twice, has no key. Where no answer comes at first it says so on standard error, \
-and tries again for a quarter of a minute. At a terminal it says on standard error, before its \
-first command and where it is refused, which desk that is, where it isn't the default.
+and tries again for a quarter of a minute. At a terminal a table is no wider than that: columns are left \
+out and texts cut, unless --wide stands behind the command.
 It warns on standard error where no pass has come for more than 30 seconds: where the desk's \
 clock, which every accepted command moves, is so old beside this machine's; while it waits, where \
 nothing but its own commands moved that clock for so long, or where free boards meet its claim for \
 so long. It warns too where that clock is more than a minute ahead of this machine's."""
 
+SHORT = """\
+The lab:       boards types queue reservations jobs history usage audit
+Jobs:          submit wait log artifacts cancel resubmit
+Boards:        reserve acquire extend release refresh cancel-reservation with
+At your board: console power ssh ways
+Tokens:        tokens add-token end-token
+Of an admin:   health tags add-type add-board import
+
+  desk boards --free               what is free
+  desk reserve hdmi --acquire      a board with the tag hdmi, once there is one
+  desk console BOARD               its console
+  desk cancel-reservation BOARD    gives it back
+  desk submit boot.toml --follow   a job, what it says, and how it ended
+  desk queue                       what waits, and why
+  desk jobs --mine                 your jobs
+
+'desk help COMMAND' tells of a command, 'desk help all' of all commands, of the
+settings and of exit statuses.
+"""
+
 STATUSES = (
-    (
-        "0",
-        "Done; a job that was waited for ended Complete; or who reads what is shown, as 'head', had "
-        "enough of it.",
-    ),
-    (
-        "1",
-        "A job that was waited for ended otherwise, or a reservation before it had a board; or "
-        "boards weren't to be Retired.",
-    ),
+    ("0", "Done; a job that was waited for ended Complete; or who reads what is shown, as 'head', had enough of it."),
+    ("1", "A job that was waited for ended otherwise, or a reservation before it had a board; or boards weren't to be \
+Retired."),
     ("2", "Bad words, or a setting that there isn't."),
-    (
-        "3",
-        "Refused by the desk, or in part: standard error has its code and text, and what is known "
-        "beside; or a lab file that can't be taken; or there is no such log, artifact or board.",
-    ),
-    (
-        "4",
-        "No answer from the desk, or bad settings, or a file that can't be read, or an output that "
-        "can't be written.",
-    ),
-    (
-        "125",
-        "Of 'with': no board for the command, or the board was lost before its end, or couldn't be "
-        "given back.",
-    ),
+    ("3", "Refused by the desk, or in part: standard error has its code and text, and what is known beside; or a lab \
+file that can't be taken; or there is no such log, artifact or board."),
+    ("4", "No answer from the desk, or bad settings, or a file that can't be read, or an output that can't be written."),
+    ("125", "Of 'with': no board for the command, or the board was lost before its end, or couldn't be given back."),
     ("126", "Of 'with': the command can't be run."),
     ("127", "Of 'with': there is no such command."),
-    (
-        "255",
-        "Of 'console', 'power', 'ssh' and 'ways': ssh(1) doesn't get there; their other statuses are "
-        "those of farm-access(8), 5 where the board isn't yours and 6 where it is lost.",
-    ),
+    ("255", "Of 'console', 'power', 'ssh' and 'ways': ssh(1) doesn't get there; their other statuses are those of \
+farm-access(8), 5 where the board isn't yours and 6 where it is lost."),
     ("128+N", "Ended by signal N: 130 by SIGINT, 143 by SIGTERM, 129 by SIGHUP, 131 by SIGQUIT."),
 )
 AWAITS_END = """\
@@ -77,6 +91,7 @@ OF_SEVERAL = """\
 The lab of several, for each of which the file of settings has a section '[lab NAME]' with settings of \
 its own in the place of '[desk]'. The option goes before the environment, and without --server; the \
 setting 'lab' of '[desk]' is that of who names none."""
+WIDE = "Show all, also where that is wider than the terminal."
 OF_HISTORY = """\
 Where farm-dispatch(8) keeps its history on this machine, as /var/lib/farm-dispatch, or a file of
 its lines that was put aside; without it, the server is asked."""
@@ -107,53 +122,52 @@ def flag(*words: str, **more: Any) -> Part:
 
 
 def last(about: str) -> Part:
-    return option("--last", "N", f"{about}, at most (default {past_jobs.LAST}).", type=NUMBER)
+    return option("--last", "N", f"{about}, at most (default {views.LAST}).", type=NUMBER)
 
 
 A_JOB = option("number", "N", "A job's number.", type=NUMBER)
-A_RESERVATION = option("number", "N", "A reservation's number.", type=NUMBER)
+A_RESERVATION = option("hold", "HOLD", "A reservation's number, or the board that it has.", type=hold_of)
 A_BOARD = option("board", "BOARD", "The board's name.")
 TAGS = option("tags", "TAG", "A tag of the board; 'name=BOARD' is that board.", nargs="*")
 OWN_TAGS = option("tags", "TAG", "A tag of the board.", nargs="*")
 PRIORITY = option(
     "--priority", "P", "Its place in the queue: 'low', 'medium', 'high', or 0 to 100 (default 50).",
-    type=priority_of,
+    type=priority,
 )
 EVERY = option(
     "--every", "SECONDS", "Between two looks, while it waits (default %(default)s).",
     type=parsers.decimal(0.05, 60), default=2,
 )
 MINE = flag("--mine", "Those of the user alone.")
-AS_ADMIN = flag(
-    access.AS_ADMIN, "Go there as an admin of the lab, whoever holds it; it is written down."
-)
+FOLLOW = flag("--follow", "Print its log as it comes, and then what --wait prints.")
+AS_ADMIN = flag(access.AS_ADMIN, "Go there as an admin of the lab, whoever holds it; it is written down.")
 
 COMMANDS = (
     Command("boards", views.show_boards, """\
-Show the boards, or those that have all of these tags; of a board that is named, by its name alone or \
-by 'name=BOARD', also what the lab has noted of it. 'CHECKED' is when the last health check of \
-a board ended. With --all-labs a lab that gives no answer is told, and the exit status is 4 then, or 3 \
-where it refuses, also though the boards of the others are shown; with --json there is an object for \
-each lab.""",
-            TAGS,
+Show the boards, or those that have all of these tags and are of the type; or a board by its name, line by \
+line: who has it and since when, as far as farm-dispatch(8) saw that, and what the lab has noted of it. 'CHECKED' \
+is when the last health check of a board ended. A word that no board has ends it with 3. With --all-labs a lab \
+that gives no answer is told, and the exit status is 4 then, or 3 where it refuses, also though the boards of the \
+others are shown; with --json there is an object for each lab.""",
+            option("words", "WORD", "A tag, a type, or a board's name, which is also told as 'name=BOARD'.", nargs="*"),
+            flag("--free", "Those that nobody has and that would be given to who asks."),
             flag("--all-labs",
                  "Ask all labs of the settings at once; their names stand before their boards."),
             shows=True),
     Command("types", views.show_types,
             "Show the types, and after how many hours or jobs their boards are checked.",
             shows=True),
-    Command("queue", claims.show_queue, """\
+    Command("queue", views.show_queue, """\
 Show what waits for boards, in the order in which it is served. 'WAITED' is for how long, where \
-farm-dispatch(8) saw when it was submitted, and its folder or the proxy says so. There is a column \
-'NOTE' where a \
-group collects boards, or where a claim waits for boards of which none can come: no list of boards \
-that aren't Retired, Bad or in Maintenance meets it. It says what is wanted and which boards are \
-out of use, for the group that collects and for the first fifty claims, as far as they can be \
-asked for in three seconds.""",
+farm-dispatch(8) saw when it was submitted, and its folder or the proxy says so. 'REASON' says why a claim \
+waits: who has the boards that fit, or that none can come, since those that fit are Retired, Bad or in \
+Maintenance; that a group collects boards; and that the worker of a board doesn't answer. What a group wants is \
+asked of the desk where the dispatcher doesn't tell it, for the first fifty claims, in three seconds at most. A \
+type that there isn't ends it with 3.""",
             option("type", "TYPE", "Those that want a board of this type; reservations want none.",
                    nargs="?", default=""),
             MINE,
-            option("--limit", "N", f"How many, at most (default {claims.LAST}; with --json all).",
+            option("--limit", "N", f"How many, at most (default {views.LAST}; with --json all).",
                    type=NUMBER),
             shows=True),
     Command("reservations", views.show_reservations, """\
@@ -161,12 +175,14 @@ Show the reservations that haven't ended. 'LEFT' is how long a lease still runs 
 clock: more than a minute where the farm's is ahead.""",
             flag("--all", "Those that have ended too."), MINE, shows=True),
     Command("jobs", past_jobs.show_some_or_all, """\
-Show the jobs that are open and those that ended, or some. Those that ended come last, the newest \
-first. With numbers it shows those of them that there are, and tells the others; of those that \
-ended also when they began, how long they took, their name, why they ended so, and the counts of \
-their 'junit.xml', with the first tests that failed below. A group that \
-waits has one line; what it is called is asked of the desk for the first fifty that wait.""",
+Show the newest jobs that are open, and the last that ended. A group that waits has one line, and 'REASON' says \
+why, as 'queue' does. With numbers it \
+shows those of them that there are, and tells the others: their name, when they began, and how long they took and \
+why they ended so, or how long they may run, or where in the queue they stand and why they wait; the counts of \
+their 'junit.xml', with the first tests that failed below. One job has a line for each of these. What the \
+dispatcher doesn't tell of open jobs is asked of the desk, a call a job; so is each of them with --json.""",
             flag("--text", "Print the texts that were submitted."), MINE,
+            option("--limit", "N", f"How many of those that are open, at most (default {views.LAST}).", type=NUMBER),
             last("How many of those that ended"),
             option("numbers", "N", "A job's number.", nargs="*", type=NUMBER), shows=True),
     Command("submit", orders.submit_job, """\
@@ -174,18 +190,21 @@ Submit a job file, and print the job's number. Where the desk refuses it, it say
 file breaks, which type there isn't, or which tag no board has. Where its 'timeouts.job' is no \
 time, of which the desk knows nothing, nothing is submitted.""",
             option("file", "FILE", "The job file, or - for the input."),
-            option("--key", "KEY", OF_A_KEY), flag("--wait", AWAITS_END), EVERY),
-    Command("cancel", orders.cancel_job, "Cancel a job and its group.", A_JOB),
+            option("--key", "KEY", OF_A_KEY, type=key_of), flag("--wait", AWAITS_END), FOLLOW, EVERY),
+    Command("cancel", orders.cancel_jobs, """\
+Cancel jobs and their groups. Of several each one that is refused is told, and the others are canceled.""",
+            option("numbers", "N", "A job's number.", nargs="*", type=NUMBER),
+            flag("--mine", "Cancel all jobs of the user that are open, and print the numbers of their groups.")),
     Command("resubmit", orders.resubmit_job, """\
 Submit a job's text again, and print the new number. It may be anybody's job; its text is the one \
-that the desk keeps.""", A_JOB, flag("--wait", AWAITS_END), EVERY),
+that the desk keeps.""", A_JOB, flag("--wait", AWAITS_END), FOLLOW, EVERY),
     Command("log", past_jobs.show_log, "Print what a job's command said, as it stands in its log.",
             A_JOB,
             flag("--follow", "Print also what it says from then on, until the job has ended."),
             flag("--raw",
                  "On a terminal, print its escapes too, by which it may do there what it likes."),
             EVERY, has_json=False, shows=True),
-    Command("artifacts", artifacts.show_artifacts, """\
+    Command("artifacts", past_jobs.show_artifacts, """\
 List what a job's group left in 'out' of its folder, which is kept as long as its log. What isn't kept \
 of it is told on standard error, with the counts of its 'junit.xml'. With ARTIFACT it prints that one's \
 bytes, at a terminal without escapes.""",
@@ -193,7 +212,7 @@ bytes, at a terminal without escapes.""",
             option("name", "ARTIFACT", "Print this one of them, as 'boot/console.log'.",
                    nargs="?", default=""),
             option("--to", "DIR",
-                   "Write them, or the one, into this folder, and print each one's path.")),
+                   "Write them, or the one, into this folder, and print each one's path."), shows=True),
     Command("history", past_jobs.show_history, """\
 Show a board's jobs, and how its health changed and why, the newest first.""",
             A_BOARD, last("How many of the jobs and changes"), shows=True),
@@ -205,7 +224,7 @@ which root and the group adm may read.""",
             A_BOARD, last("How many commands"),
             option("--file", "FILE", OF_AUDIT),
             shows=True),
-    Command("usage", usage.show_usage, """\
+    Command("usage", past_jobs.show_usage, """\
 Show what jobs used, how they ended and how long they waited, and what people held. A line has how many jobs ended since \
 WHEN, and how; the hours for which they held boards since then; and how long they waited from \
 their submission to their begin: half of them no longer than 'WAITED', nine of ten no longer than \
@@ -214,7 +233,7 @@ are the admin's jobs. 'HOLDS' has how many holds of people ended since WHEN, 'HE
 they held boards since then, as farm-watch(8) saw them; where it keeps none this is told.""",
             option("--since", "WHEN",
                    "A span, as 30d, 12h, 90m or 2w, or a date, as 2026-11-30 (default %(default)s).",
-                   type=usage.moment_of, default="30d"),
+                   type=past_jobs.moment_of, default="30d"),
             option("--by", one_of(BY),
                    "What has a line each: owners, boards or types (default %(default)s).",
                    choices=BY, default="owner"),
@@ -223,17 +242,18 @@ they held boards since then, as farm-watch(8) saw them; where it keeps none this
 Reserve a board that has all these tags, and print the reservation's number. One that was given a \
 board has to be acquired within a minute. Where this waits and is interrupted, the reservation is \
 canceled.""",
-            TAGS, PRIORITY, flag("--wait", AWAITS_BOARD), EVERY,
+            TAGS, flag("--any", "Reserve any board, where no tag is given."),
+            PRIORITY, flag("--wait", AWAITS_BOARD), EVERY,
             flag("--acquire", "Wait, and then acquire the board.")),
     Command("wait", orders.wait_for, """\
 Wait for a job's end as 'submit --wait' does, or for a reservation's board as 'reserve --wait' \
 does.""",
-            option("number", "N", "The number of a job or a reservation.", type=NUMBER), EVERY),
+            option("number", "N", "The number of a job or a reservation.", type=NUMBER), EVERY, follow=False),
     Command("acquire", orders.change_reservation,
             "Acquire the board that a reservation was given, and print its name.",
             A_RESERVATION, action="acquire"),
     Command("release", orders.change_reservation,
-            "Release an acquired board, which the reservation keeps for a minute.",
+            "Release an acquired board, which the reservation keeps for a minute, as it says then.",
             A_RESERVATION, action="release"),
     Command("refresh", orders.change_reservation, "Let a reservation live for a minute from now.",
             A_RESERVATION, action="refresh"),
@@ -282,14 +302,14 @@ Go by ssh(1) to the sshd of a board that you hold, as root or another user.""",
             has_json=False),
     Command("ways", access.show_ways, "Show which ways the lab has to a board.",
             A_BOARD, has_json=False),
-    Command("tokens", tokens.show_tokens, """\
+    Command("tokens", orders.show_tokens, """\
 Show your tokens that haven't ended. A token stands for your password where a program asks, as in \
 a pipeline: its text stands in the file that 'password_file' names. It is for a site with \
 farm-door(8).""", shows=True),
-    Command("add-token", tokens.add_token, """\
+    Command("add-token", orders.add_token, """\
 Make a token, and print its text, which is shown this once. Where no answer comes, end it, and \
 make another.""", option("name", "NAME", "The token's name, which no other of yours has.")),
-    Command("end-token", tokens.end_token,
+    Command("end-token", orders.end_token,
             "End one of your tokens, which lets nobody in from then on.",
             option("name", "TOKEN", "The token's name.")),
     Command("health", admin.set_health, """\
@@ -299,6 +319,9 @@ a terminal it asks once before boards are Retired, which is for good.""",
             option("health", "HEALTH",
                    f"{', '.join(HEALTHS[:-1])}, or {admin.RETIRED}, which is for good.",
                    type=admin.health_called),
+            option("--reason", "TEXT", """\
+Why, for the site's audit, and for the lab's notes of these boards where this machine has their file; '' takes it out \
+of these."""),
             flag("--yes",
                  f"Ask nothing before boards are {admin.RETIRED}, at a terminal too."),
             asks_as="admin"),
@@ -318,7 +341,7 @@ Add a type, as an admin. Its boards are checked each N hours or jobs, or never."
             "Add a board, as an admin. It is in Maintenance until its health is set.",
             option("name", "NAME", "The board's name."), option("type", "TYPE", "Its type."), OWN_TAGS,
             asks_as="admin"),
-    Command("import", lab_import.import_lab, """\
+    Command("import", admin.import_lab, """\
 Add the types and boards of a lab file, as an admin. It does so as 'farm import' does, under the \
 same keys, while the desk serves: what either of them added, the other keeps. It prints 'accepted \
 A, kept K', as 'farm import' does; kept are those of the file's types and boards that were there \
@@ -344,6 +367,9 @@ def parser_of() -> Parser:
     group.add_argument("--access", metavar="DESTINATION", help=about)
     about = "Print what the desk answered, as JSON, an object a line; also behind the command."
     parser.flag("--json", about)
+    about = "Say on standard error which desk is asked, and as whom."
+    parser.add_argument("-v", "--verbose", action="store_true", help=about)
+    parser.short = SHORT
     parser.set_defaults(asks_as=None, shows=False)
     added = parser.add_subparsers(metavar="COMMAND", required=True)
     for it in COMMANDS:
@@ -352,6 +378,8 @@ def parser_of() -> Parser:
         one.tail = it.tail
         about = "Print what the desk answered, as JSON." if it.has_json else argparse.SUPPRESS
         one.flag("--json", about, default=argparse.SUPPRESS)
+        if it.has_json and it.defaults.get("shows"):
+            one.flag("--wide", WIDE)
         for add in it.parts:
             add(one)
         one.set_defaults(parser=one, **it.defaults)

@@ -5,16 +5,17 @@ What a desk shows is a stranger's, and a shell makes of a word what it likes: on
 or a name or a tag as the desk takes it, or names with a slash between, is handed to the shell.
 """
 import argparse
+import contextlib
 import importlib
 import os
 import re
 import sys
-from typing import Callable, Dict, Iterable, List, Set, Tuple
+from typing import Callable, Dict, Iterable, List, Sequence, Set
 
-from fizgruk import calls, history, settings, words
+from fizgruk import calls, history, settings, wants, words
 from fizgruk._tools import parsers, tables
 from fizgruk.bounds import HEALTHS
-from fizgruk.desk import past_jobs, tokens, views
+from fizgruk.desk import orders, past_jobs, views
 from fizgruk.errors import FizgrukError
 
 LONGEST = "3"  # seconds for which a call may hold up the shell, where no setting says it
@@ -47,11 +48,8 @@ def offer(parser: parsers.Parser) -> None:
     for it in [*parsers.settings_of(parser), *(
         it for command in parsers.commands_of(parser) for it in command._actions
     )]:
-        if it.dest == "lab":
-            it.completer = labs_of  # type: ignore[attr-defined]
-        if it.dest in FIXED:
-            fixed = FIXED[it.dest]
-            it.completer = lambda fixed=fixed, **_: fixed  # type: ignore[attr-defined]
+        if it.dest in BY_OPTION:
+            it.completer = BY_OPTION[it.dest]  # type: ignore[attr-defined]
     argcomplete.autocomplete(parser, always_complete_options=False)
 
 
@@ -111,33 +109,30 @@ def tags_of(desk: calls.Desk, options: argparse.Namespace) -> List[object]:
     return [*own_tags_of(desk, options), *names]
 
 
-def reservations_of(desk: calls.Desk, _: argparse.Namespace) -> List[object]:
+def own_of(desk: calls.Desk) -> List[calls.Row]:
+    """The user's reservations that haven't ended."""
     rows = calls.rows_of(desk, "reservations")
-    own = [it for it in rows if it["owner"] == desk.user]
-    return [it["number"] for it in own if it["state"] not in tables.ENDED]
+    return [it for it in rows if it["owner"] == desk.user and it["state"] not in tables.ENDED]
 
 
 def open_jobs_of(desk: calls.Desk, _: argparse.Namespace) -> List[object]:
-    return [it["number"] for it in past_jobs.open_jobs(desk, desk.user)]
+    return [it["number"] for it in past_jobs.open_jobs(wants.Claims(desk), desk.user)]
 
 
 def tokens_of(desk: calls.Desk, _: argparse.Namespace) -> List[object]:
-    return [it["name"] for it in tokens.rows_of(desk)]
+    return [it["name"] for it in orders.own_tokens(desk)]
 
 
 def jobs_of(desk: calls.Desk, options: argparse.Namespace) -> List[object]:
     found = open_jobs_of(desk, options)
-    try:
-        past = views.history_of(desk, options)
-        ended = past_jobs.last_jobs(past, desk.user, past_jobs.LAST)
-    except FizgrukError:
-        return found  # there is no history
-    return found + [it["job"] for it in ended]
+    with contextlib.suppress(FizgrukError):  # there may be no history
+        found += [it["job"] for it in history.past_of(desk).jobs(views.LAST, desk.user)]
+    return found
 
 
 def files_left_by(desk: calls.Desk, options: argparse.Namespace) -> List[object]:
     """The names of what a job left."""
-    left = history.Artifacts(desk, views.history_of(desk, options), options.number)
+    left = history.Artifacts(desk, history.past_of(desk), options.number)
     return [it.name for it in left.files]
 
 
@@ -147,10 +142,13 @@ OFFERS: Dict[str, Offer] = {
     "BOARD": names_of("boards"),
     "HEALTH": lambda desk, options: [*HEALTHS, *names_of("boards")(desk, options)],
     "TYPE": names_of("types"),
-    "N": reservations_of,
+    "N": lambda desk, options: [it["number"] for it in own_of(desk)],
+    "HOLD": lambda desk, options: [text for it in own_of(desk) for text in (it["number"], it["board"]) if text],
     "NAME": lambda desk, options: (),
     "TOKEN": tokens_of,
-    "boards TAG": lambda desk, options: [*tags_of(desk, options), *names_of("boards")(desk, options)],
+    "WORD": lambda desk, options: [
+        *tags_of(desk, options), *names_of("types")(desk, options), *names_of("boards")(desk, options),
+    ],
     "tags TAG": own_tags_of,
     "add-board TAG": own_tags_of,
     "cancel N": open_jobs_of,
@@ -160,9 +158,14 @@ OFFERS: Dict[str, Offer] = {
     "ARTIFACT": files_left_by,
     "resubmit N": jobs_of,
 }
-# By option.
-FIXED: Dict[str, Tuple[str, ...]] = {
-    "priority": ("low", "medium", "high"),
-    "server": (settings.SERVER, "https://"),
-    **{it: () for it in ("user", "timeout", "every", "last", "limit", "since")},
+
+
+def fixed(*texts: str) -> Callable[..., Sequence[str]]:
+    """What argcomplete asks for where always these are offered."""
+    return lambda **_: texts
+
+
+BY_OPTION: Dict[str, Callable[..., Sequence[str]]] = {
+    "lab": labs_of, "priority": fixed("low", "medium", "high"), "server": fixed(settings.SERVER, "https://"),
+    **{it: fixed() for it in ("user", "timeout", "every", "last", "limit", "since")},
 }

@@ -4,11 +4,13 @@ import os
 import sys
 from typing import Optional, Sequence, TextIO
 
-from fizgruk import calls, settings
-from fizgruk._tools import asking, interrupts, terminal
-from fizgruk.desk import ENDED, FAULT, REFUSED, clocks, completion, holding, labs, tell
+from fizgruk import calls
+from fizgruk._tools import asking, service, terminal
+from fizgruk.desk import ENDED, FAULT, REFUSED, Lacking, completion, holding, tell, views, waiting
 from fizgruk.desk.commands import parser_of
-from fizgruk.errors import BadSettings, Refused, ReservationEnded, Unreachable
+from fizgruk.errors import (
+    BadSettings, NoArtifact, NoLog, NoText, Refused, ReservationEnded, Unreachable, sentence_of,
+)
 
 PATIENCE = 15
 
@@ -17,13 +19,13 @@ def main(words: Optional[Sequence[str]] = None) -> int:
     terminal.guard()
     try:
         options = options_of(sys.argv[1:] if words is None else words)
-        interrupts.catch_signals()
+        service.catch_signals()
         status = status_of(options)
-        interrupts.ignore_signals()  # nothing is left to be interrupted
+        service.ignore_signals()  # nothing is left to be interrupted
         return status
     except (SystemExit, BrokenPipeError) as end:
         return after_help(end)
-    except interrupts.Interrupted as it:
+    except service.Interrupted as it:
         let_go(sys.stdout)
         return it.status
     finally:
@@ -39,29 +41,29 @@ def after_help(end: BaseException) -> int:
         return status if isinstance(status, int) else 0
     except OSError as fault:
         let_go(sys.stdout)
-        return 0 if isinstance(fault, BrokenPipeError) else tell.told(FAULT, str(fault))
+        return 0 if isinstance(fault, BrokenPipeError) else tell.told(FAULT, sentence_of(fault))
 
 
 def status_of(options: argparse.Namespace) -> int:
     """Does what the options ask for. Returns the exit status."""
     fault_status = holding.OF_ITSELF if options.does is holding.run_with_board else FAULT
-    where = Where()
     try:
         if getattr(options, "all_labs", False):
-            return labs.show_boards(options)
+            return views.show_boards_of_labs(options)
         desk = calls.Desk(asking.settings_of("desk", options, options.asks_as), PATIENCE)
-        where.server = desk.server
-        desk.tell_where = where.tell
-        desk.tell_trouble = Trouble(desk).tell
-        options.clock = clocks.Watch(desk)
+        if options.verbose:
+            tell(f"the desk is at {desk.server}, asked as {desk.user}")
+        desk.tell_trouble = lambda trouble: tell.once(f"waiting for the desk at {desk.server}: {trouble}")
+        options.clock = waiting.FarmClock(desk)
         status: int = options.does(desk, options)
         if status == 0 and not options.clock.has_looked:
             options.clock.look()
         print(end="", flush=True)
         return status
     except Refused as refusal:
-        where.tell()
         return tell.told(REFUSED, f"refused: {refusal}")
+    except (Lacking, NoArtifact, NoLog, NoText) as lack:
+        return tell.told(REFUSED, str(lack))
     except ReservationEnded as end:
         return tell.told(ENDED, str(end))
     except Unreachable as fault:
@@ -71,7 +73,7 @@ def status_of(options: argparse.Namespace) -> int:
         return 0 if options.shows else fault_status
     except (BadSettings, OSError) as fault:
         let_go(sys.stdout)
-        return tell.told(fault_status, str(fault))
+        return tell.told(fault_status, sentence_of(fault))
 
 
 def let_go(stream: Optional[TextIO]) -> None:
@@ -85,34 +87,6 @@ def let_go(stream: Optional[TextIO]) -> None:
         os.dup2(os.open(os.devnull, os.O_WRONLY), stream.fileno())
 
 
-class Where:
-    """Tells whoever sits at a terminal which desk gets commands, or refuses, once, where that isn't
-    the default."""
-
-    def __init__(self) -> None:
-        self.server = settings.SERVER
-        self.is_told = False
-
-    def tell(self) -> None:
-        is_seen = sys.stderr is not None and sys.stderr.isatty()
-        if is_seen and not self.is_told and self.server != settings.SERVER:
-            self.is_told = True
-            tell(f"the desk is at {self.server}")
-
-
-class Trouble:
-    """Tells once that the desk gives no answer and is asked again."""
-
-    def __init__(self, desk: calls.Desk):
-        self.server = desk.server
-        self.is_told = False
-
-    def tell(self, trouble: str) -> None:
-        if not self.is_told:
-            self.is_told = True
-            tell(f"waiting for the desk at {self.server}: {trouble}")
-
-
 def options_of(words: Sequence[str]) -> argparse.Namespace:
     """The options of these words. What stands behind `--` is the command of `with`."""
     command: Sequence[str] = ()
@@ -120,7 +94,10 @@ def options_of(words: Sequence[str]) -> argparse.Namespace:
         words, command = words[: words.index("--")], words[words.index("--") + 1 :]
     parser = parser_of()
     completion.offer(parser)
-    options = parser.parse_args(words)
+    if words[:1] in (["help"], ("help",)):
+        parser.short = "" if words[1:] == ["all"] else parser.short
+        words = [*(it for it in words[1:2] if it != "all"), "--help"]
+    options: argparse.Namespace = parser.parse_args(words)
     if getattr(options, "all_labs", False) and (options.lab or options.server):
         parser.error("--all-labs goes without --lab and --server")
     if options.does is holding.run_with_board:

@@ -2,12 +2,83 @@
 import os
 import sys
 import time
+from typing import Any, Callable, Dict, Optional, Set
 
-from fizgruk import calls, waiting
-from fizgruk._tools import interrupts, terminal
-from fizgruk.desk import clocks
+from fizgruk import calls, clocks, limits, waiting
+from fizgruk._tools import service, terminal
+from fizgruk.desk import tell
+from fizgruk.errors import Refused, Unreachable
 
+QUIET = 30  # seconds without a pass, which comes every few seconds, that aren't told yet
+EVERY = 5  # seconds between a client's looks
+LONGEST_LOOK = 5.0
 WIDTH = 80
+
+
+class FarmClock:
+    """Looks at a farm's clock while a command is done, and tells each trouble once.
+
+    Each accepted command moves the clock, so the client's own are noted, and what is left are
+    passes and what others do. A claim that free boards meet is given them by the next pass, so no
+    pass comes while it waits."""
+
+    def __init__(self, desk: calls.Desk):
+        self.desk = desk.of_patience(0)
+        self.desk.timeout = min(desk.timeout, LONGEST_LOOK)
+        self.told: Set[str] = set()
+        self.own = 0
+        self.others: Optional[int] = None
+        self.moved = 0.0
+        self.met: Optional[float] = None
+        self.due = 0.0
+
+    @property
+    def has_looked(self) -> bool:
+        return self.due > 0
+
+    def note_own(self) -> None:
+        """Notes that the client gave a command that was accepted."""
+        self.own += 1
+
+    def note_met(self, is_met: bool) -> None:
+        """Notes whether a claim that waits is met by free boards."""
+        if not is_met:
+            self.met = None
+        elif self.met is None:
+            self.met = time.monotonic()
+
+    def look(self, teller: Callable[[str], None] = tell) -> None:
+        """Looks, where it is time to, and tells what it sees; a desk that gives no answer tells
+        that elsewhere. Raises NoDesks where what answers is no desk."""
+        if time.monotonic() < self.due:
+            return
+        self.due = time.monotonic() + EVERY
+        try:
+            status = self.desk.look("/status")
+        except calls.NoDesks:
+            raise
+        except (Unreachable, Refused):
+            return
+        ahead, quiet = clocks.ahead(status, clocks.NO_END), self._quiet(status)
+        for about, text in (("ahead", ahead), ("quiet", quiet)):
+            if text and about not in self.told:
+                self.told.add(about)
+                teller(text)
+
+    def _quiet(self, status: Dict[str, Any]) -> str:
+        """That no pass has come for long, or nothing."""
+        others = status["count"] - self.own
+        if self.others is None:
+            self.moved = time.monotonic() - max(0.0, time.time() - status["clock"])
+        elif others != self.others:
+            self.moved = time.monotonic()
+        self.others = others
+        since = self.moved if self.met is None else min(self.moved, self.met)
+        quiet = time.monotonic() - since
+        if quiet <= QUIET:
+            return ""
+        long = f"for {limits.words_of(quiet)}" if status["clock"] else "yet"
+        return f"no pass {long}: is farm-dispatch running?"
 
 
 class Progress:
@@ -63,14 +134,14 @@ class Checked(waiting.Wait):
     """A wait until a signal comes."""
 
     def pause(self) -> None:
-        interrupts.check()
+        service.check()
         super().pause()
 
 
-class Wait(Checked):
+class ShownWait(Checked):
     """A wait that shows its progress."""
 
-    def __init__(self, desk: calls.Desk, clock: clocks.Watch, every: float) -> None:
+    def __init__(self, desk: calls.Desk, clock: FarmClock, every: float) -> None:
         super().__init__(desk, "", None, every, print)
         self.clock = clock
         self.progress = Progress()
@@ -87,7 +158,7 @@ class Wait(Checked):
     def note_look(self) -> None:
         self.clock.look(self.progress.tell)
 
-    def __enter__(self) -> "Wait":
+    def __enter__(self) -> "ShownWait":
         return self
 
     def __exit__(self, *_: object) -> None:

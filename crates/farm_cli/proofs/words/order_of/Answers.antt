@@ -4,7 +4,7 @@ use Rattle.clap.specs.declared.error.kind.ErrorKind.TheVariants.{OutOfMemory}
 use Rattle.farm_cli.specs.App.{farm_app}
 use Rattle.farm_cli.specs.Faults.{open_text}
 use Rattle.farm_cli.specs.Orders.{form_of, order_in}
-use Rattle.farm_cli.proofs.Outcomes.{memory_fault, named_bounds, parse_fault, parse_faultless, parse_named, unnamed}
+use Rattle.farm_cli.proofs.Outcomes.{memory_fault, parse_fault, parse_faultless, parse_named}
 use Rattle.farm_cli.proofs.words.order_of.Goals as goal
 
 pub returns-in-Some-clause-order : goal.returns-in-Some-clause-order
@@ -18,13 +18,6 @@ returns-in-Some-clause-faultless c =
     let is : app_of c.in_ok-farm_command.field-0 ≡ farm_app = search rules in
     parse_faultless (app_of c.in_ok-farm_command.field-0) (map string_bytes c.args.words.now) is c.in-Ok.ensures.kinds
 
-pub returns-in-Some-clause-bounds : goal.returns-in-Some-clause-bounds
-returns-in-Some-clause-bounds c =
-    let is : app_of c.in_ok-farm_command.field-0 ≡ farm_app = search rules in
-    let some : Some (form_of c.in-Some.order) ≡ order_in (subcommand_rows_of c.in-Ok.matches) = search rules in
-    named_bounds (app_of c.in_ok-farm_command.field-0) (map string_bytes c.args.words.now) c.in-Ok.matches (form_of c.in-Some.order) is
-    c.in-Ok.ensures.matches c.in-Ok.ensures.kinds (sym some)
-
 pub returns-in-Ok-clause-fault : goal.returns-in-Ok-clause-fault
 returns-in-Ok-clause-fault c =
     let is : app_of c.in_ok-farm_command.field-0 ≡ farm_app = search rules in
@@ -32,8 +25,7 @@ returns-in-Ok-clause-fault c =
     let text : string_bytes c.in_ok-from_str-in-None.field-0 ≡ c.open_choice.result.now = search rules in
     inr (
       parse_faultless (app_of c.in_ok-farm_command.field-0) (map string_bytes c.args.words.now) is c.in-Ok.ensures.kinds,
-      unnamed (app_of c.in_ok-farm_command.field-0) (map string_bytes c.args.words.now) c.in-Ok.matches is
-          c.in-Ok.ensures.matches c.in-Ok.ensures.kinds none,
+      sym (ap order_in (parse_named (app_of c.in_ok-farm_command.field-0) (map string_bytes c.args.words.now) c.in-Ok.matches is c.in-Ok.ensures.matches)) ∙ none,
       text ∙ c.open_choice.ensures ∙ ap open_text (parse_named (app_of c.in_ok-farm_command.field-0) (map string_bytes c.args.words.now) c.in-Ok.matches is c.in-Ok.ensures.matches),
     )
 
@@ -41,8 +33,7 @@ pub returns-in-Ok-clause-taken : goal.returns-in-Ok-clause-taken
 returns-in-Ok-clause-taken c =
     let is : app_of c.in_ok-farm_command.field-0 ≡ farm_app = search rules in
     let none : order_in (subcommand_rows_of c.in-Ok.matches) ≡ None = search rules in
-    λ taken. inr (unnamed (app_of c.in_ok-farm_command.field-0) (map string_bytes c.args.words.now) c.in-Ok.matches is
-    c.in-Ok.ensures.matches c.in-Ok.ensures.kinds none)
+    λ taken. inr (sym (ap order_in (parse_named (app_of c.in_ok-farm_command.field-0) (map string_bytes c.args.words.now) c.in-Ok.matches is c.in-Ok.ensures.matches)) ∙ none)
 
 pub returns-clause-fault : goal.returns-clause-fault
 returns-clause-fault c =

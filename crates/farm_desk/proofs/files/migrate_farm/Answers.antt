@@ -8,7 +8,7 @@ use Rattle.farm_desk.proofs.files.migrate_farm.Goals as goal
 pub returns-clause-raised : goal.returns-clause-raised
 returns-clause-raised g c =
     handed_ok c.raise_on.result c.inspect_err.result _ _ (sym c.inspect_err.ensures.value ∙ c.hand_on.ensures) c.raise_on.ensures.raised
-    (λ new raised. raised (image_at g.S.Start) c.in_ok-conn.ensures.shows)
+    (λ new raised. raised (image_at g.S.Start) c.in_ok-conn.ensures.opens.shows)
 
 pub returns-clause-fault : goal.returns-clause-fault
 returns-clause-fault g c =

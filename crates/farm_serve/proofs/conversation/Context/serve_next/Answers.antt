@@ -11,6 +11,6 @@ returns-clause-serves g c =
 pub returns-clause-connections : goal.returns-clause-connections
 returns-clause-connections g c =
     connections_one g.S.Store g.K.Reader.Input.never_fails (g.K.Clients.client_list c.args.clients.now) (g.K.Clients.client_list c.next.new.self) (g.K.Clients.client_list c.close.new.self)
-    c.args.keeper.now c.converse-ended.new.keeper _ _ _ _ _ _ c.requires c.in-Some.ensures.arrives c.close.ensures
+    c.args.keeper.now c.converse-ended.new.keeper _ _ _ _ _ _ c.requires c.in-Some.ensures.heard c.in-Some.ensures.arrives c.close.ensures
     (converses_once g.S.Store _ _ _ _ _ _ c.converse-ended.result.due c.converse-ended.ensures.writes
     (λ read. (c.converse-ended.ensures.unread read).0) (λ read. (c.converse-ended.ensures.unread read).2) c.converse-ended.ensures.received)
