@@ -1,4 +1,4 @@
--- The examples of docs/MACHINE.md that no script of calls has, chapter by chapter.
+-- Examples of single definitions, in the order of docs/MACHINE.md's chapters.
 use Rattle.std.specs.Prelude.{◌≡◌, ◌==◌, ℕ, List, [], ◌∷◌, map, replicate, Some, None, Result, Ok, Err, codes, refl, true, false, option_map}
 use Rattle.std.specs.Str.{is_utf8, chars}
 use Rattle.std.specs.declared.cmp.Ordering.TheVariants.{Less}

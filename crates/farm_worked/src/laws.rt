@@ -82,7 +82,7 @@ pub fn words_as_worked()
     ensures { WordsAsWorked }
 {}
 
-/// The examples of `docs/MACHINE.md` that no script of calls has, chapter by chapter.
+/// Examples of single definitions, in the order of the chapters of `docs/MACHINE.md`.
 pub fn book_as_worked()
     ensures words { BookOfWords }
     ensures tables { BookOfTables }

@@ -7,8 +7,8 @@
 //!
 //! `specs/Order` has rows that are added out of order; `specs/Groups`, `Checks`, `Reservations` and
 //! `Kept` follow rows from their making to their end; `specs/Limits`, `Full` and `Words` have the
-//! last number, row and word that is taken, and the first that isn't. `specs/Book` has the examples
-//! of `docs/MACHINE.md` that no script of calls has.
+//! last number, row and word that is taken, and the first that isn't. `specs/Book` has examples of
+//! single definitions, in the order of the chapters of `docs/MACHINE.md`.
 #![tactic(auto)]
 
 mod laws;
