@@ -6,6 +6,7 @@ import http.server
 import json
 import os
 import re
+import signal
 import ssl
 import threading
 import time
@@ -261,6 +262,20 @@ def test_one_address_has_so_many_connections(farm: Farm, make_site: Callable[...
         return bool(status == 429)
 
     wait_until("the fifth is refused", is_refused)
+
+
+def test_one_user_has_so_many_views_under_way(farm: Farm, site: Site) -> None:
+    """The desk stands still meanwhile; then all have their answers, and another's view, which waited with them."""
+    os.kill(farm.process.pid, signal.SIGSTOP)
+    views = [site.connection() for _ in range(20)] + [site.connection("admin")]
+    try:
+        for line, fields in views:
+            line.request("GET", "/queue", headers=fields)
+        assert site.said("-m", "20", "/queue")[:2] == (429, JSON)
+    finally:
+        os.kill(farm.process.pid, signal.SIGCONT)
+    assert [line.getresponse().status for line, _ in views] == [200] * 21
+    assert site.said("/queue")[0] == 200
 
 
 def test_one_users_commands_without_end_are_refused_and_anothers_and_looks_are_not(
