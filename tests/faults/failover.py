@@ -5,8 +5,9 @@
 Clients send keyed commands and passes without a pause, and farm-dispatch runs their jobs there; the machine that serves
 is killed (SIGKILL of QEMU) at any moment, and every second time as a job starts; the other one has it switched off by its
 relay (examples/farm-fence, another way than the cable), becomes primary, mounts the farm and serves it; the killed one
-boots, catches up, and they change places. At each failover every answered command is there once, and each repeated key is
-answered as it was; in the end each job was begun once at most on both, and has ended. FORM is
+boots, catches up, and they change places; the last one boots without the cable, and mustn't take over. At each failover
+every answered command is there once, and each repeated key is answered as it was; in the end each job was begun once at
+most on both, and has ended. FORM is
 
     plain    the above
     upgrade  what is killed is `farm migrate` over a farm of the first edition: the other one migrates it, or finds it
@@ -487,6 +488,18 @@ class Trial:
             machine.wait("primary", "drbdadm primary farm")
         machine.serves()
 
+    def refuses_what_is_old(self, machine: Machine, serving: Machine) -> None:
+        """A machine that was off while the other one served boots without the cable, and its relay would do what it is told."""
+        machine.comes_back()
+        machine.do("ip link set eth0 down")
+        machine.do("drbdadm up farm")
+        os.unlink(f"{self.folder}/{serving.name}.on")
+        is_done, said = machine.ran("drbdadm primary farm")
+        write(self.folder, f"{serving.name}.on", "")
+        if is_done or machine.is_primary():
+            raise Wrong(f"{machine.name} is primary with what it had before {serving.name} served alone")
+        self.tell(f"{machine.name} was off, and refuses to be primary: {' '.join(said.split())[:160]}")
+
     def cuts(self, machine: Machine, clients: Clients) -> None:
         """Cuts the cable, and lets people go on."""
         if self.form == "frozen":
@@ -600,6 +613,8 @@ class Trial:
                     gone.do("drbdadm up farm")
             if clients.refused:
                 raise Wrong(f"refused: {clients.refused[0]}")
+            if self.form == "plain":
+                self.refuses_what_is_old(gone, serving)
             self.ends_jobs(serving, clients)
             seconds = self.found.seconds
             span = f"{min(seconds):.1f} to {max(seconds):.1f} s"
