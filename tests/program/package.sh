@@ -118,7 +118,7 @@ if /usr/bin/python3 -c 'import pytest' 2> /dev/null; then
 else
     left_out 'the plugin of pytest' 'there is no python3-pytest'
 fi
-for name in fail2ban.conf gitlab-ci.yml Jenkinsfile with-board.sh; do
+for name in fail2ban.conf farm-port-site.nft gitlab-ci.yml Jenkinsfile with-board.sh; do
     cmp -s "examples/$name" "$tree/usr/share/doc/fizgruk-desk/examples/$name" || fail "there is no example $name"
 done
 cmp -s docs/PYTHON.md "$tree/usr/share/doc/python3-fizgruk/PYTHON.md" || fail "python3-fizgruk has no PYTHON.md"

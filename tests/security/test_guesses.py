@@ -80,15 +80,16 @@ for last in 2 3; do ip netns exec outside ip address add 192.0.2.$last/24 dev la
 systemctl start nginx
 systemctl start fail2ban
 """
-# Guesses over so many connections at once for so many seconds, and says how often it was told that it was wrong.
+# Guesses over eight connections at once for 45 seconds, at an address from an address, and says how often it was told that
+# it was wrong.
 GUESS = """import socket, ssl, sys, threading, time
 trusted = ssl._create_unverified_context()
-until = time.monotonic() + float(sys.argv[1])
+until, to, of = time.monotonic() + 45, *sys.argv[1:]
 done = []
 def guess(number):
     while time.monotonic() < until:
         try:
-            with socket.create_connection(("192.0.2.1", 443), 5, ("192.0.2.2", 0)) as line:
+            with socket.create_connection((to, 443), 5, (of, 0)) as line:
                 with trusted.wrap_socket(line) as safe:
                     while True:
                         safe.sendall(b"GET /queue HTTP/1.1\\r\\nhost: farm.test\\r\\nauthorization: Basic YW5uOndyb25n\\r\\n\\r\\n")
@@ -104,28 +105,68 @@ print(len(done), sum(it > until - 10 for it in done))
 """
 
 
-@pytest.mark.xdist_group("machine")
-@pytest.mark.slow(40)
-def test_an_address_that_guesses_is_shut_out_and_others_work_on(machine: Machine) -> None:
+# From outside, and from the machine itself.
+GUESSES = """ip netns exec outside python3 /tmp/guess.py 192.0.2.1 192.0.2.2 > /tmp/outside &
+python3 /tmp/guess.py 127.0.0.1 127.0.0.1
+wait
+cat /tmp/outside
+"""
+# Connections that say nothing, until one is refused; then how many there are.
+HALVES = """import socket, time
+lines = []
+try:
+    while len(lines) < 400:
+        lines.append(socket.create_connection(("192.0.2.1", 443), 5, ("192.0.2.2", 0)))
+except ConnectionRefusedError:
+    pass
+print(len(lines), flush=True)
+time.sleep(120)
+"""
+
+
+@pytest.fixture(scope="module")
+def site_of_machine(machine: Machine) -> Machine:
+    """A machine with a site, which two addresses outside ask."""
     wants("nginx", "fail2ban-server", "openssl", "curl")
     machine.serve()
     machine.run("sh", "-c", SET_UP)
+    return machine
 
-    def asks(last: int, password: str = "right") -> str:
-        curl = ["curl", "-sk", "-m", "60", "--interface", f"192.0.2.{last}", "-u", f"ann:{password}", "-o", "/dev/null"]
-        words = [*curl, "-w", "%{http_code}", "--resolve", "farm.test:443:192.0.2.1", "https://farm.test/queue"]
-        return machine.run("ip", "netns", "exec", "outside", *words, check=False).stdout
 
+def asks(machine: Machine, last: int) -> str:
+    """The status of what an address outside is answered."""
+    curl = ["curl", "-sk", "-m", "60", "--interface", f"192.0.2.{last}", "-u", "ann:right", "-o", "/dev/null"]
+    words = [*curl, "-w", "%{http_code}", "--resolve", "farm.test:443:192.0.2.1", "https://farm.test/queue"]
+    return machine.run("ip", "netns", "exec", "outside", *words, check=False).stdout
+
+
+@pytest.mark.xdist_group("machine")
+@pytest.mark.slow(40)
+def test_an_address_that_guesses_is_shut_out_and_others_work_on(site_of_machine: Machine) -> None:
+    machine = site_of_machine
     machine.wait("fail2ban", "sh", "-c", "fail2ban-client status farm-site 2> /dev/null | grep 'Currently banned:.0'")
-    assert [asks(2), asks(3)] == ["200", "200"]
+    assert [asks(machine, 2), asks(machine, 3)] == ["200", "200"]
     machine.write("/tmp/guess.py", GUESS)
-    told, late = machine.run("ip", "netns", "exec", "outside", "python3", "/tmp/guess.py", "45").stdout.split()
-    assert int(told) < 300 and late == "0", "it was told so often, and in its last ten seconds not once"
-    assert asks(2) == "000", "also with the right password"
-    assert asks(3) == "200", "another address"
-    assert "192.0.2.2" in machine.run("fail2ban-client", "status", "farm-site").stdout
-    machine.run("fail2ban-client", "set", "farm-site", "unbanip", "192.0.2.2")
-    assert asks(2) == "200"
+    counts = list(map(int, machine.run("sh", "-c", GUESSES).stdout.split()))
+    assert all(told < 300 for told in counts[::2]) and counts[1::2] == [0, 0], "told so often, in the last ten seconds not once"
+    assert asks(machine, 2) == "000", "also with the right password"
+    assert asks(machine, 3) == "200", "another address"
+    assert {"192.0.2.2", "127.0.0.1"} <= set(machine.run("fail2ban-client", "status", "farm-site").stdout.split())
+    machine.run("fail2ban-client", "unban", "192.0.2.2", "127.0.0.1")
+    assert asks(machine, 2) == "200"
+
+
+@pytest.mark.xdist_group("machine")
+def test_half_hellos_of_an_address_keep_no_other_out(site_of_machine: Machine) -> None:
+    machine = site_of_machine
+    machine.run("install", "-D", "-m", "644", "/tmp/source/examples/farm-port-site.nft", "/etc/farm/port.d/site.nft")
+    machine.run("systemctl", "reload", "farm-port")
+    machine.write("/tmp/halves.py", HALVES)
+    machine.run("sh", "-c", "ip netns exec outside python3 /tmp/halves.py > /tmp/halves 2>&1 < /dev/null &")
+    assert machine.wait("its connections", "grep", ".", "/tmp/halves").strip() == "250"
+    assert asks(machine, 3) == "200"
+    machine.run("pkill", "-f", "halves.py")
+    machine.run("rm", "/etc/farm/port.d/site.nft")
 
 
 # What a login's process that is named sshd says, and what the machine's sshd does.

@@ -35,6 +35,19 @@ def test_no_login_can_listen_in_the_desks_place(desk: Machine) -> None:
         assert (ran.returncode, "Permission denied" in ran.stderr) == (1, True), (account, ran.stderr)
 
 
+# Whether somebody may connect to the boards' sshd's place from an address.
+CONNECTS = "import socket; socket.create_connection(('127.0.0.1', 2222), 5, ('{}', 0))"
+
+
+def test_nobody_takes_many_of_the_machines_own_addresses(desk: Machine) -> None:
+    """By each of which as many connections would count as an address has."""
+    desk.run("systemd-run", "-q", "--unit=listens", "python3", "-m", "http.server", "2222", "--bind", "127.0.0.1")
+    desk.wait("it listens", "sh", "-c", "ss -ltn | grep :2222")
+    came = [desk.run("python3", "-c", CONNECTS.format(it), user="ann", check=False) for it in ("127.0.0.1", "127.0.0.2")]
+    desk.run("systemctl", "stop", "listens")
+    assert [it.returncode for it in came] == [0, 1] and "ConnectionRefusedError" in came[1].stderr
+
+
 def test_whom_a_file_of_the_lab_adds_is_let_in_too(desk: Machine) -> None:
     """Beside the table of the way to boards, which is loaded with it."""
     desk.run("sh", "-c", "getent passwd board || adduser --system --group --quiet --no-create-home board; addgroup --system farm-hold")

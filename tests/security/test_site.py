@@ -207,15 +207,20 @@ def origin(site: Site, text: str) -> List[str]:
 
 def test_what_is_refused_by_the_site_alone_fills_no_log(site: Site) -> None:
     """Who has no password has a short line where it is a guess, and none else."""
-    long = "x" * 4000
+    long = "x" * 1200
     refused = (
         ("-X", "POST", "-H", "origin: https://else.example", f"/reservations?{long}"), ("-H", f"referer: {long}", "/boards"),
-        ("-u", f"ann:{long}", "/boards"), ("-X", "BREW", f"/{long}"),
+        ("-u", f"ann:{long}", "/boards"), ("-X", "BREW", f"/{long}"), ("-X", "POST", "-H", "transfer-encoding: foo", f"/{long}"),
+        (f"/{'x' * 4000}",), ("-H", f"x-long: {'x' * 4000}", "/boards"),
     )
-    sizes = [len(site.logged(name)) for name in ("asked.log", "audit.log", "guesses.log")]
-    assert [site.got(words[-1], *words[:-1], user="")[0] for words in refused] == [403, 401, 401, 401]
-    grown = [len(site.logged(name)) - it for name, it in zip(("asked.log", "audit.log", "guesses.log"), sizes)]
-    assert (grown[0] < 200 and grown[1] == 0 and 0 < grown[2] < 100), "of `settle` there are the lines of those who are let in"
+    logs = ("asked.log", "audit.log", "guesses.log", "error.log")
+    sizes = [len(site.logged(name)) for name in logs]
+    assert [site.got(words[-1], *words[:-1], user="")[0] for words in refused] == [403, 401, 401, 401, 501, 414, 400]
+    assert raw(site, f"GET /{long} HTTP/9.9\r\nhost: localhost\r\n\r\n".encode()).startswith(b"HTTP/1.1 505 ")
+    assert site.got("/labs.json")[0] == 404
+    grown = [len(site.logged(name)) - it for name, it in zip(logs, sizes)]
+    # (of `settle`, of who has a password, and of the guess there are lines)
+    assert grown[0] < 400 and grown[1] == 0 and 0 < grown[2] < 100 and grown[3] < 250
 
 
 def test_a_foreign_name_that_leads_to_the_site_is_a_foreign_origin(farm: Farm, site: Site) -> None:
@@ -262,6 +267,7 @@ def test_one_address_has_so_many_connections(farm: Farm, make_site: Callable[...
         return bool(status == 429)
 
     wait_until("the fifth is refused", is_refused)
+    assert "limiting" not in read(f"{site.folder}/error.log")
 
 
 def test_one_user_has_so_many_views_under_way(farm: Farm, site: Site) -> None:
