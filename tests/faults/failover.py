@@ -490,8 +490,8 @@ class Trial:
 
     def refuses_what_is_old(self, machine: Machine, serving: Machine) -> None:
         """A machine that was off while the other one served boots without the cable, and its relay would do what it is told."""
+        serving.do("ip link set eth0 down")
         machine.comes_back()
-        machine.do("ip link set eth0 down")
         machine.do("drbdadm up farm")
         os.unlink(f"{self.folder}/{serving.name}.on")
         is_done, said = machine.ran("drbdadm primary farm")
