@@ -2,19 +2,21 @@
 from __future__ import annotations
 
 import base64
+import contextlib
 import http.client
+import http.server
 import json
 import os
 import shutil
 import socket
 import ssl
 import subprocess
-import sys
-from typing import Any, Callable, Dict, List, Optional, Sequence, Tuple
+import threading
+from typing import Any, Callable, Dict, Iterator, List, Optional, Sequence, Tuple
 
 import pytest
 
-from desks import at_ease
+from desks import starter
 from ports import free_port
 from served import STARTED, TOOLS, TOP, Farm, ends_with_us, environment, read, wait_until
 from wants import wants
@@ -159,12 +161,7 @@ class Site:
 
     def desk(self, *words: str, given: str = "", **more: str) -> Tuple[int, str, str]:
         """What the client comes to: its status, output and errors."""
-        ran = subprocess.run(
-            [sys.executable, os.path.join(TOOLS, "desk"), *words],
-            input=given, capture_output=True, text=True, timeout=300, check=False,
-            env=environment(**{**self.settings(), **more}),
-        )
-        return ran.returncode, ran.stdout, at_ease(ran.stderr)
+        return starter().call(words, environment(**{**self.settings(), **more}), given)
 
 
 def raw(site: Site, request: bytes, wait: float = 20) -> bytes:
@@ -186,6 +183,31 @@ def raw(site: Site, request: bytes, wait: float = 20) -> bytes:
 def line_to(site: Site) -> ssl.SSLSocket:
     trusted = ssl.create_default_context(cafile=site.certificate)
     return trusted.wrap_socket(socket.create_connection(("127.0.0.1", site.port)), server_hostname="localhost")
+
+
+@contextlib.contextmanager
+def page_beside(site: Site, body: str, is_at_host: bool = True) -> Iterator[str]:
+    """Serves a page at another port of the site's own host, by TLS, or at another site. Gives its address."""
+
+    class Page(http.server.BaseHTTPRequestHandler):
+        def do_GET(self) -> None:
+            self.send_response(200)
+            self.send_header("content-type", "text/html")
+            self.send_header("content-length", str(len(body)))
+            self.end_headers()
+            self.wfile.write(body.encode())
+
+        def log_message(self, *_: object) -> None:
+            pass
+
+    with http.server.ThreadingHTTPServer(("127.0.0.1", 0), Page) as server:
+        if is_at_host:
+            trusted = ssl.create_default_context(ssl.Purpose.CLIENT_AUTH)
+            trusted.load_cert_chain(site.certificate, f"{site.folder}/farm.key")
+            server.socket = trusted.wrap_socket(server.socket, server_side=True)
+        threading.Thread(target=server.serve_forever, daemon=True).start()
+        yield f"{'https://localhost' if is_at_host else 'http://127.0.0.1'}:{server.server_address[1]}/"
+        server.shutdown()
 
 
 def login(user: Optional[str]) -> List[str]:
