@@ -3,6 +3,7 @@ from __future__ import annotations
 
 import base64
 import contextlib
+import functools
 import http.client
 import http.server
 import json
@@ -11,6 +12,7 @@ import shutil
 import socket
 import ssl
 import subprocess
+import tempfile
 import threading
 from typing import Any, Callable, Dict, Iterator, List, Optional, Sequence, Tuple
 
@@ -58,10 +60,11 @@ class Site:
         self.folder, self.port = folder, free_port()
         self.server = f"https://localhost:{self.port}"
         self.certificate = os.path.join(folder, "farm.pem")
-        self.certify()
+        for name, text in certified().items():
+            write(folder, name, text, 0o600)
         lines = []
         for name, word in WORDS.items():
-            lines.append(f"{name}:{openssl('passwd', '-apr1', word).strip()}\n")
+            lines.append(f"{name}:{hashed(word)}\n")
             write(folder, name, f"{word}\n", 0o600)
         write(folder, "farm.htpasswd", "".join(lines), 0o644)
         write(folder, "nginx.conf", AROUND.format(folder=folder, site=self.text(farm, changes)), 0o644)
@@ -71,12 +74,6 @@ class Site:
         )
         STARTED.append(self.process)
         wait_until("nginx listens", lambda: self.curl("-o", "/dev/null", "/") != 7)
-
-    def certify(self) -> None:
-        """Makes a certificate of its own."""
-        name = ["-subj", "/CN=localhost", "-addext", "subjectAltName=DNS:localhost"]
-        key = ["-newkey", "ec", "-pkeyopt", "ec_paramgen_curve:prime256v1", "-nodes"]
-        openssl("req", "-x509", *name, *key, "-keyout", f"{self.folder}/farm.key", "-out", self.certificate)
 
     def text(self, farm: Farm, changes: Sequence[Tuple[str, str]]) -> str:
         """The example's site in this folder."""
@@ -213,6 +210,22 @@ def page_beside(site: Site, body: str, is_at_host: bool = True) -> Iterator[str]
 def login(user: Optional[str]) -> List[str]:
     """The words by which curl asks as a user."""
     return ["-u", f"{user}:{WORDS[user]}"] if user else []
+
+
+@functools.lru_cache(None)
+def certified() -> Dict[str, str]:
+    """The files of a certificate of localhost's, which all sites of a process have."""
+    name = ["-subj", "/CN=localhost", "-addext", "subjectAltName=DNS:localhost"]
+    key = ["-newkey", "ec", "-pkeyopt", "ec_paramgen_curve:prime256v1", "-nodes"]
+    with tempfile.TemporaryDirectory() as folder:
+        openssl("req", "-x509", *name, *key, "-keyout", f"{folder}/farm.key", "-out", f"{folder}/farm.pem")
+        return {it: read(f"{folder}/{it}") for it in ("farm.key", "farm.pem")}
+
+
+@functools.lru_cache(None)
+def hashed(word: str) -> str:
+    """A password as nginx's file has it."""
+    return openssl("passwd", "-apr1", word).strip()
 
 
 def openssl(*words: str) -> str:
