@@ -227,7 +227,11 @@ def test_told_to_end_at_any_moment(lab: Lab) -> None:
 def test_unstartable_scripts(lab: Lab) -> None:
     """Scripts that aren't executable finish no job and condemn no board; it is told, status 5. The fault that was
     seen: boards were condemned while both scripts weren't executable."""
-    check = with_checks(lab)
+    lab.farm.tell("admin", "/types", {"name": "checked", "check": "jobs", "every": 20})
+    for name in ("c1", "c2"):
+        lab.farm.tell("admin", "/boards", {"name": name, "type": "checked"})
+    check = os.path.join(lab.folder, "check")
+    replace(check, "#!/bin/sh\ntrue\n")
     words = ["--check-board", check]
     dispatcher = lab.dispatch(*words)
     assert lab.finished(lab.farm.submit("true")) == "Complete", "a job before"
@@ -256,23 +260,9 @@ def test_unstartable_scripts(lab: Lab) -> None:
         assert lab.finished(number) == "Complete", f"job {number}, once they are mended"
         assert lab.begins(number) == 1, "how often it was begun"
     for name in ("c1", "c2"):
-        wait_until(f"{name} is Good", lambda: is_good(lab, name))
+        wait_until(f"{name} is Good", lambda: lab.farm.board(name)["health"] == "Good")
     wait_until("it tells that it goes on", lambda: "it goes on" in dispatcher.errors())
     lab.closes(dispatcher)
-
-
-def with_checks(lab: Lab) -> str:
-    """Adds two boards whose health a script checks. Returns the script."""
-    lab.farm.tell("admin", "/types", {"name": "checked", "check": "jobs", "every": 20})
-    for name in ("c1", "c2"):
-        lab.farm.tell("admin", "/boards", {"name": name, "type": "checked"})
-    check = os.path.join(lab.folder, "check")
-    replace(check, "#!/bin/sh\ntrue\n")
-    return check
-
-
-def is_good(lab: Lab, name: str) -> bool:
-    return bool(lab.farm.board(name)["health"] == "Good")
 
 
 # ---- time limits
