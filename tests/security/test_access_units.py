@@ -67,7 +67,7 @@ def shell(lab: Lab, board: str, script: str) -> str:
 # ---- out of a hold, and to what is another's
 
 
-@pytest.mark.parametrize("script, refused", [
+OUT_OF_A_HOLD = (
     ("echo $$ > /sys/fs/cgroup/cgroup.procs", "Read-only|Permission denied|nonexistent"),
     ("echo 1 > /sys/fs/cgroup/system.slice/farm.service/cgroup.kill", "Read-only|Permission denied|nonexistent"),
     ("systemd-run true", "Failed to connect|not been booted|No such file"),
@@ -79,50 +79,42 @@ def shell(lab: Lab, board: str, script: str) -> str:
     ("farm-access way b3 say x", "the door to the boards isn't open"),
     ("touch /etc/x", "Read-only"),
     ("cat /var/lib/farm-access/consoles/*/*", "No such file|Permission denied"),
-])
-def test_from_within_a_hold_nothing_else_is_reached(lab: Lab, script: str, refused: str) -> None:
-    lab.reserve("ann", "b2")
-    assert re.search(refused, shell(lab, "b2", script)), shell(lab, "b2", script)
-    assert lab.machine.status("farm") == "active"
-
-
-@pytest.mark.parametrize("script, refused", [
+)
+OUT_OF_A_JOB = (
     ("echo x > /dev/boards/b1", "Permission denied"),
     ("echo x > /dev/boards/b2", "Permission denied"),
     ("farm-access way b1 console < /dev/null", "b1 is no board of this job's"),
     ("echo $$ > /sys/fs/cgroup/cgroup.procs", "Read-only"),
     ("echo x > /run/farm-access/b1.last", "Permission denied"),
     (DESK, "Couldn't connect|Failed to connect"),
-])
-def test_a_job_writes_to_no_board_that_somebody_else_holds(lab: Lab, script: str, refused: str) -> None:
-    """Also where its unit has all devices of the machine in sight."""
-    lab.reserve("ann", "b1")
-    number = lab.submit("b2")
-    before = lab.text("b1")
-    tried = lab.try_words(lab.job(number, "/bin/sh", "-c", script))
-    assert re.search(refused, tried.errors + tried.output.decode()), tried
-    assert lab.text("b1") == before
-
-
-def test_jobs_that_reach_for_another_s_board_write_no_byte_to_it(lab: Lab) -> None:
-    """Some; access_handovers.py --reach makes hundreds."""
-    lab.reserve("ann", "b1")
-    number = lab.submit("b2")
-    before = lab.text("b1")
-    script = "for it in $(seq 10); do echo JOB | farm-access way b1 console; echo JOB > /dev/boards/b1; done"
-    lab.try_words(lab.job(number, "/bin/sh", "-c", script))
-    assert lab.text("b1") == before
-
-
-@pytest.mark.parametrize("script", [
+)
+OF_THE_BOARDS_SSHD = (
     DESK, "ls /run/farm-access", "ls /var/lib/farm-access", "echo x > /dev/boards/b2", "python3 -c 'import socket; s = socket.socket(1);"
     " s.connect(\"/run/farm-access-opener.socket\")'", "echo 1 > /sys/fs/cgroup/farm.slice/cgroup.kill", "touch /etc/farm/keys/mallory",
-])
-def test_the_account_of_the_boards_sshd_has_no_rights(lab: Lab, script: str) -> None:
-    assert lab.machine.run("sh", "-c", script, user="board", check=False).returncode != 0
+)
 
 
-def test_the_account_of_the_boards_sshd_writes_to_no_file_of_the_system(lab: Lab) -> None:
+def test_from_within_a_hold_nothing_else_is_reached(lab: Lab) -> None:
+    lab.reserve("ann", "b2")
+    for script, refused in OUT_OF_A_HOLD:
+        said = shell(lab, "b2", script)
+        assert re.search(refused, said), (script, said)
+    assert lab.machine.status("farm") == "active"
+
+
+def test_a_job_writes_to_no_board_that_somebody_else_holds(lab: Lab) -> None:
+    """Also where its unit has all devices of the machine in sight. (access_handovers.py --reach makes hundreds.)"""
+    lab.reserve("ann", "b1")
+    number, before = lab.submit("b2"), lab.text("b1")
+    for script, refused in OUT_OF_A_JOB:
+        tried = lab.try_words(lab.job(number, "/bin/sh", "-c", script))
+        assert re.search(refused, tried.errors + tried.output.decode()), (script, tried)
+    assert lab.text("b1") == before
+
+
+def test_the_account_of_the_boards_sshd_has_no_rights(lab: Lab) -> None:
+    for script in OF_THE_BOARDS_SSHD:
+        assert lab.machine.run("sh", "-c", script, user="board", check=False).returncode != 0, script
     found = lab.machine.run("find", "/etc", "/usr", "/opt", "/srv", "-xdev", "-writable", "-not", "-type", "l", user="board", check=False)
     assert found.stdout == ""
 
@@ -139,10 +131,7 @@ def test_the_guard_kills_below_the_slice_of_holds_and_nothing_else(lab: Lab) -> 
     assert lab.machine.status("farm") == "active"
 
 
-@pytest.mark.parametrize("asked", [
-    '{"words": "b1 console", "auth": "AUTH"}', "{" * 8000, '{"words": 1}', "null", "x",
-])
-def test_what_is_forged_at_the_door_is_refused(lab: Lab, asked: str) -> None:
+def test_what_is_forged_at_the_door_is_refused(lab: Lab) -> None:
     """A job says whose key it has; and what is no question at all."""
     lab.reserve("ann", "b1")
     number = lab.submit("b2")
@@ -151,9 +140,9 @@ def test_what_is_forged_at_the_door_is_refused(lab: Lab, asked: str) -> None:
         "import os, socket, sys; s = socket.socket(socket.AF_UNIX); s.connect('/run/farm-access-jobs.socket');"
         " socket.send_fds(s, [sys.argv[1].encode()], [os.open('/dev/null', os.O_RDWR)] * 3); s.settimeout(60); print(s.recv(9999).decode())"
     )
-    words = asked.replace("AUTH", f"publickey ssh-ed25519 {key}")
-    tried = lab.try_words(lab.job(number, "/usr/bin/python3", "-c", program, words))
-    assert '"status": 0' not in tried.output.decode() and not lab.units("b1"), tried
+    for words in (json.dumps({"words": "b1 console", "auth": f"publickey ssh-ed25519 {key}"}), "{" * 8000, '{"words": 1}', "null", "x"):
+        tried = lab.try_words(lab.job(number, "/usr/bin/python3", "-c", program, words))
+        assert '"status": 0' not in tried.output.decode() and not lab.units("b1"), (words, tried)
     assert lab.session("ann", "b1", "say", "x").output == b"x\n"
 
 
@@ -165,8 +154,7 @@ def test_a_daemon_deaf_to_signals_ends_with_its_session(lab: Lab) -> None:
     line = lab.begin("ann", "b2", "shell")
     assert line.stdin and line.stdout
     deaf = "trap '' HUP TERM INT; while :; do printf AWAY; sleep 0.05; done"
-    line.stdin.write(f"(setsid sh -c \"{deaf}\" > /dev/boards/b2 &)\n".encode())
-    line.stdin.write(b"sleep 1; echo begun\n")
+    line.stdin.write(f"(setsid sh -c \"{deaf}\" > /dev/boards/b2 &)\nsleep 1; echo begun\n".encode())
     line.stdin.flush()
     assert line.stdout.readline() == b"begun\n" and b"AWAY" in lab.text("b2")
     line.stdin.close()
@@ -321,11 +309,11 @@ def test_who_logs_in_and_opens_nothing_is_let_go(lab: Lab) -> None:
 # ---- units and scripts
 
 
-@pytest.mark.parametrize("unit", ["farm-access-sshd", "farm-access-guard", "farm-access", "farm-access-opener"])
-def test_units_have_limits(lab: Lab, unit: str) -> None:
+def test_units_have_limits(lab: Lab) -> None:
     """(test_units.py says how much is open in each.)"""
-    shown = lab.machine.run("systemctl", "show", f"{unit}.service", "-P", "TasksMax", "-P", "MemoryMax").stdout
-    assert len(shown.split()) == 2 and "infinity" not in shown
+    for unit in ("farm-access-sshd", "farm-access-guard", "farm-access", "farm-access-opener"):
+        shown = lab.machine.run("systemctl", "show", f"{unit}.service", "-P", "TasksMax", "-P", "MemoryMax").stdout
+        assert len(shown.split()) == 2 and "infinity" not in shown, unit
 
 
 def test_a_device_is_opened_by_the_opener_alone(lab: Lab) -> None:

@@ -67,13 +67,10 @@ def test_a_path_is_in_its_line_as_it_was_asked(farm: Farm, site: Site) -> None:
     assert len(json.loads(audit[1])["audit"]) == commands.count("POST /boards/../health") == 1
 
 
-@pytest.mark.parametrize("body", [
-    '{"tags":["name=b1"],\n"x":"\\u0022"}', '{"tags":["name=b1"]}\r\n\t', '{"tags":["name=b1"],"é":"\\u0000"}',
-])
-def test_a_body_is_one_line_whatever_is_in_it(site: Site, body: str) -> None:
-    status = told(site, "--data-binary", body, "/reservations")
-    rows = lines_of(site)
-    assert [it["body"].encode() for it in rows] == [body.encode()] * (status == 200)
+def test_a_body_is_one_line_whatever_is_in_it(site: Site) -> None:
+    bodies = ('{"tags":["name=b1"],\n"x":"\\u0022"}', '{"tags":["name=b1"]}\r\n\t', '{"tags":["name=b1"],"é":"\\u0000"}')
+    taken = [it for it in bodies if told(site, "--data-binary", it, "/reservations") == 200]
+    assert [it["body"].encode() for it in lines_of(site)] == [it.encode() for it in taken]
 
 
 def test_the_longest_body_is_in_its_line(site: Site) -> None:
@@ -89,17 +86,16 @@ FRAMINGS = [
 ]
 
 
-@pytest.mark.parametrize("framing", FRAMINGS, ids=" ".join)
-def test_the_audit_grows_by_no_long_body(farm: Farm, site: Site, framing: List[str]) -> None:
+def test_the_audit_grows_by_no_long_body(farm: Farm, site: Site) -> None:
     """However a client says its length; a job's text, which isn't in the audit, may be long."""
     write(site.folder, "long", RESERVE + " " * 5000, 0o644)
     write(site.folder, "job", "job_name = 'x'\ndevice_type = 'bbb'\n#" + "x" * 60_000, 0o644)
-    sent = ["--data-binary", f"@{site.folder}/long"]
-    for path in ("/reservations", "/jobs/1/cancel", "/reservations/../reservations", "/jobs/"):
-        assert told(site, *framing, "--path-as-is", *sent, path) == 413, path
-    assert farm.look("/reservations")["reservations"] == [] and lines_of(site) == []
-    assert told(site, *framing, "--data-binary", f"@{site.folder}/job", "/jobs") == 200
-    assert len(lines_of(site)) == 1 and len(site.logged()) < 1000
+    for count, framing in enumerate(FRAMINGS):
+        for path in ("/reservations", "/jobs/1/cancel", "/reservations/../reservations", "/jobs/"):
+            assert told(site, *framing, "--path-as-is", "--data-binary", f"@{site.folder}/long", path) == 413, (framing, path)
+        assert farm.look("/reservations")["reservations"] == [] and len(lines_of(site)) == count, framing
+        assert told(site, *framing, "--data-binary", f"@{site.folder}/job", "/jobs") == 200, framing
+    assert len(lines_of(site)) == len(FRAMINGS) and len(site.logged()) < 2000
 
 
 def test_who_doesnt_wait_for_an_answer_has_a_line(farm: Farm, site: Site) -> None:
@@ -148,18 +144,6 @@ def test_desk_audit_shows_what_concerns_a_board(farm: Farm, site: Site) -> None:
     assert len(lines) == 2 and lines[1].split()[1:5] == ["ann", "127.0.0.1", "POST", "/reservations/2/acquire"]
     os.mkfifo(f"{site.folder}/pipe")
     assert site.desk("audit", "b1", "--file", f"{site.folder}/pipe")[0] == 4
-
-
-def test_what_an_admin_did_to_a_board_is_shown(farm: Farm) -> None:
-    from fizgruk.desk import audit
-
-    rows = [
-        {"command": "POST /boards/b1/health", "body": '{"health":"Bad"}'}, {"command": "POST /boards/b12/health", "body": ""},
-        {"command": "POST /boards", "body": '{"name":"b1","type":"bbb"}'}, {"command": "POST /boards/b1/tags", "body": "["},
-        {"command": "POST /types", "body": '{"name":"other"}'},
-    ]
-    assert [audit.is_about(it, "b1", lambda kind, number: "") for it in rows] == [True, False, True, True, False]
-    del farm
 
 
 def test_logrotate_puts_it_aside_and_loses_no_line(site: Site) -> None:

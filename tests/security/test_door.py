@@ -149,13 +149,6 @@ def test_a_token_stands_for_its_owner_until_it_is_ended(door: Door) -> None:
     assert door.by_token(token, "/queue")[0] == 401
 
 
-def test_the_client_takes_a_token_for_a_password(door: Door) -> None:
-    token = door.told("-d", '{"name":"ci"}', "/tokens")[1]["token"]
-    file = write(door.folder, "token", f"{token}\n", 0o600)
-    assert door.site.desk("reserve", "--any", DESK_PASSWORD_FILE=file) == (0, "1\n", "")
-    assert door.owners() == ["ann"]
-
-
 def test_the_client_makes_shows_and_ends_tokens(door: Door) -> None:
     status, token, errors = door.site.desk("add-token", "nightly")
     assert (status, errors) == (0, "") and token.startswith("farm_token_")
@@ -169,7 +162,7 @@ def test_the_client_makes_shows_and_ends_tokens(door: Door) -> None:
     file = write(door.folder, "token", token, 0o600)
     said = door.site.desk("tokens", DESK_PASSWORD_FILE=file)
     assert said[0] == 3 and "a token makes, shows and ends none" in said[2]
-    assert door.site.desk("reserve", "--any", DESK_PASSWORD_FILE=file)[0] == 0
+    assert door.site.desk("reserve", "--any", DESK_PASSWORD_FILE=file) == (0, "1\n", "") and door.owners() == ["ann"]
     assert door.site.desk("end-token", "nightly") == (0, "", "")
     assert door.site.desk("end-token", "nightly") == (3, "", "desk: you have no token nightly\n")
     assert door.site.desk("reserve", "--any", DESK_PASSWORD_FILE=file)[0] == 3
@@ -178,22 +171,20 @@ def test_the_client_makes_shows_and_ends_tokens(door: Door) -> None:
     assert (status, output) == (3, "") and "tokens are a site's that has farm-door(8)" in errors, errors
 
 
-@pytest.mark.parametrize("fields", [
+NO_TOKENS: Sequence[Sequence[str]] = (
     ["authorization: Bearer x"], ["authorization: Bearer farm_token_x"], ["authorization: Bearer "], ["authorization: bearer a b"],
     ["x-login: ann"], ["authorization: Bearer x", "x-login: ann", "x-farm-user: admin"], ["x-bearer: Bearer x"], [],
-])
-def test_what_is_no_token_is_let_in_nowhere(door: Door, fields: Sequence[str]) -> None:
-    words = [word for it in fields for word in ("-H", it)]
-    for path in ("/queue", "/", "/page/farm.js", "/history.json", "/logs/1", "/whoami", "/tokens"):
-        assert door.site.got(path, *words, user="")[0] == 401, path
-    assert door.site.said(*words, *RESERVE, "/reservations", user="")[0] == 401
+)
+
+
+def test_what_is_no_token_is_let_in_nowhere(make_door: Callable[..., Door]) -> None:
+    door = make_door(RULES, "", ("auth_delay 1s", "auth_delay 0"))
+    for fields in NO_TOKENS:
+        words = [word for it in fields for word in ("-H", it)]
+        for path in ("/queue", "/", "/page/farm.js", "/history.json", "/logs/1", "/whoami", "/tokens"):
+            assert door.site.got(path, *words, user="")[0] == 401, (fields, path)
+        assert door.site.said(*words, *RESERVE, "/reservations", user="")[0] == 401, fields
     assert door.owners() == []
-
-
-def test_a_wrong_password_never_reaches_it_and_a_claimed_name_is_nobodys(door: Door) -> None:
-    for words in (["-u", "ann:guess"], ["-u", "ann.admin:guess"]):
-        assert door.site.got("/reservations", *words, *RESERVE, user="")[0] == 401
-    assert door.told("-H", "x-login: ann.admin", "-H", "x-farm-user: admin", "-d", '{"health":"Bad"}', "/boards/b1/health")[0] == 403
 
 
 def test_where_it_gives_no_answer_no_command_is_let_through_and_looks_go_on(door: Door) -> None:
@@ -209,7 +200,8 @@ def test_where_it_gives_no_answer_no_command_is_let_through_and_looks_go_on(door
         assert door.told(path)[0] == 200, path
     for path in ("/", "/page/farm.js"):
         assert door.site.got(path)[0] == 200, path
-    assert door.site.got("/queue", "-u", "ann:guess", user="")[0] == 401
+    for login in ("ann:guess", "ann.admin:guess"):
+        assert door.site.got("/queue", "-u", login, user="")[0] == 401, login
     assert door.owners() == []
     door.start()
     assert door.told(*RESERVE, "/reservations")[0] == 200
@@ -254,11 +246,12 @@ def test_a_foreign_page_makes_no_token(door: Door) -> None:
     assert door.told("/tokens")[1] == {"tokens": []}
 
 
-@pytest.mark.parametrize("body", [
-    "", "[]", "{}", '{"name":1}', '{"name":"a b"}', '{"name":"' + "x" * 49 + '"}', "[" * 5000, '{"name":"a"}' + " " * 5000,
-])
-def test_what_is_no_name_of_a_token_makes_none(door: Door, body: str) -> None:
-    assert door.told("--data-binary", body, "/tokens")[0] in (400, 413)
+NO_NAMES = ("", "[]", "{}", '{"name":1}', '{"name":"a b"}', '{"name":"' + "x" * 49 + '"}', "[" * 5000, '{"name":"a"}' + " " * 5000)
+
+
+def test_what_is_no_name_of_a_token_makes_none(door: Door) -> None:
+    for body in NO_NAMES:
+        assert door.told("--data-binary", body, "/tokens")[0] in (400, 413), body
     assert sqlite3.connect(f"{door.folder}/kept.db").execute("select count(*) from tokens").fetchone() == (0,)
 
 

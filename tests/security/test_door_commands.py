@@ -15,6 +15,7 @@ from typing import Any, Callable, Dict, List, Tuple
 import pytest
 
 from door_site import JOB, RESERVE, Door, limit
+from farm_door.rules import WISHES
 from served import wait_until
 
 CALM = """[limits]
@@ -39,12 +40,9 @@ def reserve(door: Door, body: str, *words: str, user: str = "ann") -> Tuple[int,
 
 # ---- the highest priority
 
-@pytest.fixture(scope="module")
-def says_all() -> Callable[[bytes, str], int]:
+def priority_in(body: bytes, kind: str) -> int:
     """The priority that farm-door reads in a body."""
-    from farm_door import rules
-
-    return lambda body, kind: rules.WISHES[kind](body).priority
+    return WISHES[kind](body).priority
 
 
 def test_a_user_has_a_highest_priority(make_door: Callable[..., Door]) -> None:
@@ -76,29 +74,28 @@ HIDDEN_RESERVATIONS = [
 
 
 @pytest.mark.parametrize("line", HIDDEN_JOBS)
-def test_no_writing_of_a_jobs_priority_hides_it(says_all: Callable[[bytes, str], int], line: str) -> None:
+def test_no_writing_of_a_jobs_priority_hides_it(line: str) -> None:
     for text in (f"{JOB_OF}{line}\n", f"{line}\r\n{JOB_OF}"):
-        assert says_all(text.encode(), "job") == 100, text
+        assert priority_in(text.encode(), "job") == 100, text
 
 
 @pytest.mark.parametrize("body", HIDDEN_RESERVATIONS, ids=range(len(HIDDEN_RESERVATIONS)))
-def test_no_writing_of_a_reservations_priority_hides_it(says_all: Callable[[bytes, str], int], body: str) -> None:
-    assert says_all(body.encode(), "reservation") == 100
+def test_no_writing_of_a_reservations_priority_hides_it(body: str) -> None:
+    assert priority_in(body.encode(), "reservation") == 100
 
 
 @pytest.mark.parametrize("body", [
     b"\xff\xfe", b"job_name = '\xff'", b"", b"x", b"[" * 60000, b"a." * 30000 + b"a = 1", b"a = " + b"[" * 60000,
 ], ids=range(7))
-def test_what_cant_be_read_counts_as_the_highest(says_all: Callable[[bytes, str], int], body: bytes) -> None:
-    assert says_all(body, "job") == says_all(body, "reservation") == 100
+def test_what_cant_be_read_counts_as_the_highest(body: bytes) -> None:
+    assert priority_in(body, "job") == priority_in(body, "reservation") == 100
 
 
-@pytest.mark.parametrize("line", ["x = 23:59:60", "x = 0000-01-01", "x = 1979-05-27T00:00:60Z"])
-def test_what_the_desk_reads_and_the_door_doesnt_counts_as_four_boards(make_door: Callable[..., Door], line: str) -> None:
+def test_what_the_desk_reads_and_the_door_doesnt_counts_as_four_boards(make_door: Callable[..., Door]) -> None:
     """The most that a job can want, or a job of four boards would count as one."""
     door = make_door("[limits]\nopen_jobs = 3\n")
-    said = door.told("--data-binary", f"{JOB_OF}{line}\n", "/jobs")
-    assert said == (429, {"code": 429, "text": "the limit of ann is 3 open jobs"})
+    for line in ("x = 23:59:60", "x = 0000-01-01", "x = 1979-05-27T00:00:60Z"):
+        assert door.told("--data-binary", f"{JOB_OF}{line}\n", "/jobs") == limit("the limit of ann is 3 open jobs"), line
     assert door.told("--data-binary", f"{JOB_OF}x = 23:59:59\n", "/jobs")[0] == 200
 
 
@@ -333,6 +330,7 @@ def test_what_nginx_never_asks_is_refused(door: Door) -> None:
 CLAIMS = [
     ["x-user: admin"], ["x-login: admin"], ["x-login: ann.admin"], ["x-what: tokens"], ["x-what: who"], ["x-farm-user: admin"],
     ["X_Login: admin"], ["x-login: admin", "x-user: admin", "x-what: command"],
+    ["x-login: ann.admin", "x-farm-user: admin"],
 ]
 
 

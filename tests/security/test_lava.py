@@ -2,28 +2,20 @@
 docs/setting-up.md adds to the unit. The board is emulated, by translated code."""
 from __future__ import annotations
 
-import os
 import subprocess
-from typing import Iterator
 
 import pytest
 
 from machine import Machine
 from machine_lab import PLACE, MachineLab
 from test_boards_run import DEVICE, ENVIRONMENT, LABGRID_BOOTS, Board, labgrid_job, lava_job, wants_way
+from test_boards_run import board_fixture  # noqa: F401
 
 pytestmark = [pytest.mark.xdist_group("machine"), pytest.mark.slow(40)]
 IMAGES = "/srv/images"
 # lava-run asks which way the machine reaches others.
 NETWORK = """ip link add lan type bridge && ip addr add 192.0.2.2/24 dev lan && ip link set lan up
 ip route add default via 192.0.2.1"""
-
-
-@pytest.fixture
-def board(folder: str) -> Iterator[Board]:
-    place = os.path.join(folder, "board")
-    os.mkdir(place)
-    yield Board(place)
 
 
 @pytest.fixture(scope="module")

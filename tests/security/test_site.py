@@ -2,21 +2,19 @@
 guessed, heads and bodies that never end, commands without end, and what nginx itself answers."""
 from __future__ import annotations
 
-import http.server
 import json
 import os
 import re
 import signal
-import ssl
 import threading
 import time
 import urllib.parse
-from typing import Callable, Dict, List, Tuple
+from typing import Callable, Dict, List
 
 import pytest
 
 from browser import Visit, browser_fixture, visit_fixture  # noqa: F401
-from nginx_site import HEADS, WORDS, Site, farm_fixture, line_to, raw, site_fixture  # noqa: F401
+from nginx_site import HEADS, WORDS, Site, farm_fixture, line_to, page_beside, raw, site_fixture  # noqa: F401
 from served import TOOLS, Farm, read, wait_until
 
 JSON = "application/json"
@@ -34,48 +32,19 @@ def with_login(site: Site) -> str:
 
 # ---- the page in a browser
 
-def framing(site: Site) -> http.server.ThreadingHTTPServer:
-    """A page at another port of the site's own host, which lays the site's page over itself."""
-    body = f'<!DOCTYPE html><iframe src="{site.server}/" width="900" height="800"></iframe>'.encode()
-
-    class Framing(http.server.BaseHTTPRequestHandler):
-        """It."""
-
-        def do_GET(self) -> None:
-            self.send_response(200)
-            self.send_header("content-type", "text/html")
-            self.send_header("content-length", str(len(body)))
-            self.end_headers()
-            self.wfile.write(body)
-
-        def log_message(self, format: str, *args: object) -> None:  # pylint: disable=redefined-builtin
-            pass
-
-    server = http.server.ThreadingHTTPServer(("127.0.0.1", 0), Framing)
-    trusted = ssl.create_default_context(ssl.Purpose.CLIENT_AUTH)
-    trusted.load_cert_chain(site.certificate, f"{site.folder}/farm.key")
-    server.socket = trusted.wrap_socket(server.socket, server_side=True)
-    threading.Thread(target=server.serve_forever, daemon=True).start()
-    return server
-
-
 @pytest.mark.xdist_group("page2")
 def test_no_page_of_another_port_has_the_page_in_its_frame(farm: Farm, site: Site, visit: Visit) -> None:
     """In a browser that keeps the login, with real clicks all over what is seen of it."""
     own = visit.open(with_login(site))
     wait_until("the page", lambda: "as of" in own.ask("document.getElementById('said').textContent"))
-    server = framing(site)
-    try:
-        foreign = visit.open(f"https://localhost:{server.server_address[1]}/", 900, 800)
+    with page_beside(site, f'<!DOCTYPE html><iframe src="{site.server}/" width="900" height="800"></iframe>') as place:
+        foreign = visit.open(place, 900, 800)
         time.sleep(1)
         frames = foreign.do("Page.getFrameTree")["frameTree"]["childFrames"]
         assert [it["frame"]["url"].partition(":")[0] for it in frames] == ["chrome-error"]
         for y in range(20, 800, 30):
             for x in (40, 200, 400, 600, 800):
                 foreign.click_at(x, y)
-    finally:
-        server.shutdown()
-        server.server_close()
     assert reserved(farm) == 0
 
 
@@ -162,30 +131,26 @@ def test_what_a_job_left_is_saved_and_shown_as_no_page_of_the_site(site: Site) -
     assert "content-disposition" not in site.got("/logs/1")[1]
 
 
-@pytest.mark.parametrize("name, kind", [("farm.css", "text/css"), ("farm.js", "text/javascript")])
-def test_the_pages_files_are_served_to_those_who_have_a_password(site: Site, name: str, kind: str) -> None:
-    status, fields, body = site.got(f"/page/{name}")
-    assert (status, fields["content-type"], fields["cache-control"]) == (200, f"{kind}; charset=utf-8", "no-cache")
-    assert body.decode() == read(f"{TOOLS}/page/{name}")
-    assert site.got(f"/page/{name}", user="")[0] == 401
+def test_the_pages_files_are_served_to_those_who_have_a_password(site: Site) -> None:
+    for name, kind in (("farm.css", "text/css"), ("farm.js", "text/javascript")):
+        status, fields, body = site.got(f"/page/{name}")
+        assert (status, fields["content-type"], fields["cache-control"]) == (200, f"{kind}; charset=utf-8", "no-cache"), name
+        assert body.decode() == read(f"{TOOLS}/page/{name}")
+        assert site.got(f"/page/{name}", user="")[0] == 401, name
 
 
-@pytest.mark.parametrize(
-    "request_line, fields, status",
-    [
-        ("POST /jobs HTTP/1.1", "transfer-encoding: gzip\r\n", 501),
-        ("TRACE / HTTP/1.1", "", 405),
-        ("GET / HTTP/9.9", "", 505),
-        ("GET /\x01 HTTP/1.1", "", 400),
-        ("GET / HTTP/1.1", "transfer-encoding: chunked\r\ncontent-length: 3\r\n", 400),
-    ],
+REFUSED = (
+    ("POST /jobs HTTP/1.1", "transfer-encoding: gzip\r\n", 501), ("TRACE / HTTP/1.1", "", 405), ("GET / HTTP/9.9", "", 505),
+    ("GET /\x01 HTTP/1.1", "", 400), ("GET / HTTP/1.1", "transfer-encoding: chunked\r\ncontent-length: 3\r\n", 400),
 )
-def test_what_nginx_refuses_itself_is_told_in_json(site: Site, request_line: str, fields: str, status: int) -> None:
-    said = raw(site, f"{request_line}\r\nhost: localhost\r\nconnection: close\r\n{fields}\r\n".encode("latin-1"))
-    head, _, body = said.partition(b"\r\n\r\n")
-    assert head.split()[1] == str(status).encode(), said
-    assert json.loads(body)["code"] == status
-    assert b"nginx/" not in head and b"<html" not in body
+
+
+def test_what_nginx_refuses_itself_is_told_in_json(site: Site) -> None:
+    for line, fields, status in REFUSED:
+        said = raw(site, f"{line}\r\nhost: localhost\r\nconnection: close\r\n{fields}\r\n".encode("latin-1"))
+        head, _, body = said.partition(b"\r\n\r\n")
+        assert head.split()[1] == str(status).encode() and json.loads(body)["code"] == status, said
+        assert b"nginx/" not in head and b"<html" not in body
 
 
 def test_a_lab_that_shuts_its_logs_serves_none(farm: Farm, make_site: Callable[..., Site]) -> None:
@@ -330,12 +295,6 @@ def test_two_thousand_reservations_at_once_leave_room_for_the_others(farm: Farm,
 
 # ---- heads and bodies that never end
 
-HALVES: List[Tuple[str, bytes]] = [
-    ("a half head", b"GET /queue HTTP/1.1\r\nhost: local"),
-    ("nothing", b""),
-]
-
-
 @pytest.fixture(name="hasty")
 def hasty_fixture(farm: Farm, make_site: Callable[..., Site]) -> Site:
     """A site with the example's own time for a head."""
@@ -343,12 +302,12 @@ def hasty_fixture(farm: Farm, make_site: Callable[..., Site]) -> Site:
 
 
 @pytest.mark.slow(12)
-@pytest.mark.parametrize("kind, sent", HALVES, ids=[it[0] for it in HALVES])
-def test_a_head_that_doesnt_end_is_closed_within_seconds(hasty: Site, kind: str, sent: bytes) -> None:
-    del kind
+def test_a_head_that_doesnt_end_is_closed_within_seconds(hasty: Site) -> None:
     began = time.monotonic()
-    said = raw(hasty, sent, 50)
-    assert not said.endswith(b"(open)") and time.monotonic() - began < 40
+    with line_to(hasty) as silent:
+        silent.settimeout(50)
+        assert not raw(hasty, b"GET /queue HTTP/1.1\r\nhost: local", 50).endswith(b"(open)")
+        assert silent.recv(1) == b"" and time.monotonic() - began < 40
 
 
 @pytest.mark.slow(12)

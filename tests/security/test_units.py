@@ -63,15 +63,6 @@ def lab(machine: Machine) -> MachineLab:
 
 
 @pytest.mark.xdist_group("machine")
-@pytest.mark.slow(20)
-def test_the_desk_the_dispatcher_and_a_job_work(lab: MachineLab) -> None:
-    assert lab.ran("echo said") == "said\n"
-    lab.machine.run("systemctl", "restart", "farm", "farm-dispatch")
-    lab.machine.wait("the desk", *lab.machine.curl("root", "/status"))
-    assert lab.ran("echo again") == "again\n"
-
-
-@pytest.mark.xdist_group("machine")
 @pytest.mark.parametrize(
     "user, may", [("nobody", False), ("ann", False), ("farm-watch", False), ("www-data", True), ("farm-metrics", True)]
 )

@@ -2,19 +2,23 @@
 from __future__ import annotations
 
 import base64
+import contextlib
+import functools
 import http.client
+import http.server
 import json
 import os
 import shutil
 import socket
 import ssl
 import subprocess
-import sys
-from typing import Any, Callable, Dict, List, Optional, Sequence, Tuple
+import tempfile
+import threading
+from typing import Any, Callable, Dict, Iterator, List, Optional, Sequence, Tuple
 
 import pytest
 
-from desks import at_ease
+from desks import starter
 from ports import free_port
 from served import STARTED, TOOLS, TOP, Farm, ends_with_us, environment, read, wait_until
 from wants import wants
@@ -56,10 +60,11 @@ class Site:
         self.folder, self.port = folder, free_port()
         self.server = f"https://localhost:{self.port}"
         self.certificate = os.path.join(folder, "farm.pem")
-        self.certify()
+        for name, text in certified().items():
+            write(folder, name, text, 0o600)
         lines = []
         for name, word in WORDS.items():
-            lines.append(f"{name}:{openssl('passwd', '-apr1', word).strip()}\n")
+            lines.append(f"{name}:{hashed(word)}\n")
             write(folder, name, f"{word}\n", 0o600)
         write(folder, "farm.htpasswd", "".join(lines), 0o644)
         write(folder, "nginx.conf", AROUND.format(folder=folder, site=self.text(farm, changes)), 0o644)
@@ -69,12 +74,6 @@ class Site:
         )
         STARTED.append(self.process)
         wait_until("nginx listens", lambda: self.curl("-o", "/dev/null", "/") != 7)
-
-    def certify(self) -> None:
-        """Makes a certificate of its own."""
-        name = ["-subj", "/CN=localhost", "-addext", "subjectAltName=DNS:localhost"]
-        key = ["-newkey", "ec", "-pkeyopt", "ec_paramgen_curve:prime256v1", "-nodes"]
-        openssl("req", "-x509", *name, *key, "-keyout", f"{self.folder}/farm.key", "-out", self.certificate)
 
     def text(self, farm: Farm, changes: Sequence[Tuple[str, str]]) -> str:
         """The example's site in this folder."""
@@ -159,12 +158,7 @@ class Site:
 
     def desk(self, *words: str, given: str = "", **more: str) -> Tuple[int, str, str]:
         """What the client comes to: its status, output and errors."""
-        ran = subprocess.run(
-            [sys.executable, os.path.join(TOOLS, "desk"), *words],
-            input=given, capture_output=True, text=True, timeout=300, check=False,
-            env=environment(**{**self.settings(), **more}),
-        )
-        return ran.returncode, ran.stdout, at_ease(ran.stderr)
+        return starter().call(words, environment(**{**self.settings(), **more}), given)
 
 
 def raw(site: Site, request: bytes, wait: float = 20) -> bytes:
@@ -188,9 +182,50 @@ def line_to(site: Site) -> ssl.SSLSocket:
     return trusted.wrap_socket(socket.create_connection(("127.0.0.1", site.port)), server_hostname="localhost")
 
 
+@contextlib.contextmanager
+def page_beside(site: Site, body: str, is_at_host: bool = True) -> Iterator[str]:
+    """Serves a page at another port of the site's own host, by TLS, or at another site. Gives its address."""
+
+    class Page(http.server.BaseHTTPRequestHandler):
+        def do_GET(self) -> None:
+            self.send_response(200)
+            self.send_header("content-type", "text/html")
+            self.send_header("content-length", str(len(body)))
+            self.end_headers()
+            self.wfile.write(body.encode())
+
+        def log_message(self, *_: object) -> None:
+            pass
+
+    with http.server.ThreadingHTTPServer(("127.0.0.1", 0), Page) as server:
+        if is_at_host:
+            trusted = ssl.create_default_context(ssl.Purpose.CLIENT_AUTH)
+            trusted.load_cert_chain(site.certificate, f"{site.folder}/farm.key")
+            server.socket = trusted.wrap_socket(server.socket, server_side=True)
+        threading.Thread(target=server.serve_forever, daemon=True).start()
+        yield f"{'https://localhost' if is_at_host else 'http://127.0.0.1'}:{server.server_address[1]}/"
+        server.shutdown()
+
+
 def login(user: Optional[str]) -> List[str]:
     """The words by which curl asks as a user."""
     return ["-u", f"{user}:{WORDS[user]}"] if user else []
+
+
+@functools.lru_cache(None)
+def certified() -> Dict[str, str]:
+    """The files of a certificate of localhost's, which all sites of a process have."""
+    name = ["-subj", "/CN=localhost", "-addext", "subjectAltName=DNS:localhost"]
+    key = ["-newkey", "ec", "-pkeyopt", "ec_paramgen_curve:prime256v1", "-nodes"]
+    with tempfile.TemporaryDirectory() as folder:
+        openssl("req", "-x509", *name, *key, "-keyout", f"{folder}/farm.key", "-out", f"{folder}/farm.pem")
+        return {it: read(f"{folder}/{it}") for it in ("farm.key", "farm.pem")}
+
+
+@functools.lru_cache(None)
+def hashed(word: str) -> str:
+    """A password as nginx's file has it."""
+    return openssl("passwd", "-apr1", word).strip()
 
 
 def openssl(*words: str) -> str:

@@ -89,6 +89,10 @@ JOB = "systemd-run --quiet --collect --pipe --wait --slice=farm-job.slice -p Dyn
 FILES = 'mkdir "/run/farm-jobs/in/$0" && (cd "/run/farm-jobs/in/$0" && touch job.toml boards boards.json env) && exec "$@"'
 
 
+# By which several sessions of a person go over one connection.
+SHARED = ("-o", "ControlMaster=auto", "-o", "ControlPath=/root/%C", "-o", "ControlPersist=60")
+
+
 class Tried(NamedTuple):
     """What came of a session that ended by itself."""
 
@@ -305,6 +309,14 @@ def lab_fixture(program: str, tmp_path_factory: pytest.TempPathFactory) -> Itera
     made = the_lab(program, tmp_path_factory)
     yield made
     made.give_back()
+
+
+def echoed(line: "subprocess.Popen[bytes]", said: bytes) -> bytes:
+    """Types into a session, and says what comes back, of as many bytes."""
+    assert line.stdin and line.stdout
+    line.stdin.write(said)
+    line.stdin.flush()
+    return line.stdout.read(len(said))
 
 
 def kill(pid: int, number: int = signal.SIGKILL) -> None:

@@ -48,12 +48,12 @@ class Lab:
         os.symlink(shutil.which("sleep") or "", self.sleep)
 
     def dispatch(
-        self, *words: str, command: Optional[str] = None, every: str = "0.3", server: str = "",
+        self, *words: str, command: Sequence[str] = (), every: str = "0.3", server: str = "",
         place: str = "", **more: str
     ) -> Tool:
         """A dispatcher that runs, with more in its environment."""
         head = ["farm-dispatch", "--server", server or self.farm.server, "--folder", place or self.place]
-        all_words = [*head, "--every", every, *words, command or self.command]
+        all_words = [*head, "--every", every, *words, *(command or [self.command])]
         return Tool(all_words, self.folder, **{"RUNS": self.runs, **more})
 
     def patched(self, patch: str, *words: str, server: str = "", every: str = "0.3") -> "subprocess.Popen[bytes]":

@@ -10,12 +10,12 @@ import subprocess
 import sys
 import threading
 import time
-from typing import Any, Callable, Iterator, Sequence
+from typing import Any, Callable, Iterator
 
 import pytest
 
 import access_lab
-from access_lab import ECHO, PLACE, Lab, kill, lab_fixture, until
+from access_lab import ECHO, PLACE, SHARED, Lab, echoed, kill, lab_fixture, until
 from machine import PORT
 from ports import free_port
 from served import PATIENCE, wait_until
@@ -53,11 +53,7 @@ def configured(lab: Lab) -> Iterator[Callable[[str], None]]:
 def test_the_holder_gets_the_console_and_the_board_the_bytes(lab: Lab, held: Callable[..., int]) -> None:
     held()
     before = len(lab.text("b1"))
-    line = lab.begin("ann", "b1", "console")
-    assert line.stdin and line.stdout
-    line.stdin.write(b"typed")
-    line.stdin.flush()
-    assert line.stdout.read(5) == b"typed"
+    assert echoed(lab.begin("ann", "b1", "console"), b"typed") == b"typed"
     assert lab.text("b1")[before:] == b"typed"
 
 
@@ -70,22 +66,19 @@ def test_another_s_board_is_refused_and_it_is_said_who_has_it(lab: Lab, held: Ca
     assert lab.text("b1") == before
 
 
-@pytest.mark.parametrize("person, words, status, said", [
-    ("bob", "b1 say x", NOT_YOURS, ""),
-    ("bob", "b1 power on", NOT_YOURS, ""),
-    ("eve", "b1 say x", NOT_YOURS, ""),
-    ("eve", "b1 say x --as-admin", 0, "x\n"),
-    ("bob", "b1 say x --as-admin", NOT_YOURS, ""),
-    ("ann", "b1 say x", 0, "x\n"),
-    ("ann", "b9 say x", NOT_YOURS, ""),
-    ("ann", "b2 say x", NOT_YOURS, ""),
-])
-def test_who_is_let_in(
-    lab: Lab, held: Callable[..., int], person: str, words: str, status: int, said: str
-) -> None:
+LET_IN = (
+    ("bob", "b1 say x", NOT_YOURS, ""), ("bob", "b1 power on", NOT_YOURS, ""), ("eve", "b1 say x", NOT_YOURS, ""),
+    ("eve", "b1 say x --as-admin", 0, "x\n"), ("bob", "b1 say x --as-admin", NOT_YOURS, ""),
+    ("ann", "b1 say x --help", 0, "x --help\n"), ("ann", "b9 say x", NOT_YOURS, ""), ("ann", "b2 say x", NOT_YOURS, ""),
+    ("stranger", "b1 say x", NO_SSH, ""),
+)
+
+
+def test_who_is_let_in(lab: Lab, held: Callable[..., int]) -> None:
     held()
-    tried = lab.session(person, words)
-    assert (tried.status, tried.output.decode()) == (status, said), tried.errors
+    for person, words, status, said in LET_IN:
+        tried = lab.session(person, words)
+        assert (tried.status, tried.output.decode()) == (status, said), (person, words, tried)
 
 
 def test_an_admin_at_a_free_board_is_out_once_somebody_has_it(lab: Lab, held: Callable[..., int]) -> None:
@@ -95,25 +88,14 @@ def test_an_admin_at_a_free_board_is_out_once_somebody_has_it(lab: Lab, held: Ca
     assert line.wait(OUT) == LOST
 
 
-def test_a_stranger_s_key_opens_nothing(lab: Lab, held: Callable[..., int]) -> None:
-    held()
-    assert lab.session("stranger", "b1", "say", "x").status == NO_SSH
-
-
 def test_a_key_of_two_people_and_one_taken_away_are_nobody_s(lab: Lab, held: Callable[..., int]) -> None:
     """Also over a connection that was made before."""
     held()
-    master = ["-o", "ControlMaster=auto", "-o", "ControlPath=/root/c", "-o", "ControlPersist=30"]
-    assert lab.session("ann", "b1", "say", "x", options=master).output == b"x\n"
-    key = "/etc/farm/keys/ann"
-    lab.machine.run("mv", key, "/root/ann")
-    gone = lab.session("ann", "b1", "say", "x", options=master)
-    lab.machine.run("mv", "/root/ann", key)
-    lab.machine.run("cp", key, "/etc/farm/keys/mallory")
-    two = lab.session("ann", "b1", "say", "x", options=master)
-    lab.machine.run("rm", "/etc/farm/keys/mallory")
-    back = lab.session("ann", "b1", "say", "x", options=master)
-    assert (gone.status, two.status, back.output) == (NOT_YOURS, NOT_YOURS, b"x\n")
+    key, statuses = "/etc/farm/keys/ann", []
+    for words in ("true", f"mv {key} /root/ann", f"mv /root/ann {key}; cp {key} /etc/farm/keys/mallory", "rm /etc/farm/keys/mallory"):
+        lab.machine.run("sh", "-c", words)
+        statuses.append(lab.session("ann", "b1", "say", "x", options=SHARED).status)
+    assert statuses == [0, NOT_YOURS, NOT_YOURS, 0]
 
 
 # ---- strangers' words and options
@@ -123,39 +105,25 @@ STRANGE = [
     "b1;sh", "b1 say $(id)", "b1 say `id`", "b1 say x;id", "b1 say x|id", "b1 say x\nid", "../b1", "b1/../b1 console",
     "b1 -oProxyCommand=id", "b1 after", "b1 console x", "b1 console --watch x", "b1 tcp 22", "b1 tcp -1",
     "b1 tcp 99999999999999999999", "b1 power ../on", "", "b1 say \x1b[2J", "b1  say", "b1 say " + "x" * 3000, "sh",
-    "scp -t /tmp", "internal-sftp", "/usr/lib/openssh/sftp-server", "rsync --server . /", "b1 --as-admin x", "b1 status",
+    "b1 lacking", "scp -t /tmp", "internal-sftp", "/usr/lib/openssh/sftp-server", "rsync --server . /", "b1 --as-admin x", "b1 status",
     "b1 env x", "b1 devices", "b1 tidy",
 ]
 
 
-@pytest.mark.parametrize("words", STRANGE, ids=range(len(STRANGE)))
-def test_strange_words_run_nothing(lab: Lab, held: Callable[..., int], words: str) -> None:
-    """All over one connection."""
+def test_strange_words_run_nothing(lab: Lab, held: Callable[..., int]) -> None:
     held()
     before = lab.text("b1")
-    master = ["-o", "ControlMaster=auto", "-o", "ControlPath=/root/s", "-o", "ControlPersist=60"]
-    tried = lab.session("ann", words, options=master)
-    assert tried.status in (BAD_WORDS, NOT_YOURS), tried
-    assert tried.output == b""
-    assert re.fullmatch("farm-access: [ -~]+", tried.errors)
+    for words in STRANGE:
+        tried = lab.session("ann", words, options=SHARED)
+        assert tried.status in (BAD_WORDS, NOT_YOURS) and tried.output == b"", (words, tried)
+        assert re.fullmatch("farm-access: [ -~]+", tried.errors), (words, tried)
     assert lab.text("b1") == before
 
 
-def test_words_to_an_own_way_are_words_to_it(lab: Lab, held: Callable[..., int]) -> None:
+def test_a_forged_name_is_no_account(lab: Lab, held: Callable[..., int]) -> None:
     held()
-    assert lab.session("ann", "b1 say x --help").output == b"x --help\n"
-
-
-def test_a_way_that_lacks_a_tag_is_refused(lab: Lab, held: Callable[..., int]) -> None:
-    held(board="b2")
-    tried = lab.session("ann", "b2 lacking")
-    assert (tried.status, tried.errors) == (BAD_WORDS, "farm-access: lacking: this board has no tag flasher=..")
-
-
-@pytest.mark.parametrize("account", ["bob", "root", "daemon"])
-def test_a_forged_name_is_no_account(lab: Lab, held: Callable[..., int], account: str) -> None:
-    held()
-    assert lab.try_words(lab.ssh("ann", "b1", "say", "x", account=account)).status == NO_SSH
+    for account in ("bob", "root", "daemon"):
+        assert lab.try_words(lab.ssh("ann", "b1", "say", "x", account=account)).status == NO_SSH, account
 
 
 def test_a_client_s_environment_reaches_nothing(lab: Lab, held: Callable[..., int]) -> None:
@@ -169,16 +137,12 @@ def test_a_client_s_environment_reaches_nothing(lab: Lab, held: Callable[..., in
     assert "PATH=/usr/local/bin:/usr/bin:/bin" in tried.output.decode().splitlines()
 
 
-@pytest.mark.parametrize("options", [
-    ["-W", "127.0.0.1:{desk}"],
-    ["-N", "-o", "ExitOnForwardFailure=yes", "-R", "{free}:127.0.0.1:{desk}"],
-    ["-N", "-o", "ExitOnForwardFailure=yes", "-w", "0:0"],
-], ids=["-W", "-R", "-w"])
-def test_nothing_is_forwarded(lab: Lab, held: Callable[..., int], options: Sequence[str]) -> None:
+def test_nothing_is_forwarded(lab: Lab, held: Callable[..., int]) -> None:
     held()
-    ports = {"desk": PORT, "free": free_port()}
-    tried = lab.session("ann", options=[it.format(**ports) for it in options])
-    assert (tried.status, tried.output) == (NO_SSH, b"")
+    desk, fails = f"127.0.0.1:{PORT}", ["-N", "-o", "ExitOnForwardFailure=yes"]
+    for options in (["-W", desk], [*fails, "-R", f"{free_port()}:{desk}"], [*fails, "-w", "0:0"]):
+        tried = lab.session("ann", options=options)
+        assert (tried.status, tried.output) == (NO_SSH, b""), options
 
 
 @pytest.mark.parametrize("option", ["-L", "-D"])
@@ -194,15 +158,12 @@ def test_a_port_at_the_client_leads_nowhere(lab: Lab, held: Callable[..., int], 
     assert (said.returncode != 0, said.stdout) == (True, "")
 
 
-@pytest.mark.parametrize("tool", [["scp", "-O"], ["scp"], ["sftp"]], ids=" ".join)
-def test_no_file_is_copied(lab: Lab, held: Callable[..., int], tool: Sequence[str]) -> None:
+def test_no_file_is_copied(lab: Lab, held: Callable[..., int]) -> None:
     held()
-    mark = "/root/copied"
-    options = ["-P", "2222", *lab.ssh("ann")[5:-1]]
-    place = "board@127.0.0.1:"
-    words = [f"{place}/etc/passwd", mark] if tool[0] == "sftp" else ["/etc/hostname", f"{place}{mark}"]
-    assert lab.try_words([*tool, *options, *words]).status != 0
-    assert not os.path.exists(lab.there(mark))
+    mark, place, options = "/root/copied", "board@127.0.0.1:", ["-P", "2222", *lab.ssh("ann")[5:-1]]
+    sent, got = ["/etc/hostname", f"{place}{mark}"], [f"{place}/etc/passwd", mark]
+    for words in (["scp", "-O", *options, *sent], ["scp", *options, *sent], ["sftp", *options, *got]):
+        assert lab.try_words(words).status != 0 and not os.path.exists(lab.there(mark)), words
 
 
 def test_no_subsystem_and_no_shell_on_a_terminal(lab: Lab, held: Callable[..., int]) -> None:
@@ -229,15 +190,11 @@ def test_sshd_takes_its_configuration(lab: Lab) -> None:
 # ---- ways
 
 
-def test_power_is_cycled_under_the_lock(lab: Lab, held: Callable[..., int]) -> None:
+def test_power_is_cycled_and_a_port_of_the_board_s_answers(lab: Lab, held: Callable[..., int]) -> None:
     """pdudaemon answers before it acts, so both are done when the session ends."""
     held()
     assert lab.session("ann", "b1", "power", "cycle").status == 0
     wait_until("both", lambda: lab.read(f"{PLACE}/power").splitlines()[-2:] == ["3 off", "3 on"])
-
-
-def test_a_port_of_the_board_s(lab: Lab, held: Callable[..., int]) -> None:
-    held()
     assert lab.session("ann", "b1", "tcp", str(ECHO), said=b"hello\n").output == b"echo hello\n"
 
 
@@ -249,33 +206,23 @@ def test_a_console_s_bytes_are_kept_for_the_owner(lab: Lab, held: Callable[..., 
     held("ann", "b2")
     odd = b"zwei \xff\x00 \xc3\xa4\r\n"
     line = lab.begin("ann", "b2", "console")
-    assert line.stdin and line.stdout
-    line.stdin.write(odd)
-    line.stdin.flush()
-    assert line.stdout.read(len(odd)) == odd
+    assert echoed(line, odd) == odd
     line.kill()
-    own = lab.session("ann", "b2", "console", "--log")
     another = lab.session("bob", "b2", "console", "--log")
-    admin = lab.session("eve", "b2", "console", "--log", "--as-admin")
-    assert own.output.endswith(odd)
     assert (another.status, another.output) == (NOT_YOURS, b"")
-    assert admin.output.endswith(odd)
+    for words in (("ann", "b2", "console", "--log"), ("eve", "b2", "console", "--log", "--as-admin")):
+        assert lab.session(*words).output.endswith(odd), words
 
 
 def test_a_second_session_watches_the_console(lab: Lab, held: Callable[..., int]) -> None:
     number = held("ann", "b2")
     first = lab.begin("ann", "b2", "console")
-    assert first.stdin and first.stdout
-    first.stdin.write(b"one")
-    first.stdin.flush()
-    assert first.stdout.read(3) == b"one"
+    assert echoed(first, b"one") == b"one"
     busy = lab.session("ann", "b2", "console")
     assert busy.status == NOT_YOURS and "--watch" in busy.errors
     second = lab.begin("ann", "b2", "console", "--watch")
     assert second.stdout and second.stdout.read(3) == b"one"
-    first.stdin.write(b"two")
-    first.stdin.flush()
-    assert second.stdout.read(3) == b"two"
+    assert echoed(first, b"two") == second.stdout.read(3) == b"two"
     lab.cancel("ann", number)
     assert (first.wait(OUT), second.wait(OUT)) == (LOST, LOST)
 
@@ -439,9 +386,12 @@ def test_who_comes_next_ends_what_is_left_where_there_is_no_guard(lab: Lab, held
         lab.machine.run("systemctl", "start", "farm-access-guard")
 
 
-def test_while_the_desk_is_down_a_session_goes_on_and_none_begins(lab: Lab, held: Callable[..., int]) -> None:
+def test_while_the_desk_hangs_or_is_down_a_session_goes_on_and_none_begins(lab: Lab, held: Callable[..., int]) -> None:
     number = held("ann", "b2")
     writer(lab)
+    lab.machine.run("systemctl", "kill", "--signal=STOP", "farm")
+    hangs = still_writes(lab, time.time() + 3)
+    lab.machine.run("systemctl", "kill", "--signal=CONT", "farm")
     lab.machine.run("systemctl", "stop", "farm")
     goes_on = still_writes(lab, time.time() + 3)
     tried = lab.session("ann", "b2", "say", "x")
@@ -449,31 +399,20 @@ def test_while_the_desk_is_down_a_session_goes_on_and_none_begins(lab: Lab, held
     time.sleep(2)
     is_there = begun.poll() is None
     lab.machine.serve()
-    assert goes_on
+    assert hangs and goes_on
     assert (tried.status, tried.output) == (FAULT, b"")
     assert (begun.communicate(timeout=120)[0], is_there) == (b"x\n", True), "one waits for a desk that starts"
     ends_in_time(lab, number)
 
 
-def test_while_the_desk_hangs_a_session_goes_on(lab: Lab, held: Callable[..., int]) -> None:
-    number = held("ann", "b2")
-    writer(lab)
-    lab.machine.run("systemctl", "kill", "--signal=STOP", "farm")
-    goes_on = still_writes(lab, time.time() + 3)
-    lab.machine.run("systemctl", "kill", "--signal=CONT", "farm")
-    assert goes_on
-    ends_in_time(lab, number)
-
-
 def test_a_shared_connection_ends_its_sessions_not_itself(lab: Lab, held: Callable[..., int]) -> None:
-    master = ["-o", "ControlMaster=auto", "-o", "ControlPath=/root/d", "-o", "ControlPersist=30"]
     number = held("ann", "b2")
-    lab.begin("ann", "b2", "sleep", options=master)
+    lab.begin("ann", "b2", "sleep", options=SHARED)
     lab.running("b2", "sleep")
-    assert lab.session("ann", "b2", "say", "x", options=master).output == b"x\n"
+    assert lab.session("ann", "b2", "say", "x", options=SHARED).output == b"x\n"
     lab.cancel("ann", number)
     assert until(lambda: not lab.units()) < OUT
-    assert lab.session("ann", "b2", "say", "x", options=master).status == NOT_YOURS
+    assert lab.session("ann", "b2", "say", "x", options=SHARED).status == NOT_YOURS
 
 
 def test_a_console_on_a_terminal_ends_with_its_hold(lab: Lab, held: Callable[..., int]) -> None:
@@ -499,9 +438,7 @@ def test_ctrl_c_reaches_a_way_of_the_lab_s_own(lab: Lab, held: Callable[..., int
     held("ann", "b2")
     line = lab.begin("ann", "b2", "sleep", options=["-tt"])
     lab.running("b2", "sleep")
-    assert line.stdin
-    line.stdin.write(b"\x03")
-    line.stdin.flush()
+    echoed(line, b"\x03")
     assert line.wait(OUT) == 128 + signal.SIGINT
 
 

@@ -8,7 +8,7 @@ from typing import Any, List
 import pytest
 
 import access_lab
-from access_lab import ECHO, PLACE, Lab, lab_fixture, until
+from access_lab import ECHO, PLACE, Lab, echoed, lab_fixture, until
 from machine import PORT
 from served import PATIENCE, wait_until
 
@@ -67,10 +67,7 @@ def test_ways_and_power_and_console(lab: Lab) -> None:
     assert desk(lab, "power", "b1", "cycle").status == 0
     wait_until("both", lambda: lab.read(f"{PLACE}/power").splitlines()[-2:] == ["3 off", "3 on"])
     line = begun(lab, "console", "b1")
-    assert line.stdin and line.stdout
-    line.stdin.write(b"hello")
-    line.stdin.flush()
-    assert line.stdout.read(5) == b"hello"
+    assert echoed(line, b"hello") == b"hello"
     line.kill()
     assert desk(lab, "console", "b1", "--log").output == b"hello"
 
@@ -84,12 +81,11 @@ def test_ssh_goes_to_the_board_s_own_port(lab: Lab) -> None:
     assert tried.status == 255 and "127.0.0.1:22: " in tried.errors, tried
 
 
-@pytest.mark.parametrize("words", [("console", "b1"), ("power", "b1", "on"), ("ssh", "b1", "true")])
-def test_a_board_that_isn_t_yours(lab: Lab, words: Any) -> None:
+def test_a_board_that_isn_t_yours(lab: Lab) -> None:
     lab.reserve("bob", "b1")
-    tried = desk(lab, *words)
-    assert tried.status == (255 if words[0] == "ssh" else NOT_YOURS)
-    assert "b1 isn't yours now" in tried.errors
+    for words in (("console", "b1"), ("power", "b1", "on"), ("ssh", "b1", "true")):
+        tried = desk(lab, *words)
+        assert tried.status == (255 if words[0] == "ssh" else NOT_YOURS) and "b1 isn't yours now" in tried.errors, tried
 
 
 def test_console_reserve_gets_a_board_and_gives_it_back(lab: Lab) -> None:

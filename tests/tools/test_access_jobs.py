@@ -177,17 +177,6 @@ def test_a_job_s_ways_are_its_own_boards_alone(lab: Lab) -> None:
     ]
 
 
-def test_a_group_s_boards_are_all_its_first_job_s(lab: Lab) -> None:
-    roles = "".join(f"[roles.{it}]\ncount = 1\ndevice_type = 'bbb'\ntags = ['name={it}']\n" for it in ("b1", "b2"))
-    text = f"job_name = 'g'\n{roles}"
-    told = lab.tell("ann", "/jobs", text)
-    number = int(told["number"])
-    until(lambda: lab.tell("dispatcher", "/pass") and lab.look(f"/jobs/{number}")["state"] == "Scheduled")
-    lab.tell("dispatcher", f"/jobs/{number}/start")
-    said = [lab.try_words(lab.job(number, *WAY, it, "say", it)).output for it in ("b1", "b2", "b3")]
-    assert said == [b"b1\n", b"b2\n", b""]
-
-
 def test_what_is_in_no_job_s_unit_is_no_job(lab: Lab) -> None:
     """Nor is a job whose number another has by now, or whose boards were given on."""
     number = lab.submit("b2")

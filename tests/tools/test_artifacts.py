@@ -6,8 +6,6 @@ import asyncio
 import json
 import os
 import pathlib
-import shutil
-import signal
 from typing import Any, Dict, List
 
 import pytest
@@ -141,66 +139,3 @@ def test_the_boards_are_given_back_before_and_a_kill_is_made_up_for(lab: Lab) ->
     assert line_of(lab, number)["tests"] == TESTS
     lab.settled(number)
     assert kept(lab) == ["1"]
-
-
-def test_a_collector_that_fails_keeps_no_line_waiting(lab: Lab) -> None:
-    fails = "from farm_dispatch import artifacts\ndef fails(*words):\n    raise OSError('it broke')\nartifacts.Collectors._kept = fails"
-    dispatcher = lab.patched(fails)
-    number = lab.farm.submit(lab.script(LEAVES))
-    row = line_of(lab, number)
-    assert (row["outcome"], "tests" in row, kept(lab)) == ("Complete", False, [])
-    assert "what it left in out isn't kept: it broke" in desk(lab.farm, "--history", lab.place, "log", "1")[1]
-    dispatcher.send_signal(signal.SIGTERM)
-    dispatcher.wait()
-
-
-def test_bounds_are_settings(lab: Lab) -> None:
-    lab.dispatch("--artifact-limit", "9", "--artifacts-limit", "1 kB", "--artifact-count", "3")
-    number = lab.farm.submit(lab.script(LEAVES))
-    row = line_of(lab, number)
-    assert row["artifacts"] == {"files": 1, "bytes": 8, "left_out": 2}
-    assert json.loads(desk(lab.farm, "--history", lab.place, "--json", "artifacts", "1")[1])["left_out"][0] == {
-        "name": "junit.xml", "why": "larger than 9 bytes",
-    }
-
-
-def test_they_go_with_their_log(lab: Lab) -> None:
-    """Of a job that ended longer ago than logs are kept; what a kill left of others goes too."""
-    dispatcher = lab.dispatch("--keep-logs", "1 hour")
-    old, new = lab.farm.submit(lab.script(LEAVES)), lab.farm.submit(lab.script(LEAVES))
-    for number in (old, new):
-        lab.settled(number)
-    lab.stops(dispatcher)
-    for it in ("artifacts/1", "logs/1"):
-        os.utime(os.path.join(lab.place, it), (0, 0))
-    os.mkdir(os.path.join(lab.place, "artifacts", "old-1-0123456789abcdef"))
-    os.mkdir(os.path.join(lab.place, "artifacts", "new-9"))
-    lab.dispatch("--keep-logs", "1 hour")
-    wait_until("they are gone", lambda: kept(lab) == ["2"])
-    assert os.listdir(os.path.join(lab.place, "logs")) == ["2"]
-
-
-def test_a_list_that_a_server_made_up_writes_nothing_beyond_the_folder(lab: Lab, tmp_path: pathlib.Path) -> None:
-    lab.dispatch()
-    number = lab.farm.submit(lab.script(LEAVES))
-    line_of(lab, number)
-    place = os.path.join(lab.place, "artifacts", "1")
-    file = os.path.join(place, "index.json")
-    with open(file, encoding="utf-8") as opened:
-        index = json.load(opened)
-    to, past = str(tmp_path / "to"), ("--history", lab.place, "artifacts", "1")
-    for name in ("../up", "/etc/x", "a/../../up"):
-        index["files"][0]["name"] = name
-        with open(file, "w", encoding="utf-8") as opened:
-            json.dump(index, opened)
-        status, said, errors = desk(lab.farm, *past, "--to", to)
-        assert (status, said) == (4, "") and "names what is no artifact" in errors
-    assert not (tmp_path / "up").exists() and not (tmp_path / "to").exists()
-    index["files"][0].update(name="more", size=3)
-    with open(file, "w", encoding="utf-8") as opened:
-        json.dump(index, opened)
-    status, _, errors = desk(lab.farm, *past, "more", "--to", to)
-    assert status == 4 and "more than 3 bytes" in errors and not (tmp_path / "to/more").exists()
-    shutil.rmtree(place)
-    os.symlink("/nonexistent", place)
-    assert desk(lab.farm, *past)[0] == 3

@@ -1,7 +1,6 @@
 """docs/boards.md: each file and each command of it, the hardware aside; its emulated board by a real qemu."""
 from __future__ import annotations
 
-import gzip
 import json
 import os
 import re
@@ -17,7 +16,7 @@ import access_lab
 from access_lab import UNITS, Lab, lab_fixture, until
 from farm_access import site
 from fizgruk import toml_text
-from kernels import kernel
+from kernels import kernel, make_initramfs
 from ports import free_port
 from served import STARTED, TOOLS, TOP, wait_until
 from test_access_desk import begun, desk
@@ -193,7 +192,10 @@ def virtual_fixture(lab: Lab, tmp_path_factory: pytest.TempPathFactory) -> Itera
         lab.tell("admin", "/boards", {"name": "virt-1", "type": "virtual", "tags": ["virtual"]})
         lab.tell("admin", "/boards/virt-1/health", {"health": "Good"})
         machine.run("mkdir", "-p", "/srv/virt")
-        make_images(str(tmp_path_factory.mktemp("virt")), lab.there("/srv/virt"))
+        images = lab.there("/srv/virt")
+        shutil.copy(kernel(), f"{images}/kernel")
+        make_initramfs(str(tmp_path_factory.mktemp("virt")), INIT, f"{images}/initramfs")
+        machine.run("chmod", "644", "/srv/virt/kernel", "/srv/virt/initramfs")
         with open(os.path.join(TOP, "examples/qemu-power"), encoding="utf-8") as file:
             machine.write("/usr/local/bin/qemu-power", file.read(), 0o755)
         machine.write("/etc/systemd/system/virt@.service", blocks("ini")[0])
@@ -205,23 +207,6 @@ def virtual_fixture(lab: Lab, tmp_path_factory: pytest.TempPathFactory) -> Itera
     machine.run("systemctl", "stop", "virt@virt-1")
     machine.write("/etc/farm/access.toml", access_lab.WAYS)
     machine.run("systemctl", "restart", *UNITS)
-
-
-def make_images(folder: str, to: str) -> None:
-    """A kernel, and an initramfs with busybox's shell."""
-    shutil.copy(kernel(), os.path.join(to, "kernel"))
-    for name in ("bin", "proc", "sys", "dev"):
-        os.makedirs(os.path.join(folder, name))
-    shutil.copy(str(shutil.which("busybox")), os.path.join(folder, "bin"))
-    with open(os.path.join(folder, "init"), "w", encoding="utf-8") as file:
-        file.write(INIT)
-    os.chmod(os.path.join(folder, "init"), 0o755)
-    names = "".join(f"{it}\n" for it in ("init", "bin", "bin/busybox", "proc", "sys", "dev"))
-    packed = subprocess.run(["cpio", "-o", "-H", "newc", "--quiet"], input=names.encode(), cwd=folder, check=True, capture_output=True)
-    with gzip.open(os.path.join(to, "initramfs"), "wb") as zipped:
-        zipped.write(packed.stdout)
-    for name in ("kernel", "initramfs"):
-        os.chmod(os.path.join(to, name), 0o644)
 
 
 def test_check_says_of_each_board_which_way_answers(virtual: Lab) -> None:

@@ -9,19 +9,21 @@ from __future__ import annotations
 import contextlib
 import functools
 import glob
-import gzip
 import json
 import os
 import runpy
 import shutil
 import signal
 import subprocess
-from typing import Callable, Dict, Iterator, List, NamedTuple, Tuple
+from typing import Callable, Dict, Iterator, List, NamedTuple, Sequence, Tuple
 
 import pytest
 
-from kernels import kernel
-from served import TOP, Farm, Tool, read, wait_until
+import dispatch_lab
+import served
+from kernels import kernel, make_initramfs
+from served import TOP, read, wait_until
+from test_dispatch_commands import ran
 from wants import DEBIANS, lacks, wants
 
 PROMPT = "board:/# "
@@ -129,19 +131,10 @@ class Board:
         wants("qemu-system-x86_64", "busybox", "cpio")
         self.kernel = kernel()
         self.initramfs = os.path.join(folder, "initramfs.gz")
-        self.qemu, busybox = (str(shutil.which(it)) for it in ("qemu-system-x86_64", "busybox"))
+        self.qemu = str(shutil.which("qemu-system-x86_64"))
         # of its own, by which its processes are found
         self.name = f"board-{os.getpid()}-{os.path.basename(folder)}"
-        root = os.path.join(folder, "root")
-        for name in ("bin", "proc", "sys", "dev"):
-            os.makedirs(os.path.join(root, name))
-        shutil.copy(busybox, os.path.join(root, "bin", "busybox"))
-        write(os.path.join(root, "init"), INIT, 0o755)
-        names = "".join(f"{it}\n" for it in ("init", "bin", "bin/busybox", "proc", "sys", "dev"))
-        words = ["cpio", "-o", "-H", "newc", "--quiet"]
-        packed = subprocess.run(words, input=names.encode(), cwd=root, check=True, capture_output=True)
-        with gzip.open(self.initramfs, "wb", compresslevel=1) as file:
-            file.write(packed.stdout)
+        make_initramfs(os.path.join(folder, "root"), INIT, self.initramfs)
 
     def fill(self, text: str) -> str:
         """A text with the board's files in the places of their names."""
@@ -160,8 +153,8 @@ class Board:
             return False
 
 
-@pytest.fixture
-def board(folder: str) -> Iterator[Board]:
+@pytest.fixture(name="board")
+def board_fixture(folder: str) -> Iterator[Board]:
     place = os.path.join(folder, "board")
     os.mkdir(place)
     made = Board(place)
@@ -195,7 +188,6 @@ def lava_job(board: Board, append: str = "", kernel: str = "", waited: str = PRO
 
 def labgrid_jobs(board: Board, gone: str) -> Dict[str, Job]:
     return {
-        "boots": Job(labgrid_job(board, LABGRID_BOOTS), "Complete", "the board is up"),
         "panics": Job(labgrid_job(board, LABGRID_WATCHES, "falls"), "Incomplete", "Kernel panic"),
         "has no image": Job(labgrid_job(board, LABGRID_BOOTS, kernel=gone), "Infra", f"isn't there: {gone}"),
         "stays": Job(labgrid_job(board, LABGRID_STAYS), "Canceled", ""),
@@ -205,7 +197,6 @@ def labgrid_jobs(board: Board, gone: str) -> Dict[str, Job]:
 def lava_jobs(board: Board, gone: str) -> Dict[str, Job]:
     missing = f"Image file '{gone}' does not exist"
     return {
-        "boots": Job(lava_job(board), "Complete", "the board is up"),
         "panics": Job(lava_job(board, "falls"), "Incomplete", "Kernel panic"),
         "has no image": Job(lava_job(board, kernel=gone), "Infra", missing),
         "stays": Job(lava_job(board, waited="never said"), "Canceled", ""),
@@ -241,63 +232,60 @@ def wants_way(way: str) -> None:
             lacks("no right of root, which lava-run wants")
 
 
-class Lab:
-    """A farm of one board and its dispatcher, which drives the board by a way."""
+class Lab(dispatch_lab.Lab):
+    """A farm whose dispatcher drives the board by a way."""
 
-    def __init__(self, way: str, board: Board, farm: Farm, start_tool: Callable[..., Tool], folder: str):
-        self.board, self.farm, self.folder = board, farm, os.path.join(folder, "dispatch")
-        of_board = os.path.join(folder, "of_board")
-        os.makedirs(of_board, exist_ok=True)
-        if not os.path.exists(os.path.join(of_board, WAYS[way].file)):
-            write(os.path.join(of_board, WAYS[way].file), board.fill(WAYS[way].text))
-        words = ["--server", farm.server, "--folder", self.folder, "--every", "1", "--grace", "60"]
-        command = os.path.join(TOP, "examples", f"run-job-{way}")
-        self.dispatcher = start_tool("farm-dispatch", *words, command, of_board)
+    def __init__(self, way: str, board: Board, program: str, folder: str, boards: Sequence[served.Board] = (("q1", "qemu", []),)):
+        wants_way(way)
+        super().__init__(program, folder, boards)
+        self.board, self.way, self.of_board = board, way, os.path.join(folder, "of_board")
+        os.mkdir(self.of_board)
+
+    def begin(self, files: Dict[str, str]) -> None:
+        """Starts the dispatcher with these files of the board."""
+        for name, text in files.items():
+            write(os.path.join(self.of_board, name), self.board.fill(text))
+        command = os.path.join(TOP, "examples", f"run-job-{self.way}")
+        self.dispatcher = self.dispatch("--grace", "60", every="1", command=[command, self.of_board])
 
     def submit(self, text: str) -> None:
+        self.begin({WAYS[self.way].file: WAYS[self.way].text})
         whole = f"job_name = 'boots'\ndevice_type = 'qemu'\n{text}[timeouts]\njob = '15 minutes'\n"
         assert self.farm.tell("ann", "/jobs", whole.encode())["number"] == 1
 
-    def log(self) -> str:
-        return read(os.path.join(self.folder, "logs", "1"))
-
-    def place(self) -> str:
+    def work(self) -> str:
         """The job's folder, while it is there."""
-        (found,) = glob.glob(os.path.join(self.folder, "jobs", "farm-job-*-1-*", "work"))
+        (found,) = glob.glob(os.path.join(self.place, "jobs", "farm-job-*-1-*", "work"))
         return found
 
     def is_up(self) -> bool:
         """Whether the console says so, in the log or in labgrid's file, while the job runs."""
-        files = glob.glob(os.path.join(self.folder, "jobs", "*", "work", "out", "console_*"))
-        return any("the board is up" in text for text in (self.log(), *map(read, files)))
+        files = glob.glob(os.path.join(self.place, "jobs", "*", "work", "out", "console_*"))
+        return any("the board is up" in text for text in (self.log(1), *map(read, files)))
 
     def ends(self) -> str:
         """The job's result, once it has ended and no emulator runs."""
-        wait_until("the job ends", lambda: bool(self.farm.job(1)["state"] == "Finished"), 900)
+        result = self.finished(1, 900)
         assert not self.board.processes()
-        return str(self.farm.job(1)["result"])
+        return result
 
 
 @pytest.fixture
-def lab(
-    way: str, board: Board, make_farm: Callable[..., Farm], start_tool: Callable[..., Tool], folder: str
-) -> Lab:
-    wants_way(way)
-    return Lab(way, board, make_farm([("q1", "qemu", [])]), start_tool, folder)
+def lab(way: str, board: Board, program: str, folder: str) -> Lab:
+    return Lab(way, board, program, folder)
 
 
 @pytest.mark.slow(40)
 @pytest.mark.timeout(1000)
 @each_way
-@pytest.mark.parametrize("what", ["boots", "panics", "has no image"])
+@pytest.mark.parametrize("what", ["panics", "has no image"])
 def test_result(what: str, way: str, lab: Lab, folder: str) -> None:
-    """A prompt is Complete, a panic Incomplete, and an image that isn't there Infra; the log says so,
-    without what a terminal alone reads."""
+    """A panic is Incomplete, and an image that isn't there Infra; the log says so, without what a terminal alone reads."""
     job = WAYS[way].jobs(lab.board, os.path.join(folder, "gone"))[what]
     lab.submit(job.text)
-    assert lab.ends() == job.result, lab.log()
-    assert job.line in lab.log()
-    assert "\x1b" not in lab.log()
+    assert lab.ends() == job.result, lab.log(1)
+    assert job.line in lab.log(1)
+    assert "\x1b" not in lab.log(1)
 
 
 @pytest.mark.slow(40)
@@ -309,10 +297,10 @@ def test_cancel(way: str, lab: Lab, folder: str) -> None:
     wait_until("the board is up", lab.is_up, 600)
     assert len(lab.board.processes()) == 1
     if way == "lava":
-        assert deployed_in(lab.place()) == 1
+        assert deployed_in(lab.work()) == 1
     lab.farm.tell("ann", "/jobs/1/cancel")
     assert lab.ends() == "Canceled"
-    assert "SIGKILL" not in lab.log()
+    assert "SIGKILL" not in lab.log(1)
     lab.dispatcher.send(signal.SIGTERM)
     assert lab.dispatcher.ends() == 0
 
@@ -357,31 +345,24 @@ DEAD = {"labgrid": "TIMEOUT", "lava": "timed out after"}
 @pytest.mark.timeout(1000)
 @each_way
 @pytest.mark.parametrize("health", ["Good", "Bad"])
-def test_check(
-    health: str, way: str, board: Board, make_farm: Callable[..., Farm], start_tool: Callable[..., Tool], folder: str
-) -> None:
+def test_check(health: str, way: str, board: Board, program: str, folder: str) -> None:
     """A health check makes a board that boots Good, and one whose firmware only halts Bad; its log says why."""
-    wants_way(way)
-    of_board = os.path.join(folder, "of_board")
-    os.mkdir(of_board)
+    lab = Lab(way, board, program, folder, ())
     firmware = os.path.join(folder, "firmware")
     with open(firmware, "wb") as file:
         file.write(b"\xf4" * 65536)
-    dead = f"-bios {firmware} -name @NAME@" if way == "labgrid" else f"-bios {firmware}, -name @NAME@"
-    for name, text in CHECKS[way](board, 300 if health == "Good" else 10).items():
-        stands = text if health == "Good" else text.replace("-name @NAME@", dead)
-        write(os.path.join(of_board, name), board.fill(stands))
-    farm = make_farm([])
-    farm.tell("admin", "/types", {"name": "qemu", "check": "jobs", "every": 20})
-    farm.tell("admin", "/boards", {"name": "q1", "type": "qemu", "tags": []})
-    farm.tell("admin", "/boards/q1/health", {"health": "Unknown"})
-    lab = Lab(way, board, farm, start_tool, folder)
-    wait_until("the check ends", lambda: farm.board("q1")["health"] != "Unknown", 900)
-    assert farm.board("q1")["health"] == health, lab.log()
+    name = "-name @NAME@" if health == "Good" else f"-bios {firmware}{',' if way == 'lava' else ''} -name @NAME@"
+    files = CHECKS[way](board, 300 if health == "Good" else 10)
+    lab.farm.tell("admin", "/types", {"name": "qemu", "check": "jobs", "every": 20})
+    lab.farm.tell("admin", "/boards", {"name": "q1", "type": "qemu", "tags": []})
+    lab.farm.tell("admin", "/boards/q1/health", {"health": "Unknown"})
+    lab.begin({file: text.replace("-name @NAME@", name) for file, text in files.items()})
+    wait_until("the check ends", lambda: lab.farm.board("q1")["health"] != "Unknown", 900)
+    assert lab.farm.board("q1")["health"] == health, lab.log(1)
     assert lab.ends() == ("Complete" if health == "Good" else "Incomplete")
-    assert health == "Good" or DEAD[way] in lab.log()
+    assert health == "Good" or DEAD[way] in lab.log(1)
     seen = f'"to":"{health}"'
-    wait_until("the history has it", lambda: seen in read(os.path.join(lab.folder, "history.jsonl")))
+    wait_until("the history has it", lambda: seen in read(os.path.join(lab.place, "history.jsonl")))
 
 
 # ---- the commands without a dispatcher, nor a board that boots
@@ -391,15 +372,9 @@ def status_of(way: str, folder: str, text: str, boards: str = "q1", *options: st
     """The status of a command for a text; the folder has the files of the board."""
     place = os.path.join(folder, "job")
     os.makedirs(place, exist_ok=True)
-    file = os.path.join(place, "job.toml")
-    write(file, text)
-    ran = subprocess.run(
-        [os.path.join(TOP, "examples", f"run-job-{way}"), *options, folder],
-        env={**os.environ, "FARM_FOLDER": place, "FARM_BOARDS": boards, "FARM_JOB": "1", "FARM_JOB_FILE": file},
-        cwd=place, check=False, capture_output=True, text=True, timeout=300,
-    )
-    assert ran.stderr == ""
-    return ran.returncode
+    found = ran(place, f"run-job-{way}", text, *options, folder, FARM_BOARDS=boards)
+    assert found.stderr == ""
+    return found.returncode
 
 
 @pytest.fixture

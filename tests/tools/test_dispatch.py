@@ -1,43 +1,30 @@
-"""What farm-dispatch does with jobs of a served farm, in a try by hand: how each way to end is told, groups, health checks,
-cancels, dispatchers and desks that are killed or don't answer, commands that can't be started, time limits, misspelt settings
-and wrong clocks. test_racks.py has machines with a systemd, and what must never happen twice."""
+"""What farm-dispatch does with jobs of a served farm, in a try by hand: what a job gets, groups, cancels, dispatchers and desks
+that are killed or don't answer, commands that can't be started, time limits, misspelt settings and wrong clocks. test_racks.py
+has machines with a systemd, and what must never happen twice."""
 from __future__ import annotations
 
-import argparse
 import json
 import os
 import pathlib
 import random
-import sqlite3
 import subprocess
 import sys
 import tempfile
 import time
-from typing import Any, Dict, List, Tuple, cast
+from typing import Dict, List, Sequence
 
 import pytest
-from dispatch_lab import AT_IT, BOARDS, COMMAND, Lab, MakeLab, Proxy, one_line_each, read_words, replace
+from dispatch_lab import AT_IT, BOARDS, Lab, MakeLab, Proxy, one_line_each, replace
 from dispatch_lab import lab_fixture, make_lab_fixture  # noqa: F401
-from farm_dispatch import main as dispatch_module
-from farm_dispatch.main import Clocks
-from fizgruk import clocks as farm_clocks, limits
-from served import LIBRARY, MODULES, TOP, Tool, environment, read, wait_until
+from served import MODULES, TOP, Tool, environment, read, wait_until
 from wants import wants
 
 
-def test_ways_to_end(lab: Lab) -> None:
-    """0 is Complete, 3 Incomplete, 75 and a signal Infra; text, boards and log are there."""
-    jobs = {
-        "Complete": lab.farm.submit("echo said; echo told >&2; env; cat boards boards.json; cat job.toml"),
-        "Incomplete": lab.farm.submit("exit 3"),
-        "Infra": lab.farm.submit("exit 75"),
-    }
-    killed = lab.farm.submit("kill -9 $PPID")
-    dispatcher = lab.dispatch()
-    for result, number in jobs.items():
-        assert lab.finished(number) == result, f"the result of job {number}"
-    assert lab.finished(killed) == "Infra", "the result of one whose command is killed"
-    number = jobs["Complete"]
+def test_what_a_job_gets(lab: Lab) -> None:
+    """Its text, its boards and its log are there, and nothing by which the desk is reached."""
+    number = lab.farm.submit("echo said; echo told >&2; env; cat boards boards.json; cat job.toml")
+    dispatcher = lab.dispatch(every="0.5", DISPATCH_USER="dispatcher", DISPATCH_KEEP_LOGS="2 days")
+    assert lab.finished(number) == "Complete"
     log = lab.log(number)
     name = lab.farm.job(number)["board"]
     folder = log.partition("FARM_FOLDER=")[2].split("\n")[0]
@@ -48,32 +35,13 @@ def test_ways_to_end(lab: Lab) -> None:
         *lab.farm.job(number)["text"].splitlines(),
     ]
     assert [it for it in wanted if it not in log.split("\n")] == [], "lines that the log lacks"
+    assert "DISPATCH_" not in log
     row = json.loads(log[log.index("\n[\n") : log.index("\n]\n") + 2])[0]
     assert (row["name"], row["tags"], row["job"]) == (name, ["serial"], number), "a board's row"
+    lab.settled(number)
     assert not os.path.exists(folder), "a job's folder goes with it"
-    reasons = {it["job"]: it["reason"] for it in map(lab.settled, [*jobs.values(), killed])}
-    assert list(reasons.values()) == ["", "status 3", "status 75", "signal 9"]
-    lab.closes(dispatcher)
-
-
-def test_a_realtime_signal_ends_a_job_and_nobody_else(lab: Lab) -> None:
-    """It has no name of its own."""
-    dispatcher = lab.dispatch()
-    number = lab.farm.submit("kill -40 $PPID")
-    assert lab.finished(number, 30) == "Infra"
-    assert lab.settled(number)["reason"] == "signal 40"
-    assert lab.finished(lab.farm.submit("true"), 30) == "Complete"
-    lab.closes(dispatcher)
-
-
-def test_a_job_isnt_told_how_the_desk_is_reached(lab: Lab) -> None:
-    """Whatever settings the dispatcher has in its environment, a job's has none of them."""
-    dispatcher = lab.dispatch(DISPATCH_USER="dispatcher", DISPATCH_KEEP_LOGS="2 days")
-    number = lab.farm.submit("env")
-    assert lab.finished(number) == "Complete"
-    log = lab.log(number)
-    assert f"FARM_JOB={number}\n" in log
-    assert "DISPATCH_" not in log
+    told = f"passes every 0.5 s at {lab.farm.server}, jobs in {os.path.realpath(lab.place)}"
+    assert dispatcher.output().split("; ")[0] == told, "its first line"
     lab.closes(dispatcher)
 
 
@@ -112,20 +80,6 @@ count = 1
     lab.closes(dispatcher)
 
 
-def test_health_checks(lab: Lab) -> None:
-    """Health checks run their command: Complete makes a board Good, Incomplete Bad."""
-    lab.farm.tell("admin", "/types", {"name": "checked", "check": "jobs", "every": 20})
-    for name in ("c1", "c2"):
-        lab.farm.tell("admin", "/boards", {"name": name, "type": "checked"})
-        lab.farm.tell("admin", f"/boards/{name}/health", {"health": "Unknown"})
-    check = "sh -c 'echo $FARM_KIND $FARM_TYPES; test $FARM_BOARD = c1'"
-    dispatcher = lab.dispatch("--check-board", check)
-    wait_until("c1 is Good", lambda: lab.farm.board("c1")["health"] == "Good")
-    wait_until("c2 is Bad", lambda: lab.farm.board("c2")["health"] == "Bad")
-    assert lab.log(1) == "check checked\n", "a check's log"
-    lab.closes(dispatcher)
-
-
 def test_cancels(lab: Lab) -> None:
     """A canceled job's command gets SIGTERM, then SIGKILL, and so does what it left in its group."""
     quiet = lab.farm.submit(lab.sleeps(100))
@@ -160,6 +114,7 @@ def test_two_at_once(lab: Lab) -> None:
     number = lab.farm.submit("true")
     assert lab.finished(number) == "Complete", "the next one's job"
     assert lab.begins(number) == 1, "how often it was begun"
+    assert os.stat(os.path.join(lab.place, "lock")).st_mode & 0o007 == 0, "no login takes the lock"
     lab.closes(dispatcher)
 
 
@@ -236,68 +191,6 @@ def test_a_desk_that_lets_it_in_no_more_ends_no_dispatcher(lab: Lab) -> None:
     lab.closes(dispatcher)
 
 
-def test_others_jobs(lab: Lab) -> None:
-    """A job that others started is left alone; one that others finished is ended."""
-    theirs = lab.farm.submit("true")
-    lab.farm.tell("admin", "/pass")
-    lab.farm.tell("admin", f"/jobs/{theirs}/start")
-    ours = lab.farm.submit(lab.sleeps(103))
-    dispatcher = lab.dispatch()
-    lab.begun(ours)
-    process = lab.running(103)[0]
-    lab.farm.tell("admin", f"/jobs/{ours}/finish", {"outcome": "Complete"})
-    wait_until(
-        "the process is gone",
-        lambda: not os.path.exists(f"/proc/{process}") or not read_words(process),
-    )
-    assert "was started by somebody else, and is left alone" in dispatcher.output()
-    assert lab.farm.job(theirs)["state"] == "Running", "somebody else's job"
-    assert lab.begins(theirs) == 0, "how often it was begun"
-    lab.closes(dispatcher)
-
-
-def test_no_room_for_replies(lab: Lab) -> None:
-    """Where no more replies can be kept, jobs are started and finished without keys."""
-    number = lab.farm.submit("sleep 0.5")
-    lab.farm.kill()
-    with sqlite3.connect(lab.farm.db) as file:
-        rows = ((f"k{place}",) for place in range(300_000))
-        file.executemany("INSERT INTO kept VALUES ('zoe', ?, 14, 0, 0, 0)", rows)
-    file.close()
-    lab.farm.start()
-    assert full(lab.farm.ask("dispatcher", "POST", "/pass", key="one-more")) == (409, 4), "a command with a key"
-    dispatcher = lab.dispatch()
-    assert lab.finished(number) == "Complete", "the job"
-    assert lab.begins(number) == 1, "how often it was begun"
-    lab.closes(dispatcher)
-
-
-def full(answer: Tuple[int, Any]) -> Tuple[int, int]:
-    return answer[0], answer[1]["code"]
-
-
-def test_stop_that_is_dropped(tmp_path: pathlib.Path) -> None:
-    """A signal that comes while Python ends an object stops the dispatcher too. Python drops what is raised while
-    it ends an object."""
-    code = """\
-import os, signal
-from fizgruk._tools import service
-class Ends:
-    def __del__(self):
-        os.kill(os.getpid(), signal.SIGTERM)
-        os.getpid()
-service.catch_signals()
-Ends()
-try:
-    service.check()
-except service.Interrupted:
-    print("stopped")
-"""
-    ran = subprocess.run([sys.executable, "-c", code], cwd=LIBRARY, capture_output=True, text=True, check=False)
-    assert "Exception ignored in" in ran.stderr, "what Python tells"
-    assert (ran.returncode, ran.stdout) == (0, "stopped\n"), "what is raised again"
-
-
 def test_second_stop() -> None:
     """A second signal, as of who presses Ctrl-C twice, changes nothing."""
     code = """\
@@ -311,23 +204,6 @@ raise SystemExit(status)
     path = environment(PYTHONPATH=":".join(MODULES))
     ran = subprocess.run([sys.executable, "-c", code], env=path, capture_output=True, text=True, check=False)
     assert (ran.returncode, ran.stderr) == (0, "")
-
-
-def test_own_ends(lab: Lab) -> None:
-    """4 for a second one on a folder, 2 for bad words, 0 for a signal; who isn't the dispatcher is told so."""
-    stranger = lab.dispatch("--user", "ann", place=os.path.join(lab.folder, "other"))
-    wait_until("one that isn't the dispatcher is told", lambda: "asked as ann" in stranger.errors())
-    stranger.kill()
-    assert Tool(["farm-dispatch", "--folder", lab.folder, "--cage", "none", "true"], lab.folder).ends() == 2, "what went"
-    dispatcher = lab.dispatch()
-    number = lab.farm.submit("true")
-    assert lab.finished(number) == "Complete"
-    lab.farm.kill()
-    wait_until("it tells that no answer comes", lambda: "no answer from the desk" in dispatcher.errors())
-    lab.farm.start()
-    again = lab.farm.submit("true")
-    assert lab.finished(again) == "Complete", "a job of a desk that came back"
-    lab.closes(dispatcher)
 
 
 def test_told_to_end_at_any_moment(lab: Lab) -> None:
@@ -351,7 +227,11 @@ def test_told_to_end_at_any_moment(lab: Lab) -> None:
 def test_unstartable_scripts(lab: Lab) -> None:
     """Scripts that aren't executable finish no job and condemn no board; it is told, status 5. The fault that was
     seen: boards were condemned while both scripts weren't executable."""
-    check = with_checks(lab)
+    lab.farm.tell("admin", "/types", {"name": "checked", "check": "jobs", "every": 20})
+    for name in ("c1", "c2"):
+        lab.farm.tell("admin", "/boards", {"name": name, "type": "checked"})
+    check = os.path.join(lab.folder, "check")
+    replace(check, "#!/bin/sh\ntrue\n")
     words = ["--check-board", check]
     dispatcher = lab.dispatch(*words)
     assert lab.finished(lab.farm.submit("true")) == "Complete", "a job before"
@@ -380,49 +260,9 @@ def test_unstartable_scripts(lab: Lab) -> None:
         assert lab.finished(number) == "Complete", f"job {number}, once they are mended"
         assert lab.begins(number) == 1, "how often it was begun"
     for name in ("c1", "c2"):
-        wait_until(f"{name} is Good", lambda: is_good(lab, name))
+        wait_until(f"{name} is Good", lambda: lab.farm.board(name)["health"] == "Good")
     wait_until("it tells that it goes on", lambda: "it goes on" in dispatcher.errors())
     lab.closes(dispatcher)
-
-
-def with_checks(lab: Lab) -> str:
-    """Adds two boards whose health a script checks. Returns the script."""
-    lab.farm.tell("admin", "/types", {"name": "checked", "check": "jobs", "every": 20})
-    for name in ("c1", "c2"):
-        lab.farm.tell("admin", "/boards", {"name": name, "type": "checked"})
-    check = os.path.join(lab.folder, "check")
-    replace(check, "#!/bin/sh\ntrue\n")
-    return check
-
-
-def test_ways_not_to_start(lab: Lab) -> None:
-    """Missing, of a missing interpreter, of none: nothing is finished until it is mended. Each way in which a
-    script can't be started: what it is made, and what is told."""
-    dispatcher = lab.dispatch()
-    ways = [
-        (None, "no such command"),
-        ("#!/nonexistent/interpreter\n", "its interpreter '/nonexistent/interpreter'"),
-        ("#!/bin/sh\r\n", "its interpreter '/bin/sh\\r'"),
-        ("#!/usr/bin/env nonexistent-command\n", "its interpreter 'nonexistent-command'"),
-        ("no line that names an interpreter\n", "no line #! names its interpreter"),
-    ]
-    for text, wanted in ways:
-        os.unlink(lab.command)
-        if text is not None:
-            replace(lab.command, text)
-        number = lab.farm.submit("true")
-        wait_until(f"{wanted!r} is told", lambda: wanted in dispatcher.errors())
-        time.sleep(1.5)
-        assert lab.farm.job(number)["result"] == "", f"the job's result ({wanted})"
-        assert [it[0] for it in BOARDS if not is_good(lab, it[0])] == [], "boards that aren't Good"
-        replace(lab.command, COMMAND)
-        assert lab.finished(number) == "Complete", f"the job, once it is mended ({wanted})"
-        assert lab.begins(number) == 1, "how often it was begun"
-    lab.closes(dispatcher)
-
-
-def is_good(lab: Lab, name: str) -> bool:
-    return bool(lab.farm.board(name)["health"] == "Good")
 
 
 # ---- time limits
@@ -473,107 +313,25 @@ def submitted(lab: Lab, run: str, timeout: str) -> int:
     return lab.farm.submit(run, more=f"[timeouts]\n{timeout}\n" if timeout else "")
 
 
-def test_limits_of_checks(lab: Lab) -> None:
-    """A health check that hangs is ended by the default, and its board is Bad."""
-    lab.farm.tell("admin", "/types", {"name": "checked", "check": "jobs", "every": 20})
-    lab.farm.tell("admin", "/boards", {"name": "c1", "type": "checked"})
-    lab.farm.tell("admin", "/boards/c1/health", {"health": "Unknown"})
-    settings_file = os.path.join(lab.folder, "desk.ini")
-    with open(settings_file, "w", encoding="utf-8") as file:
-        file.write("[dispatch]\nlimit = 3 seconds\n")
-    dispatcher = lab.dispatch("--check-board", f"{lab.sleep} 207", "--config", settings_file)
-    wait_until("its board is Bad", lambda: lab.farm.board("c1")["health"] == "Bad")
-    assert lab.finished(1) == "Incomplete", "the check"
-    lab.closes(dispatcher)
-
-
-def test_times(tmp_path: pathlib.Path) -> None:
-    """Times are read as LAVA writes them and as texts, and what is none is told."""
-    right = [
-        ("15 minutes", 900), ("1 minute", 60), ("90 seconds", 90), ("1 hour 30 minutes", 5400),
-        ("1 hour, 30 minutes", 5400), ("2 days", 172800), ("1.5 hours", 5400),
-        ({"minutes": 15}, 900), ({"days": 1, "hours": 2, "minutes": 3, "seconds": 4}, 93784),
-    ]
-    for said, seconds in right:
-        assert limits.time_of(said) == seconds, f"the time {said!r}"
-    wrong: List[object] = [
-        "", "soon", "15", "15 min", "minutes", "-1 minutes", "0 minutes", "15 minutes or so", 15,
-        True, {}, [], {"minutes": "15"}, {"minute": 15}, {"minutes": True}, {"minutes": -1},
-        {"seconds": 0}, {"seconds": float("nan")},
-    ]
-    for it in wrong:
-        with pytest.raises(limits.BadTime):
-            limits.time_of(it)
-    texts = [
-        ("", 3600, ""), ("job_name = 'x'", 3600, ""), ("[timeouts]\njob = '1 minute'", 60, ""),
-        ("[timeouts.job]\nminutes = 2", 120, ""), ("[timeouts]\naction = 3", 3600, "no 'job'"),
-        ("timeouts = 3", 3600, "no table"), ("[timeouts]\njob = 900", 3600, "900 has no unit"),
-        ("[timeouts]\njob = '2 days'", 86400, "2 days: the limit is 1 day"),
-        ("x = " + "[" * 60000, 3600, "can't be read"), ("= no TOML", 3600, "can't be read"),
-    ]
-    for text, seconds, remark in texts:
-        limit = limits.limit_of(text, 3600, 86400)
-        assert limit.seconds == seconds, f"the limit of {text[:40]!r}"
-        assert (len(limit.remarks) == 1) == bool(remark), f"the remarks of {text[:40]!r}"
-        assert remark in "".join(limit.remarks), f"what they say of {text[:40]!r}"
-    words: Dict[float, str] = {90061: "1 day 1 hour", 3600: "1 hour", 61: "1 minute 1 second", 0.5: "0.5 seconds"}
-    for count, told in words.items():
-        assert limits.words_of(count) == told, f"{count} in words"
-
-
 # ---- settings and clocks
 
 
-def test_misspelt_settings(tmp_path: pathlib.Path) -> None:
-    """A setting that there isn't is told with what it may mean, and the status is 2."""
-    folder = tempfile.mkdtemp(dir=tmp_path)
-    file = os.path.join(folder, "desk.ini")
-    runs: List[Tuple[str, Dict[str, str], str]] = [
-        ("[dispatch]\nserber = x\n", {}, "serber in [dispatch] is no setting: is server meant?"),
-        ("[dispach]\nserver = x\n", {}, "[dispach] is no section: is [dispatch] meant?"),
-        ("[dispatch]\npassword-file = x\n", {}, "is password_file meant?"),
-        ("[desk]\nserver = x\n", {"DISPATCH_SEVER": "x"},
-         "DISPATCH_SEVER in the environment is no setting: is DISPATCH_SERVER meant?"),
-        ("", {"DISPATCH_QQ": ""}, "there are DISPATCH_SERVER, DISPATCH_USER"),
-    ]
-    for text, around, wanted in runs:
-        with open(file, "w", encoding="utf-8") as settings_file:
-            settings_file.write(text)
-        own = tempfile.mkdtemp(dir=tmp_path)
-        tool = Tool(["farm-dispatch", "--folder", own, "--config", file, "true"], own, **around)
-        assert tool.ends() == 2, f"the status after {wanted}"
-        assert wanted in tool.errors(), f"what is told: {wanted}"
-    with open(file, "w", encoding="utf-8") as settings_file:
-        settings_file.write("[desk]\nusr = ann\n[dispatch]\nserver = http://127.0.0.1:1\n")
-    calls: List[Tuple[List[str], Dict[str, str], str]] = [
-        (["desk", "--config", file, "boards"], {}, "usr in [desk] is no setting: is user meant?"),
-        (["desk", "boards"], {"DESK_USR": "ann"}, "is DESK_USER meant?"),
-    ]
-    for words, around, wanted in calls:
-        own = tempfile.mkdtemp(dir=tmp_path)
-        tool = Tool(words, own, **around)
-        assert tool.ends() == 2, f"the status of {words}"
-        assert wanted in tool.errors(), f"what it tells: {wanted}"
-    bad = {"limit": "soon", "most": "0", "log_limit": "1 min", "clock": "maybe", "keep_logs": "ever"}
-    for name, text in bad.items():
-        own, option = tempfile.mkdtemp(dir=tmp_path), f"--{name.replace('_', '-')}"
-        tool = Tool(["farm-dispatch", "--folder", own, option, text, "true"], own)
-        assert tool.ends() == 4, f"the status of --{name} {text}"
-        assert f"{name}: '{text}'" in tool.errors(), f"what is told of --{name}"
-
-
-def test_first_line(lab: Lab) -> None:
-    """Its first line tells how often it passes, where, and where the jobs are."""
-    dispatcher = lab.dispatch(every="0.5")
-    wait_until("it tells how often it passes", lambda: dispatcher.output())
-    told = f"passes every 0.5 s at {lab.farm.server}, jobs in {os.path.realpath(lab.place)}"
-    assert dispatcher.output().split("; ")[0] == told, "its first line"
-    lab.closes(dispatcher)
+@pytest.mark.parametrize("words, text, around, status, told", [
+    ((), "[dispatch]\nserber = x\n", {}, 2, "serber in [dispatch] is no setting: is server meant?"),
+    ((), "", {"DISPATCH_QQ": ""}, 2, "there are DISPATCH_SERVER, DISPATCH_USER"),
+    (("--limit", "soon"), "", {}, 4, "limit: 'soon'"),
+])
+def test_settings_that_there_arent(
+    folder: str, words: Sequence[str], text: str, around: Dict[str, str], status: int, told: str
+) -> None:
+    """It tells them, with what may be meant, and ends."""
+    tell(f"{folder}/desk.ini", text)
+    tool = Tool(["farm-dispatch", "--folder", folder, "--config", f"{folder}/desk.ini", *words, "true"], folder, **around)
+    assert tool.ends() == status and told in tool.errors()
 
 
 def test_farm_ahead(lab: Lab) -> None:
-    """A farm's clock that is ahead is told once, and again after an hour. One import with a moment three days
-    ahead."""
+    """A farm's clock that is ahead is told. One import with a moment three days ahead."""
     lab.farm.kill()
     lab_file = os.path.join(lab.folder, "lab.toml")
     with open(lab_file, "w", encoding="utf-8") as file:
@@ -588,29 +346,6 @@ def test_farm_ahead(lab: Lab) -> None:
     assert lab.finished(lab.farm.submit("true")) == "Complete", "a job"
     assert dispatcher.errors().count("ahead of this machine's") == 1, "how often it is told"
     lab.closes(dispatcher)
-    clocks = Clocks(cast(Any, DeskAhead()), lab.folder, False)
-    said = [warned(clocks, minutes) for minutes in (0, 2, 59, 61, 63, 119, 122)]
-    assert said == [True, False, False, True, False, False, True], "when it is told"
-    DeskAhead.ahead = 5
-    assert not warned(clocks, 200), "a clock that is a little ahead"
-
-
-class DeskAhead:
-    ahead = 86400 + 30
-
-    def look(self, path: str) -> Dict[str, int]:
-        assert path == "/status", "what is looked at"
-        return {"clock": int(time.time()) + DeskAhead.ahead}
-
-
-def warned(clocks: Clocks, minutes: int) -> bool:
-    """Whether a warning comes so many minutes after the beginning."""
-    begin = time.monotonic()
-    with pytest.MonkeyPatch.context() as patch:
-        later = argparse.Namespace(monotonic=lambda: begin + 60 * minutes, time=time.time)
-        for module in (dispatch_module, farm_clocks):
-            patch.setattr(module, "time", later)
-        return "1 day ahead" in clocks.warning()
 
 
 def test_clock_not_set(lab: Lab) -> None:
@@ -631,32 +366,16 @@ def test_clock_not_set(lab: Lab) -> None:
     tell(said, "NTP=yes\nNTPSynchronized=no\n")
     assert lab.finished(lab.farm.submit("true")) == "Complete", "one after its servers were lost"
     lab.stops(dispatcher)
-    dispatcher = lab.dispatch(**own)
-    assert lab.finished(lab.farm.submit("true")) == "Complete", "one of the next dispatcher"
-    lab.stops(dispatcher)
-    answers: List[Tuple[List[str], str]] = [
-        (["--clock", "any"], "NTP=yes\nNTPSynchronized=no\n"),
-        ([], "NTP=no\nNTPSynchronized=no\n"),
-        ([], "Failed to connect to bus\n"),
-    ]
-    for words, answer in answers:
-        tell(said, answer)
-        forget(os.path.join(lab.place, "synchronized"))
-        dispatcher = lab.dispatch(*words, **own)
-        assert lab.finished(lab.farm.submit("true")) == "Complete", f"a job with {answer!r}"
-        lab.stops(dispatcher)
-    lab.farm.kill()
+    os.unlink(os.path.join(lab.place, "synchronized"))
+    dispatcher = lab.dispatch("--clock", "any", **own)
+    assert lab.finished(lab.farm.submit("true")) == "Complete", "one where nobody waits for it"
+    lab.closes(dispatcher)
 
 
 def tell(file: str, text: str) -> None:
     with open(f"{file}.new", "w", encoding="utf-8") as opened:
         opened.write(text)
     os.replace(f"{file}.new", file)  # (it is read at any moment)
-
-
-def forget(file: str) -> None:
-    if os.path.exists(file):
-        os.unlink(file)
 
 
 def test_unit(tmp_path: pathlib.Path) -> None:

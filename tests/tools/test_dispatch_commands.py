@@ -40,21 +40,25 @@ OFF_AT_END = "import pytest\n@pytest.fixture\ndef on(target):\n    yield\n    ta
 OPENS = "def test_opens(target):\n    target.get_driver('SerialDriver')\n"
 OWN = "import subprocess\ndef test_own(target):\n    subprocess.run(['false'], check=True)\n"
 OWN_FILE = "def test_own(target):\n    open('/nonexistent/file')\n"
-ASSERTS = "def test_asserts(target):\n    assert False\n"
 
 
-def run(folder: str, command: str, text: str, **more: str) -> Tuple[int, str]:
-    """The status and the output of an example command."""
+def ran(folder: str, command: str, text: str, *words: str, **more: str) -> "subprocess.CompletedProcess[str]":
+    """What comes of an example command for a text in a folder, which has the board's files too, where no words say another."""
     with open(os.path.join(folder, "job.toml"), "w", encoding="utf-8") as file:
         file.write(text)
     around = {"FARM_BOARDS": "b1", "FARM_BOARD": "b1", "FARM_TYPES": "bbb", "FARM_JOB": "7", "FARM_KIND": "ordinary",
               "FARM_FOLDER": folder, "FARM_JOB_FILE": os.path.join(folder, "job.toml"), "FARM_OWNER": "ann",
               "FARM_BOARDS_FILE": os.path.join(folder, "boards"), **more}
-    ran = subprocess.run(
-        [os.path.join(TOP, "examples", command), folder], capture_output=True, text=True, timeout=200, check=False,
+    return subprocess.run(
+        [os.path.join(TOP, "examples", command), *(words or [folder])], capture_output=True, text=True, timeout=200, check=False,
         env=environment(PATH="/usr/bin:/bin:/usr/sbin:/sbin", **around), cwd=folder, stdin=subprocess.DEVNULL,
     )
-    return ran.returncode, ran.stdout + ran.stderr
+
+
+def run(folder: str, command: str, text: str, **more: str) -> Tuple[int, str]:
+    """The status and the output of an example command."""
+    found = ran(folder, command, text, **more)
+    return found.returncode, found.stdout + found.stderr
 
 
 ROWS: Dict[str, Tuple[str, str, int]] = {
@@ -64,8 +68,6 @@ ROWS: Dict[str, Tuple[str, str, int]] = {
     "a serial port can't be opened in a test": (SERIAL, OPENS, 75),
     "a command of the test's own fails": (POWER.format(on="'true'", off="'true'"), OWN, 1),
     "a file of the test's own isn't there": (POWER.format(on="'true'", off="'true'"), OWN_FILE, 1),
-    "a test fails": (POWER.format(on="'true'", off="'true'"), ASSERTS, 1),
-    "a test passes": (POWER.format(on="'true'", off="'true'"), ON, 0),
 }
 
 

@@ -5,18 +5,17 @@ from __future__ import annotations
 import json
 import os
 import random
-import subprocess
-import sys
+import signal
 import tempfile
 import time
-from typing import Any, Dict, List, Optional, Set, Tuple
+from concurrent import futures
+from typing import Any, Dict, List, Set
 
 import dying
-import pytest
 from dispatch_lab import Lab, jobs_of, lines_of, one_line_each
 from dispatch_lab import lab_fixture, make_lab_fixture  # noqa: F401
-from fizgruk import submissions
-from served import MODULES, STARTED, Farm, Tool, environment, read, wait_until
+from forks import ReadOnce
+from served import Farm, Tool, read, wait_until
 
 # Of kills while folders are made so many, and of those at an end one in so many; more with FARM_KILLS=all.
 KILLS = (8, 1) if os.environ.get("FARM_KILLS") == "all" else (3, 2)
@@ -25,8 +24,8 @@ KILLS = (8, 1) if os.environ.get("FARM_KILLS") == "all" else (3, 2)
 # A dispatcher that kills itself at one of the places at which it writes, renames or gives a
 # command, counted from its start on, from its first `finish`, or from its first line of the
 # history.
-DIES = dying.HEAD + """\
-phase = sys.argv.pop(1)
+DIES = "sys.argv[1:] = ['', '-1']\n" + dying.HEAD + """\
+phase = ""
 def begins(call, words):
     if phase == "finish":
         return call.__name__ == "tell" and words[1].endswith("/finish")
@@ -40,7 +39,12 @@ die_in(os, "link", "ftruncate")
 from farm_dispatch import main as dispatch
 from fizgruk import calls
 die_in(calls.Desk, "tell", "nudge")
-sys.exit(dispatch.main())
+def main(words):
+    global left, phase
+    with open(words[0], "w") as mark:
+        mark.write(str(os.getpid()))
+    os.environ["RUNS"], phase, left = words[1], words[2], int(words[3])
+    return dispatch.main(words[4:])
 """
 JOB_FIELDS = [
     "kind", "job", "group", "owner", "boards", "type", "name", "submitted", "began", "ended",
@@ -61,24 +65,17 @@ def are_newest(lab: Lab, kind: str, rows: List[Dict[str, Any]]) -> None:
     wait_until(f"the newest {kind}", lambda: newest_of(lab)[kind] == rows[::-1])
 
 
-def dies_at(lab: Lab, phase: str, place: int) -> List[int]:
+def dies_at(lab: Lab, dispatch: ReadOnce, phase: str, place: int) -> List[int]:
     """Runs a dispatcher that kills itself at a place, or is killed where it has done all before.
     Returns the jobs that it was given: one, and a group of two."""
-    words = [
-        sys.executable, "-c", DIES, ":".join(MODULES), str(place), phase, "--server", lab.farm.server,
-        "--folder", lab.place, "--every", "0.1", lab.command,
-    ]
-    process = subprocess.Popen(
-        words, stdout=subprocess.DEVNULL, stderr=subprocess.PIPE, env=environment(RUNS=lab.runs)
-    )
-    STARTED.append(process)
     numbers = [lab.farm.submit("true"), *lab.two()]
-    wait_until(
-        f"it is dead or done, {phase} {place}",
-        lambda: process.poll() is not None or are_done(lab, numbers),
-    )
-    process.kill()
-    assert process.communicate()[1] == b"", f"what it tells, {phase} {place}"
+    words = [lab.mark, lab.runs, phase, place, "--server", lab.farm.server, "--folder", lab.place, "--every", "0.1", lab.command]
+    with futures.ThreadPoolExecutor(1) as beside:
+        ran = beside.submit(dispatch.run, *words)
+        wait_until(f"it is dead or done, {phase} {place}", lambda: ran.done() or are_done(lab, numbers))
+        if not ran.done():
+            os.kill(int(read(lab.mark)), signal.SIGKILL)
+    assert ran.result().stderr == "", f"what it tells, {phase} {place}"
     return numbers
 
 
@@ -99,9 +96,9 @@ def test_a_line_over_any_kill(lab: Lab) -> None:
     for them in ends:
         places += dice.sample(them, max(1, len(them) // KILLS[1]))
     dice.shuffle(places)
-    numbers, between = [], 0
+    numbers, between, dispatch = [], 0, ReadOnce(DIES)
     for phase, place in places:
-        numbers += dies_at(lab, phase, place)
+        numbers += dies_at(lab, dispatch, phase, place)
         between += bool(unmarked(lab, numbers))
     assert between >= 3, f"kills between a job's end and its mark, at least three {about}"
     dispatcher = lab.dispatch(every="0.1")
@@ -129,6 +126,7 @@ def test_what_a_line_says(lab: Lab) -> None:
         "exit 3": ("Incomplete", "status 3"),
         "exit 75": ("Infra", "status 75"),
         "kill -9 $PPID": ("Infra", "signal 9"),
+        "kill -40 $PPID": ("Infra", "signal 40"),  # (a realtime one has no name of its own)
     }
     numbers = {lab.farm.submit(run): run for run in ends}
     canceled = lab.farm.submit(lab.sleeps(100))
@@ -158,40 +156,15 @@ def test_what_a_line_says(lab: Lab) -> None:
     lab.closes(dispatcher)
 
 
-def test_torn_lines(lab: Lab) -> None:
-    """A torn last line is cut off or ended; the newest 200 lines are told of more. What a stop, or another hand,
-    leaves at the history's end."""
-    file = os.path.join(lab.place, "history.jsonl")
-    os.makedirs(lab.place)
-    whole: Dict[str, Any] = {
-        "kind": "job", "job": 900, "group": 900, "owner": "zoe", "boards": [], "type": "bbb", "name": "old",
-        "submitted": None, "began": 5, "ended": 6, "outcome": "Complete", "reason": "",
-    }
-    rows = [{**whole, "job": 700 + place} for place in range(250)]
-    text = "".join(f"{json.dumps(it)}\n" for it in rows)
-    for tail, stays in ((json.dumps(whole)[:40], 0), (json.dumps(whole), 1), ("{" * 70_000, 0)):
-        with open(file, "w", encoding="utf-8") as history:
-            history.write(text + tail)
-        dispatcher = lab.dispatch()
-        number = lab.farm.submit("true")
-        assert lab.finished(number) == "Complete", "a job"
-        lab.settled(number)
-        found = [it["job"] for it in jobs_of(lab)[len(rows) :]]
-        assert found == [900] * stays + [number], f"the lines behind {tail[:20]!r}"
-        assert jobs_of(lab)[: len(rows)] == rows, "the lines before"
-        are_newest(lab, "jobs", jobs_of(lab)[-200:])
-        lab.stops(dispatcher)
-        assert read(file).endswith('"worker":"desk"}\n'), "the history's end"
-    lab.farm.kill()
-
-
 def test_changes_of_health(lab: Lab) -> None:
-    """Each change of a board's health is told once, with the job that made it."""
+    """Each change of a board's health is told once, with the job that made it. A check that hangs is ended by the default."""
     lab.farm.tell("admin", "/types", {"name": "checked", "check": "jobs", "every": 20})
     for name in ("c1", "c2"):
         lab.farm.tell("admin", "/boards", {"name": name, "type": "checked"})
-    check = "sh -c 'test $FARM_BOARD = c1'"
-    dispatcher = lab.dispatch("--check-board", check)
+    check = f"sh -c 'echo $FARM_KIND $FARM_TYPES; test $FARM_BOARD = c1 || exec {lab.sleep} 207'"
+    with open(os.path.join(lab.folder, "desk.ini"), "w", encoding="utf-8") as file:
+        file.write("[dispatch]\nlimit = 2 seconds\n")
+    dispatcher = lab.dispatch("--check-board", check, "--config", file.name)
     wait_until("the first look", lambda: os.path.exists(os.path.join(lab.place, "healths.json")))
     assert healths_of(lab) == [], "lines before there is a change"
     for name in ("c1", "c2"):
@@ -206,6 +179,8 @@ def test_changes_of_health(lab: Lab) -> None:
     checks = {it["boards"][0]: it for it in checks_of(lab)}
     assert [it["owner"] for it in checks.values()] == ["admin"] * 2, "the checks' owners"
     assert [it["submitted"] for it in checks.values()] == [None] * 2, "when checks were submitted"
+    assert checks["c1"]["reason"] == "" and checks["c2"]["reason"] == "time limit of 2 seconds (the default), status 143"
+    assert lab.log(checks["c1"]["job"]) == "check checked\n"
     wanted = [
         ("c1", "Good", f"health check {checks['c1']['job']} ended Complete"),
         ("c2", "Bad", f"health check {checks['c2']['job']} ended Incomplete"),
@@ -245,82 +220,11 @@ def last_of(lab: Lab, board: str) -> str:
     return str(([it["to"] for it in healths_of(lab) if it["board"] == board] or [""])[-1])
 
 
-def test_room_and_other_farms(lab: Lab) -> None:
-    """A line that can't be written is written later, also beside another farm's same number. A history that can't
-    be written for a while, and one that has another farm's job of the same number."""
-    file = os.path.join(lab.place, "history.jsonl")
-    dispatcher = lab.dispatch()
-    wait_until("it runs", lambda: "worker desk answers" in dispatcher.output())
-    os.unlink(file)
-    os.mkdir(file)
-    number = lab.farm.submit("true")
-    assert lab.finished(number) == "Complete", "the job"
-    wait_until("it is told", lambda: f"job {number}: IsADirectoryError: [Errno 21] " in dispatcher.output())
-    assert lab.finished(lab.farm.submit("true")) == "Complete", "a job beside"
-    dispatcher.kill()
-    os.rmdir(file)
-    earlier = {"kind": "job", "job": number, "group": number, "owner": "zoe", "boards": ["b1"], "type": "bbb",
-               "name": "old", "submitted": None, "began": 1_000, "ended": 1_001, "outcome": "Infra", "reason": ""}
-    with open(file, "w", encoding="utf-8") as history:
-        history.write(f"{json.dumps(earlier)}\n")
-    dispatcher = lab.dispatch()
-    wait_until("their lines", lambda: len(jobs_of(lab)) >= 3)
-    assert [it["owner"] for it in jobs_of(lab)] == ["zoe", "ann", "ann"], "their owners"
-    assert lab.finished(lab.farm.submit("true")) == "Complete", "a job after"
-    wait_until("its line", lambda: len(jobs_of(lab)) == 4)
-    lab.closes(dispatcher)
-
-
-class Clock:
-    """A clock that stands until it is set."""
-
-    def __init__(self) -> None:
-        self.now = 1_000_000
-
-    def time(self) -> int:
-        return self.now
-
-
-def test_moments_of_submission(lab: Lab, monkeypatch: pytest.MonkeyPatch) -> None:
-    """When a job was submitted is known where the desk was looked at before and after. What looks at the number
-    that is given next tell, over restarts and another farm."""
-    lab.farm.kill()
-    os.makedirs(lab.place)
-    clock = Clock()
-    monkeypatch.setattr(submissions, "time", clock)
-    seen = submissions.Submissions(lab.place)
-    look_at(seen, clock, [(0, 5), (5, 5), (10, 8), (110, 9)])
-    assert moments(seen, 9) == [None] * 4 + [1_000_010] * 3 + [None] * 2, "what it knows"
-    with open(os.path.join(lab.place, "numbers"), "a", encoding="ascii") as file:
-        file.write("12 100")
-    seen = submissions.Submissions(lab.place)
-    look_at(seen, clock, [(120, 9), (125, 10), (170, 11)])
-    wanted = [1_000_010, None, 1_000_125, 1_000_170, None]
-    assert moments(seen, 11)[6:] == wanted, "over a restart"
-    look_at(seen, clock, [(175, 2), (180, 7)])
-    assert moments(seen, 7) == [None] + [1_000_180] * 5 + [None], "of another farm"
-    look_at(seen, clock, [(181 + it, 8 + it) for it in range(submissions.MOST)])
-    with open(os.path.join(lab.place, "numbers"), encoding="ascii") as file:
-        assert len(file.readlines()) <= submissions.MOST, "looks that are kept"
-    assert moments(seen, 7 + submissions.MOST)[-2] == 1_000_180 + submissions.MOST, "the last"
-
-
-def look_at(seen: submissions.Submissions, clock: Clock, looks: List[Tuple[int, int]]) -> None:
-    """Looks at these moments, which find these numbers to be given next."""
-    for after, following in looks:
-        clock.now = 1_000_000 + after
-        seen.note(following)
-
-
-def moments(seen: submissions.Submissions, last: int) -> List[Optional[int]]:
-    """When each number was given, from 1 on."""
-    return [seen.moment_of(it) for it in range(1, last + 1)]
-
-
 def test_served_logs(lab: Lab) -> None:
-    """Each job's log has its number in logs/, until it is old and the job has ended."""
+    """Each job's log has its number in logs/, and what it left in artifacts/, until it is old and the job has ended; what a kill
+    left half made goes too."""
     dispatcher = lab.dispatch("--keep-logs", "1 hour")
-    one = lab.farm.submit("echo said; echo told >&2")
+    one = lab.farm.submit("echo said; echo told >&2; mkdir out; echo left > out/file")
     pair = lab.two()
     running = lab.farm.submit(f"echo begun; {lab.until('open')}")
     for number in (one, *pair):
@@ -333,23 +237,17 @@ def test_served_logs(lab: Lab) -> None:
     assert os.stat(os.path.join(lab.place, "logs")).st_mode & 0o777 == 0o711, "who may list them"
     lab.settled(one)
     dispatcher.kill()
-    for number in (one, running):
-        os.utime(log_of(lab, number), (time.time() - 3700,) * 2)
+    artifacts = os.path.join(lab.place, "artifacts")
+    assert os.listdir(artifacts) == [str(one)]
+    for file in (log_of(lab, one), log_of(lab, running), f"{artifacts}/{one}"):
+        os.utime(file, (time.time() - 3700,) * 2)
+    lab.let("dispatch/logs/97.new")
+    for name in ("old-98-0123456789abcdef", "new-99"):
+        os.mkdir(f"{artifacts}/{name}")
     dispatcher = lab.dispatch("--keep-logs", "1 hour")
     left = {str(it) for it in (*pair, running)}
-    wait_until("old logs are gone", lambda: logs_in(lab) == left)
+    wait_until("what is old is gone", lambda: logs_in(lab) == left and not os.listdir(artifacts))
     assert lab.finished(running) == "Infra", "the one that was ended with its dispatcher"
-    lab.closes(dispatcher)
-
-
-def test_cut_off(lab: Lab) -> None:
-    """What a kill left half made is gone."""
-    os.makedirs(os.path.join(lab.place, "logs"))
-    with open(os.path.join(lab.place, "logs", "7.new"), "w", encoding="utf-8"):
-        pass
-    dispatcher = lab.dispatch()
-    assert lab.finished(lab.farm.submit("true")) == "Complete", "a job"
-    assert logs_in(lab) == {"1"}, "what is left"
     lab.closes(dispatcher)
 
 

@@ -1,9 +1,7 @@
-"""Jobs that leave behind whatever they can: what stands in their folders, logs and folders without end, full disks,
-and damage to one group's files, which is no other group's."""
+"""Jobs that leave behind whatever they can: what stands in their folders, and logs without end."""
 from __future__ import annotations
 
-import pytest
-from dispatch_lab import BOARDS, Lab, MakeLab, jobs_of
+from dispatch_lab import Lab, jobs_of
 from dispatch_lab import lab_fixture, make_lab_fixture  # noqa: F401
 from served import wait_until
 
@@ -19,63 +17,34 @@ WAYS = {
     "nothing": "rm -rf {0}",
     "lies": "rm -rf {0}; echo 'status 0' > {0}",
     "a large file": "rm -rf {0}; truncate -s 3G {0}",
+    "a folder that is gone": 'cd /; rm -rf "$FARM_FOLDER"',
 }
 
 
-# ---- a job's own folder
-
-
-@pytest.mark.parametrize("way", WAYS)
-def test_hostile_folder(lab: Lab, way: str) -> None:
+def test_hostile_folders(lab: Lab) -> None:
     """Whatever a job makes of the files in its folder, it is what its status says, and nothing else waits."""
-    lines = [WAYS[way].format(f'"$FARM_FOLDER/{it}"') for it in NAMES]
-    number = lab.farm.submit(lab.script("\n".join([*lines, "exit 3"])))
-    beside = lab.farm.submit("true")
+    scripts = ["\n".join([*(way.format(f'"$FARM_FOLDER/{it}"') for it in NAMES), "exit 3"]) for way in WAYS.values()]
+    numbers = [lab.farm.submit(lab.script(text, f"script{at}")) for at, text in enumerate(scripts)]
     dispatcher = lab.dispatch()
-    assert lab.finished(number) == "Incomplete"
-    assert lab.finished(beside) == "Complete"
+    assert dict(zip(WAYS, map(lab.finished, numbers))) == dict.fromkeys(WAYS, "Incomplete")
     dispatcher.kill()
     dispatcher = lab.dispatch()
     assert lab.finished(lab.farm.submit("true")) == "Complete", "one of the next dispatcher"
-    wait_until("their lines", lambda: len(jobs_of(lab)) == 3)
+    wait_until("their lines", lambda: len(jobs_of(lab)) == len(WAYS) + 1)
     rows = {it["job"]: (it["outcome"], it["reason"]) for it in jobs_of(lab)}
-    assert rows[number] == ("Incomplete", "status 3")
+    assert {rows[it] for it in numbers} == {("Incomplete", "status 3")}
     lab.closes(dispatcher)
 
 
-def test_removed_folder(lab: Lab) -> None:
-    """A job that removes its own folder is what its status says."""
-    number = lab.farm.submit(lab.script('cd /; rm -rf "$FARM_FOLDER"'))
-    dispatcher = lab.dispatch()
-    assert lab.finished(number) == "Complete"
-    lab.closes(dispatcher)
-
-
-# ---- logs, folders and disks that are full
-
-
-def test_log_limit(lab: Lab) -> None:
-    """Of a log beyond its limit the head and the tail are kept, and what was cut is told between them."""
-    number = lab.farm.submit(lab.script("echo head; yes x | head -c 50000000; echo tail"))
-    small = lab.farm.submit(lab.script("echo head; yes x | head -c 300000; echo tail", "small"))
-    dispatcher = lab.dispatch("--log-limit", "1 MB")
-    assert (lab.finished(number), lab.finished(small)) == ("Complete", "Complete")
-    log = lab.log(number)
-    cut = [it for it in log.split("\n") if it.startswith("farm-dispatch: ")]
-    told = int(cut[0].split()[1].replace(",", ""))
-    assert cut == [f"farm-dispatch: {told:,} bytes of the log aren't kept: a log's limit is 1,000,000 bytes"]
-    assert log.startswith("head\nx\n") and log.endswith("\nx\ntail\n")
-    assert len(log) - len(cut[0]) - 2 + told == 50_000_010
-    assert len(log) <= 1_000_200
-    assert len(lab.log(small)) == 300_010, "one below the limit"
-    lab.closes(dispatcher)
-
-
-def test_endless_log(make_lab: MakeLab) -> None:
-    """A job that says something without end is ended by its time limit, and its log has its limit."""
-    lab = make_lab(BOARDS[:1])
-    number = lab.farm.submit("exec cat /dev/zero", more="[timeouts]\njob = '5 seconds'\n")
+def test_endless_log(lab: Lab) -> None:
+    """A job that says something without end is ended by its time limit. Of its log the head and the tail are kept, and what was
+    cut is told between them."""
+    number = lab.farm.submit(lab.script("echo head; exec yes x"), more="[timeouts]\njob = '2 seconds'\n")
     dispatcher = lab.dispatch("--log-limit", "1 MB")
     assert lab.finished(number) == "Incomplete"
-    assert len(lab.log(number)) <= 1_000_400
+    log = lab.log(number)
+    cut, end = [it for it in log.split("\n") if it.startswith("farm-dispatch: ")]
+    assert cut.endswith(" bytes of the log aren't kept: a log's limit is 1,000,000 bytes")
+    assert end == "farm-dispatch: time limit of 2 seconds, status 143"
+    assert log.startswith("head\nx\n") and 1_000_000 <= len(log) <= 1_000_400
     lab.closes(dispatcher)

@@ -4,7 +4,6 @@ that is away. Its addresses and files are put into the test's folder."""
 from __future__ import annotations
 
 import gzip
-import http.server
 import json
 import os
 import re
@@ -13,12 +12,12 @@ import ssl
 import threading
 import time
 import urllib.parse
-from typing import Any, Callable, Iterator, List, Sequence, Set, Tuple
+from typing import Callable, List, Sequence, Set, Tuple
 
 import pytest
 
 from browser import Page, Visit
-from nginx_site import WORDS, Site, farm_fixture, site_fixture, write  # noqa: F401
+from nginx_site import WORDS, Site, farm_fixture, page_beside, site_fixture, write  # noqa: F401
 from served import TOOLS, Farm, Tool, read, wait_until
 
 JSON = "application/json"
@@ -218,6 +217,10 @@ def test_the_client_finds_what_a_job_left_beside_the_desk(kept: str, site: Site)
         write(f"{kept}/artifacts/1", "1", text, 0o644)
         status, _, errors = site.desk("artifacts", "1", "a/\xe4 b", "--to", f"{to}2")
         assert status == 4 and told in errors and not os.path.exists(f"{to}2/a/\xe4 b")
+    for name in ("../up", "/etc/x", "a/../../up"):
+        write(f"{kept}/artifacts/1", "index.json", json.dumps({**index, "files": [{"number": 1, "name": name, "size": 3}]}), 0o644)
+        status, said, errors = site.desk("artifacts", "1", "--to", f"{to}3")
+        assert (status, said) == (4, "") and "names what is no artifact" in errors and not os.path.exists(f"{to}3"), name
 
 
 def test_the_client_follows_a_log_from_before_it_is_there(
@@ -287,41 +290,14 @@ def test_a_command_of_the_sites_own_page_and_of_a_tool_is_taken(farm: Farm, site
     assert reservations(farm) == [("ann", [])] * 3
 
 
-class Foreign(http.server.BaseHTTPRequestHandler):
-    """A page of another site, which sends a command to the farm as a form and by its script."""
-
-    desk = ""
-
-    def do_GET(self) -> None:
-        body = f"""<!DOCTYPE html>
-<form method="post" enctype="text/plain" action="{self.desk}/reservations">
-<input name='{{"tags":["rack=3"],"x":"' value='"}}'></form>
+# A page of another site, which sends a command to the farm as a form and by its script.
+FOREIGN = """<!DOCTYPE html>
+<form method="post" enctype="text/plain" action="SITE/reservations">
+<input name='{"tags":["rack=3"],"x":"' value='"}'></form>
 <script>
-const sent = fetch("{self.desk}/reservations",
-  {{method: "POST", mode: "no-cors", credentials: "include", body: '{{"tags":["rack=3"]}}'}});
-</script>""".encode()
-        self.send_response(200)
-        self.send_header("content-type", "text/html")
-        self.send_header("content-length", str(len(body)))
-        self.end_headers()
-        self.wfile.write(body)
-
-    def log_message(self, format: str, *args: Any) -> None:  # pylint: disable=redefined-builtin
-        pass
-
-
-@pytest.fixture(params=["http://127.0.0.1", "https://localhost"])
-def foreign_place(request: pytest.FixtureRequest, site: Site) -> Iterator[str]:
-    """A foreign page, at another site, or at another port of this one."""
-    server = http.server.ThreadingHTTPServer(("127.0.0.1", 0), type("", (Foreign,), {"desk": site.server}))
-    if request.param.startswith("https"):
-        trusted = ssl.create_default_context(ssl.Purpose.CLIENT_AUTH)
-        trusted.load_cert_chain(site.certificate, f"{site.folder}/farm.key")
-        server.socket = trusted.wrap_socket(server.socket, server_side=True)
-    threading.Thread(target=server.serve_forever, daemon=True).start()
-    yield f"{request.param}:{server.server_address[1]}/"
-    server.shutdown()
-    server.server_close()
+const sent = fetch("SITE/reservations",
+  {method: "POST", mode: "no-cors", credentials: "include", body: '{"tags":["rack=3"]}'});
+</script>"""
 
 
 def said_by(page: Page, expression: str) -> str:
@@ -333,16 +309,19 @@ def said_by(page: Page, expression: str) -> str:
 
 
 @pytest.mark.xdist_group("page2")
+@pytest.mark.parametrize("is_at_host", [False, True])
 def test_in_a_browser_that_keeps_the_login_a_foreign_page_reserves_nothing(
-    farm: Farm, site: Site, visit: Visit, foreign_place: str
+    farm: Farm, site: Site, visit: Visit, is_at_host: bool
 ) -> None:
+    """One at another site, and one at another port of this one."""
     own = visit.open(site.server.replace("https://", f"https://ann:{urllib.parse.quote(WORDS['ann'])}@"))
     said = "document.getElementById('said').textContent"
     wait_until("the page", lambda: "as of" in own.ask(said))
-    foreign = visit.open(foreign_place)
-    assert foreign.ask("sent.then(it => it.type)") == "opaque", "its script's answer"
-    foreign.ask("setTimeout(() => document.forms[0].submit())")
-    wait_until("it is sent", lambda: said_by(foreign, "location.href").startswith(site.server))
+    with page_beside(site, FOREIGN.replace("SITE", site.server), is_at_host) as place:
+        foreign = visit.open(place)
+        assert foreign.ask("sent.then(it => it.type)") == "opaque", "its script's answer"
+        foreign.ask("setTimeout(() => document.forms[0].submit())")
+        wait_until("it is sent", lambda: said_by(foreign, "location.href").startswith(site.server))
     told = wait_until("an answer", lambda: said_by(foreign, "document.body ? document.body.innerText : ''"))
     assert reservations(farm) == []
     assert json.loads(told) == FORBIDDEN

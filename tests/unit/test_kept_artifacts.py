@@ -45,8 +45,20 @@ class Place:
         assert set(os.listdir(folder)) == {"index.json", *(str(it["number"]) for it in self.index()["files"])}
         return {it["name"]: (folder / str(it["number"])).read_text() for it in self.index()["files"]}
 
+    def is_told(self, listed: bytes, out: bytes = b"") -> None:
+        """Has the machine say this, as one that somebody has taken."""
+        self.hand.listed = lambda unit: listed  # type: ignore[assignment]
+        self.hand.out = lambda unit, names: io.BytesIO(out)  # type: ignore[assignment]
+
     def index(self) -> Dict[str, Any]:
         return index.index_of((self.place / "artifacts" / "7" / "index.json").read_bytes())
+
+    def is_given_up(self) -> bool:
+        """Whether nothing is kept in the end."""
+        found = artifacts.Collectors(str(self.place), argparse.Namespace(**BOUNDS))
+        while not found.are_done(self.record, self.hand):
+            pass
+        return self.record.get("kept") == {}
 
     def left_out(self) -> Dict[str, str]:
         return {it["name"]: it["why"] for it in self.index()["left_out"]}
@@ -175,27 +187,23 @@ def test_a_million_files_arent_looked_at(place: Place, monkeypatch: pytest.Monke
 
 
 @pytest.mark.parametrize("name", ["/etc/passwd", "../x", "a/../../x", "", ".", "a//b"])
-def test_a_worker_that_lies_writes_nothing_beyond_the_folder(place: Place, name: str, monkeypatch: pytest.MonkeyPatch) -> None:
-    """As one that somebody has taken."""
-    monkeypatch.setattr(Hand, "listed", lambda *words: f"f 4 {name}\0f 4 good\0end\0".encode())
-    monkeypatch.setattr(Hand, "out", lambda *words: io.BytesIO(b"%020dsaid" % 4))
+def test_a_worker_that_lies_writes_nothing_beyond_the_folder(place: Place, name: str) -> None:
+    place.is_told(f"f 4 {name}\0f 4 good\0end\0".encode(), b"%020dsaid" % 4)
     before = sorted(os.listdir(place.place.parent))
     place.keeps()
     assert place.kept() == {"good": "said"}
     assert sorted(os.listdir(place.place.parent)) == before
 
 
-def test_a_size_below_0_makes_no_room_for_others(place: Place, monkeypatch: pytest.MonkeyPatch) -> None:
-    monkeypatch.setattr(Hand, "listed", lambda *words: b"f -1000 a\0f 4 b\0f 4 c\0end\0")
-    monkeypatch.setattr(Hand, "out", lambda *words: io.BytesIO(b"%020dsaid" % 4))
+def test_a_size_below_0_makes_no_room_for_others(place: Place) -> None:
+    place.is_told(b"f -1000 a\0f 4 b\0f 4 c\0end\0", b"%020dsaid" % 4)
     place.keeps(artifacts_limit=4)
     assert (place.kept(), list(place.left_out())) == ({"b": "said"}, ["a", "c"])
 
 
 @pytest.mark.parametrize("size", [0, 3, 5, 10**6])
-def test_a_file_of_another_size_is_left_out(place: Place, size: int, monkeypatch: pytest.MonkeyPatch) -> None:
-    monkeypatch.setattr(Hand, "listed", lambda *words: b"f 4 a\0f 4 b\0end\0")
-    monkeypatch.setattr(Hand, "out", lambda *words: io.BytesIO(b"%020d%s%020dsaid" % (size, b"x" * size, 4)))
+def test_a_file_of_another_size_is_left_out(place: Place, size: int) -> None:
+    place.is_told(b"f 4 a\0f 4 b\0end\0", b"%020d%s%020dsaid" % (size, b"x" * size, 4))
     place.keeps()
     assert (place.kept(), place.left_out()) == ({"b": "said"}, {"a": "it can't be read"})
 
@@ -225,8 +233,8 @@ def test_many_files_are_asked_for_some_at_a_time(place: Place, monkeypatch: pyte
 
 
 @pytest.mark.parametrize("listed", [b"", b"f 4 a\0", b"en"])
-def test_a_list_that_was_cut_is_asked_for_again(place: Place, listed: bytes, monkeypatch: pytest.MonkeyPatch) -> None:
-    monkeypatch.setattr(Hand, "listed", lambda *words: listed)
+def test_a_list_that_was_cut_is_asked_for_again(place: Place, listed: bytes) -> None:
+    place.is_told(listed)
     with pytest.raises(Away):
         place.keeps()
     assert not (place.place / "artifacts" / "7").exists()
@@ -241,11 +249,14 @@ def test_files_that_were_cut_are_asked_for_again(place: Place, monkeypatch: pyte
     with pytest.raises(Away):
         place.keeps()
     assert os.listdir(place.place / "artifacts") == []
-    found = artifacts.Collectors(str(place.place), argparse.Namespace(**BOUNDS))
     monkeypatch.setattr(artifacts, "MOST_TRIES", 2)
-    while not found.are_done(place.record, place.hand):
-        pass
-    assert place.record.get("kept") == {} and "isn't kept: its answer was cut" in place.log()
+    assert place.is_given_up() and "isn't kept: its answer was cut" in place.log()
+
+
+def test_a_fault_of_ones_own_keeps_no_line_waiting(place: Place, monkeypatch: pytest.MonkeyPatch) -> None:
+    place.leaves(a="said")
+    monkeypatch.setattr(artifacts.Collection, "take", lambda *words: os.stat("/none"))
+    assert place.is_given_up() and "isn't kept: [Errno 2] " in place.log()
 
 
 def test_time_that_is_over_leaves_out_the_rest(place: Place, monkeypatch: pytest.MonkeyPatch) -> None:

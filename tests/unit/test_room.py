@@ -10,7 +10,9 @@ import pytest
 from farm_dispatch import record
 from fizgruk._tools import disk as disk_module, passes
 
-FULL = OSError(errno.ENOSPC, "No space left on device")
+
+def full(*_: object) -> None:
+    raise OSError(errno.ENOSPC, "No space left on device")
 
 
 # ---- the reserve
@@ -130,12 +132,10 @@ def test_on_a_full_disk_a_job_goes_on_and_the_reserve_makes_room_for_a_short_tai
     said.fetch(b"head-")
     plain = record.Log._add
 
-    def full(*_: object) -> None:
-        if (tmp_path / record.RESERVE).exists():
-            raise FULL
-        plain(*_)  # type: ignore[arg-type]
+    def fills(*words: object) -> None:
+        (full if (tmp_path / record.RESERVE).exists() else plain)(*words)  # type: ignore[operator]
 
-    monkeypatch.setattr(record.Log, "_add", full)
+    monkeypatch.setattr(record.Log, "_add", fills)
     assert said.fetch(b"x" * 100_000) == b"head-"
     cut = 100_000 - record.SHORT
     assert said.close() == b"head-\nfarm-dispatch: %s bytes of the log aren't kept: the disk was full\n%s" % (
@@ -144,10 +144,6 @@ def test_on_a_full_disk_a_job_goes_on_and_the_reserve_makes_room_for_a_short_tai
 
 def test_a_disk_that_stays_full_keeps_nobody_waiting(tmp_path: pathlib.Path, monkeypatch: pytest.MonkeyPatch) -> None:
     said = Said(tmp_path, 1000)
-
-    def full(*_: object) -> None:
-        raise FULL
-
     monkeypatch.setattr(record.Log, "_add", full)
     assert said.fetch(b"said") == said.close() == b""
 
@@ -184,9 +180,6 @@ def test_passes_are_counted_on_over_lives(tmp_path: pathlib.Path, monkeypatch: p
 def test_what_there_was_no_room_for_is_counted_by_the_next_pass(
     tmp_path: pathlib.Path, monkeypatch: pytest.MonkeyPatch
 ) -> None:
-    def full(*_: object) -> None:
-        raise FULL
-
     counter, plain = passes.Counter(str(tmp_path)), disk_module.write_whole
     monkeypatch.setattr(disk_module, "write_whole", full)
     counter.add()

@@ -22,7 +22,7 @@ OPTIONS = argparse.Namespace(
     grace=1, infra=75, keep_logs=86400, limit=60, most=60, log_limit=10**6, folder_limit=10**9, artifact_count=10,
     artifact_limit=1000, artifacts_limit=1000, command=[], workers="/etc/farm/workers.toml", every=1,
 )
-WRONG, FULL = Refused(409, Code.WRONG_JOB_STATE, "wrong state"), Refused(409, Code.FULL, "full")
+WRONG, FULL = Refused(409, Code.WRONG_JOB_STATE, "wrong state"), Refused(409, 4, "full")  # (by its number in docs/API.md)
 
 
 class Desk:
@@ -40,6 +40,8 @@ class Desk:
         self.silent = False
         self.tags: Dict[int, List[str]] = {}
         self.healths: Dict[str, str] = {}
+        self.on: Dict[int, int] = {}  # jobs whose boards have other numbers
+        self.loses = ""  # the answer to one such command
 
     def look(self, path: str) -> Dict[str, Any]:
         if self.silent:
@@ -49,20 +51,20 @@ class Desk:
         if path == "/queue":
             return {"queue": []}
         if path == "/boards":
-            return {"boards": [self.board(it) for it in sorted(self.states)]}
+            return {"boards": list({self.on.get(it, it): self.board(it) for it in sorted(self.states)}.values())}
         number = int(path.rpartition("/")[2])
         if number not in self.states:
             raise Refused(404, Code.NO_SUCH_JOB, "no such job")
         state = self.states[number]
         return {
-            "number": number, "group": number, "state": state.partition(" ")[0], "kind": "ordinary", "board": f"b{number}",
-            "type": "bbb", "role": "", "text": self.text, "owner": self.owner, "priority": 50,
+            "number": number, "group": number, "state": state.partition(" ")[0], "kind": "ordinary",
+            "board": f"b{self.on.get(number, number)}", "type": "bbb", "role": "", "text": self.text, "owner": self.owner, "priority": 50,
             "result": state.partition(" ")[2],
         }
 
     def board(self, number: int) -> Dict[str, Any]:
         is_held = self.states[number].split()[0] in ("Scheduled", "Running", "Canceling")
-        holder, name = f"job {number}" if is_held else "none", f"b{number}"
+        holder, name = f"job {number}" if is_held else "none", f"b{self.on.get(number, number)}"
         health = self.healths.get(name, "Good")
         return {"name": name, "type": "bbb", "tags": self.tags.get(number, []), "health": health, "holder": holder}
 
@@ -72,7 +74,7 @@ class Desk:
         what, refusal = path.rpartition("/")[2], self.refuses.get(path.rpartition("/")[2])
         if key and key in self.kept:
             return {}
-        if refusal and (key or refusal.code != Code.FULL):
+        if refusal and (key or refusal is not FULL):
             raise refusal
         self.said.append((path, (body or {}).get("outcome")))
         number = int(path.split("/")[2])
@@ -83,6 +85,9 @@ class Desk:
         is_canceled = self.states.get(number) == "Canceling"
         self.states[number] = "Running" if what == "start" else f"Finished {'Canceled' if is_canceled else body['outcome']}"
         self.kept |= {key} if key else set()
+        if self.loses == what:
+            self.loses = ""
+            raise Unreachable("no answer", self.server)
         return {}
 
     def nudge(self, path: str) -> None:
@@ -203,6 +208,19 @@ class Lab:
         self.dispatcher.round(True)
         return ("/pass", None) in self.desk.said[before:]
 
+    def may_set_healths(self, patch: pytest.MonkeyPatch) -> List[Tuple[str, str, str]]:
+        """What it sets, from now on."""
+        told: List[Tuple[str, str, str]] = []
+
+        def set_health(*words: str) -> bool:
+            told.append(words)  # type: ignore[arg-type]
+            self.desk.healths[words[0]] = words[1]
+            return True
+
+        patch.setattr(self.dispatcher, "own", True)
+        patch.setattr(self.dispatcher, "set_health", set_health)
+        return told
+
     def record(self, number: int = 1) -> Record:
         return Record(str(self.place), number)
 
@@ -296,6 +314,39 @@ def test_an_answer_that_is_lost_begins_nothing_twice(lab: Lab) -> None:
     assert lab.machine.calls.count("begin") == 1 and len(lab.machine.units) == 1
 
 
+def test_what_the_desk_did_without_an_answer_is_done_once(lab: Lab) -> None:
+    for what in ("start", "finish"):
+        lab.desk.loses = what
+        with pytest.raises(Unreachable):
+            lab.turn()
+        lab.turn(2)
+        lab.machine.ends()
+    assert lab.desk.said == [("/jobs/1/start", None), ("/jobs/1/finish", "Complete")]
+    assert lab.machine.calls.count("begin") == len(lab.lines()) == 1
+
+
+@pytest.mark.parametrize("text", ["", "{", "[]", '{"unit": 1}', '{"unit": "x", "worker": "desk", "life": "", "about": {}}'])
+def test_a_damaged_record_keeps_nobody_waiting(lab: Lab, text: str) -> None:
+    (lab.place / "open" / "1").write_text(text)
+    lab.begin()
+    lab.turn()
+    assert lab.desk.states[1] == "Running" and list(lab.machine.units) == [lab.record().unit]
+
+
+def test_a_line_that_cant_be_written_is_written_later(lab: Lab, capsys: pytest.CaptureFixture[str]) -> None:
+    lab.turn()
+    lab.machine.ends()
+    file = lab.place / "history.jsonl"
+    file.unlink(missing_ok=True)
+    file.mkdir()
+    lab.turn(2)
+    assert lab.desk.states[1] == "Finished Complete" and "job 1: IsADirectoryError: [Errno 21] " in capsys.readouterr().out
+    file.rmdir()
+    lab.begin()
+    lab.turn(2)
+    assert len(lab.lines()) == 1
+
+
 def test_a_log_whose_end_was_cut_is_asked_for_again(lab: Lab) -> None:
     """A call that is killed over a socket is an answer that ends sooner."""
     lab.turn()
@@ -382,16 +433,7 @@ def test_no_board_is_given_on_while_something_of_another_job_lives_on_it(lab: La
     """As of one that an admin finished: not by a pass, and not to a job that got it already."""
     lab.turn()
     lab.machine.close = lambda unit: lab.machine.calls.append("close")  # type: ignore[assignment]
-    lab.desk.states = {1: "Finished Complete", 2: "Scheduled"}
-    was = lab.desk.look
-
-    def look(path: str) -> Dict[str, Any]:
-        said = was(path)
-        if path == "/boards":
-            return {"boards": [{**said["boards"][1], "name": "b1"}]}
-        return {**said, "board": "b1"} if path == "/jobs/2" else said
-
-    lab.desk.look = look  # type: ignore[assignment]
+    lab.desk.states, lab.desk.on = {1: "Finished Complete", 2: "Scheduled"}, {2: 1}
     lab.turn(2)
     assert lab.desk.states[2] == "Scheduled" and not lab.may_pass()
     lab.machine.ends("signal killed TERM")
@@ -494,16 +536,7 @@ def test_what_an_older_folders_record_names_may_live(lab: Lab) -> None:
     lab.turn()
     said = {key: it for key, it in lab.record(2).items() if key in ("unit", "worker", "life", "about", "kind")}
     (lab.place / "open" / "2").write_text(json.dumps(said))
-    lab.desk.states = {1: "Scheduled"}
-    was = lab.desk.look
-
-    def look(path: str) -> Dict[str, Any]:
-        found = was(path)
-        if path == "/boards":
-            return {"boards": [{**found["boards"][0], "name": "b2"}]}
-        return {**found, "board": "b2"} if path == "/jobs/1" else found
-
-    lab.desk.look = look  # type: ignore[assignment]
+    lab.desk.states, lab.desk.on = {1: "Scheduled"}, {1: 2}
     lab.machine.close = lambda unit: lab.machine.calls.append(unit)  # type: ignore[assignment]
     lab.begin()
     lab.turn(2)
@@ -519,13 +552,7 @@ def hold_back(lab: Lab, patch: pytest.MonkeyPatch) -> Machine:
     lab.machines.append(rack)
     lab.desk.tags = {2: ["worker=rack1"]}
     lab.begin()
-
-    def set_health(board: str, health: str, why: str) -> bool:
-        lab.desk.healths[board] = health
-        return True
-
-    patch.setattr(lab.dispatcher, "own", True)
-    patch.setattr(lab.dispatcher, "set_health", set_health)
+    lab.may_set_healths(patch)
     patch.setattr(dispatchers, "OUT_AFTER", -1.0)
     return rack
 
@@ -729,15 +756,9 @@ def test_one_that_is_canceled_is_told_to_end_and_its_grace_is_no_limit(lab: Lab)
 
 def test_boards_of_what_cant_be_killed_become_bad_before_they_are_given_on(lab: Lab, monkeypatch: pytest.MonkeyPatch) -> None:
     lab.turn()
-    unit, set_to = lab.record().unit, []
+    set_to = lab.may_set_healths(monkeypatch)
     lab.machine.ends("signal killed KILL")
-    lab.machine.lives = {unit}
-
-    def set_health(*words: str) -> bool:
-        set_to.append(words)
-        return True
-
-    monkeypatch.setattr(lab.dispatcher, "set_health", set_health)
+    lab.machine.lives = {lab.record().unit}
     lab.turn(2)
     assert (lab.desk.states[1], set_to) == ("Running", [])
     monkeypatch.setattr(runs_module, "KILLS_AFTER", 0.0)
@@ -812,13 +833,7 @@ def test_boards_of_a_machine_that_doesnt_answer_get_no_new_jobs(lab: Lab, monkey
     lab.desk.states = {1: "Finished Complete", 2: "Finished Complete", 3: "Finished Complete"}
     lab.desk.healths = {"b2": "Bad", "b3": "Unknown"}
     monkeypatch.setattr(dispatchers, "AWAY_AFTER", -1.0)
-    monkeypatch.setattr(lab.dispatcher, "own", True)
-
-    def set_health(board: str, health: str, why: str) -> bool:
-        lab.desk.healths[board] = health
-        return True
-
-    monkeypatch.setattr(lab.dispatcher, "set_health", set_health)
+    lab.may_set_healths(monkeypatch)
     lab.turn()
     lab.machine.away = "silent"
     lab.turn()

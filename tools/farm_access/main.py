@@ -17,8 +17,8 @@ which runs 'farm-access session' whatever is asked of it, and nobody gets a shel
 of systemd's with an account of its own in a slice of the hold. It begins once nothing of the hold before is left, and \
 ends with its hold, within two seconds, with all that it started; while the desk is down what is there goes on and \
 nothing begins.
-A board's ways are the tables '[[ways]]' of FILE that its name fits; '{{TAG}}' in a text is the value \
-of the board's tag 'TAG=VALUE', and '{{board}}' its name. A session's words are 'BOARD ways', \
+A board's ways are the tables '[[ways]]' of FILE that its name fits; '{TAG}' in a text is the value \
+of the board's tag 'TAG=VALUE', and '{board}' its name. A session's words are 'BOARD ways', \
 'BOARD console', 'BOARD console --watch', 'BOARD console --log', 'BOARD power on', 'off', 'cycle' \
 or 'status', 'BOARD tcp PORT', and 'BOARD NAME ..' for a way of the lab's; an admin of FILE who \
 doesn't hold the board says '--as-admin' behind them, which is written down as all uses are."""
@@ -43,7 +43,7 @@ A board that is in use isn't tried.""",
 
 
 def parser_of() -> parsers.Parser:
-    parser = parsers.parser_of("farm-access", ABOUT.replace("{{", "{").replace("}}", "}"), STATUSES)
+    parser = parsers.parser_of("farm-access", ABOUT, STATUSES)
     parser.option("--file", "FILE", "The ways (default %(default)s).", default=site.FILE)
     commands = parser.add_subparsers(dest="command", metavar="COMMAND", required=True)
     made: Dict[str, parsers.Parser] = {}

@@ -51,27 +51,20 @@ def let(counts: Counts, kind: str, boards: int = 1) -> Passed:
     return asked
 
 
-def test_nothing_is_known_before_the_desk_answers(desk: Desk, counts: Counts, monkeypatch: pytest.MonkeyPatch) -> None:
-    def away(path: str) -> Dict[str, Any]:
-        raise Unreachable("no answer")
-
-    with monkeypatch.context() as patched:
-        patched.setattr(desk, "look", away)
-        assert service.hindrance(counts.look) == "no answer from the desk at no answer"
-    assert not counts.are_known()
-    counts.look()
-    assert counts.are_known()
-
-
+@pytest.mark.parametrize("fault, told", [
+    (Unreachable("no answer"), "no answer from the desk at no answer"),
+    (MemoryError("no more"), "a look at the desk: MemoryError: no more"),
+])
 def test_a_look_that_fails_however_is_told_and_isnt_the_last(
-    desk: Desk, counts: Counts, monkeypatch: pytest.MonkeyPatch
+    desk: Desk, counts: Counts, monkeypatch: pytest.MonkeyPatch, fault: Exception, told: str
 ) -> None:
-    def odd(path: str) -> Dict[str, Any]:
-        raise MemoryError("no more")
+    """Nothing is known before the desk answers."""
+    def fails(path: str) -> Dict[str, Any]:
+        raise fault
 
     with monkeypatch.context() as patched:
-        patched.setattr(desk, "look", odd)
-        assert counts.look() == "a look at the desk: MemoryError: no more"
+        patched.setattr(desk, "look", fails)
+        assert service.hindrance(counts.look) == told
     assert not counts.are_known()
     counts.look()
     assert counts.are_known()
