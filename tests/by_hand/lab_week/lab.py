@@ -124,31 +124,27 @@ class Lab:
     def note_nothing_beside(self) -> None:
         """What is noted of what goes on beside them."""
         self.kills: Counter[str] = collections.Counter()
-        self.killed: List[Tuple[float, float]] = []  # before and after each kill of farm-watch
+        self.killed: Dict[str, List[Tuple[float, float]]] = collections.defaultdict(list)  # before and after each kill
         self.copies: List[Copy] = []
         self.nightly: List[Copy] = []
         self.nights: List[List[Tuple[int, str]]] = []  # of each night what the nightly job's command came to
-        self.told_limits: Counter[str] = collections.Counter()
         self.tokens: Counter[str] = collections.Counter()
         self.by_token: List[int] = []
-        self.sessions: Counter[str] = collections.Counter()
-        self.notes_shown: List[Tuple[texts.Notes, Dict[str, str]]] = []
 
     def write_files(self) -> None:
         self.command_file = write(self.room, "command", texts.COMMAND, 0o755)
         self.with_file = write(self.room, "with", texts.WITH, 0o755)
-        self.notes_file = write(self.room, "notes.toml", texts.notes_text(texts.NOTES[0]))
         write(self.room, "late.toml", texts.lab_file(EARLY + LATE))
         write(f"{self.room}/bin", "date", texts.DATE.format(room=self.room), 0o755)
         for what in ("stop", "start"):
             write(f"{self.room}/bin", what, texts.ASKS.format(room=self.room, what=what), 0o755)
-        rules = texts.watch_text(self.door.address, self.mailbox.sendmail, self.hook.url)
-        self.rules_file = write(self.room, "watch.toml", rules)
+        self.rules_file = write(self.room, "watch.toml", texts.WATCH.format(
+            server=self.door.address, sendmail=self.mailbox.sendmail, url=self.hook.url, remind=texts.REMIND, end=texts.END))
 
     # ---- what runs
 
     def words_of(self, name: str) -> List[str]:
-        dispatch = ["--folder", self.dispatch_folder, "--every", "1", "--notes", self.notes_file, *leaving.BOUNDS]
+        dispatch = ["--folder", self.dispatch_folder, "--every", "1", *leaving.BOUNDS]
         return {
             "dispatcher": ["farm-dispatch", "--server", self.farm.server, *dispatch, self.command_file],
             "watcher": ["farm-watch", "--every", "1", "--folder", self.watch_folder, self.rules_file],
@@ -184,8 +180,7 @@ class Lab:
             if status is not None:
                 self.wrong(f"the {name} ended by itself with status {status}: {self.tools[name].errors()[-500:]}")
             self.tools[name].kill()
-            if name == "watcher":
-                self.killed.append((before, time.time()))
+            self.killed[name].append((before, time.time()))
             self.start(name)
 
     def wait_for_look(self, seen: int) -> None:
@@ -298,7 +293,7 @@ def aged_farm(program: str, place: str, seconds: int) -> Farm:
     file = write(place, "early.toml", texts.lab_file(EARLY))
     subprocess.run([program, "import", "--db", farm.db, "--at", str(begin), file],
                    check=True, capture_output=True)
-    for place_of, board in enumerate([*EARLY, *texts.WAYS]):
+    for place_of, board in enumerate(EARLY):
         moment = begin + 10 * place_of
         at(farm, moment, "admin", f"/boards/{board}/health", {"health": "Good"})
         if at(farm, moment, "dispatcher", "/pass")["checks"]:

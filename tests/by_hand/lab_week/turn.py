@@ -14,7 +14,7 @@ from typing import Callable, Dict, Iterator, List, Optional, Sequence, Set, Tupl
 from desks import write
 from lab_week import of_holds, of_jobs, of_messages, people
 from lab_week.lab import SEEN, Lab
-from lab_week.texts import EARLY, LATE, TYPES, WAYS, Row
+from lab_week.texts import EARLY, LATE, TYPES, Row
 from served import PATIENCE, TOOLS, environment, read
 
 OLD_NAME, NEW_NAME = "rpi-05", "rpi-five"
@@ -156,9 +156,9 @@ def faults(lab: Lab, week: Week) -> List[str]:
 
 
 def faults_of_lab(boards: Set[str], kinds: Dict[str, Tuple[str, int]]) -> List[str]:
-    wanted = {*EARLY, *LATE, *WAYS, NEW_NAME} - {OLD_NAME}
+    wanted = {*EARLY, *LATE, NEW_NAME} - {OLD_NAME}
     found = [f"the next farm has the boards {sorted(boards)}"] if boards != wanted else []
-    checks = {**{name: it if it[1] else ("none", 0) for name, it in TYPES.items()}, "way": ("none", 0), "rpi": CHECK[1]}
+    checks = {**{name: it if it[1] else ("none", 0) for name, it in TYPES.items()}, "rpi": CHECK[1]}
     return found + ([f"the next farm has the types {kinds}"] if kinds != checks else [])
 
 
