@@ -313,20 +313,6 @@ def test_devices_of_which_nothing_is_lost_are_carried_over_with_status_0(folder:
     assert refused(run(*words, "--verbose")) == (0, 2)
 
 
-def test_tags_and_boards_that_a_farm_has_no_room_for_are_told(program: str, folder: str) -> None:
-    for place in range(65):
-        write(folder, f"devices/b{place}.jinja2", "{% extends 'bbb.jinja2' %}")
-    many = " ".join(f"t{place}" for place in range(10, 27))
-    tags = write(folder, "tags", f"b0 {many} a=b=c {'k' * 33} v={'w' * 65} name=x\n")
-    status, output, errors = run("farm-from-lava", folder, "--tags", tags)
-    kept = ["a=b-c", "k" * 32, *(f"t{place}" for place in range(10, 24))]
-    assert status == 1 and f"tags = [{', '.join(f'{chr(34)}{it}{chr(34)}' for it in kept)}]" in output
-    for tag in ("t24", "t25", "t26", f"v={'w' * 64}"):
-        assert f"devices/b0.jinja2: tag {tag} isn't carried over: a board has 16 tags at most\n" in errors
-    assert "lab file: it has 65 boards of type bbb, and a farm has room for 64\n" in errors
-    assert imported(program, folder, write(folder, "lab.toml", output)) == "farm: 4 full at 66\n"
-
-
 # ---- labgrid
 
 
