@@ -11,23 +11,22 @@ commands of 0.1 to 2 seconds that end in all ways and leave files, links, too mu
 and webhook, and keeps what people held; farm-backup makes copies,
 farm-metrics counts. Each night the line of examples/nightly-job.service comes twice under the key of its day, and
 farm-backup keeps the last copies. Desk, dispatcher, watcher and door are killed (SIGKILL) at random moments and
-started again at once, at least sixty times. Then the next farm takes over from the week's, with another name of a board and another check.
+started again at once, at least sixty times.
 
-At the end it demands: each command that was answered is answered alike once more; no board was held
-twice, by the desk's answers, its reports, and what commands and people noted; each job that began
-has one line in the history and the outcome that its command meant (Infra where its dispatcher was killed, with which
-it ends), and each group's command ran once, with all its boards; what it left is kept within the bounds, listed and counted; each event was told once
-by both ways (what came again under its id is dropped), in fewer mails; `desk usage` counts what people noted; each copy
-is the farm after a prefix of the commands; the metrics agree with the history; a night has one job; the next farm serves,
-and the past of both is there; and nothing is left running. Then each demand is made once more of what was found with one fault
-in it, which it has to find (lab_week/spoils.py). It prints the figures in a table, and ends with status 1 where anything
-deviated.
+At the end it demands: each command that was answered is answered alike once more; no board was held twice, by the
+desk's answers and what commands and people noted; each job that began has one line in the history and the outcome
+that its command meant (Infra where its dispatcher was killed, with which it ends), and each group's command ran once,
+with all its boards; what it left is kept within the bounds, listed and counted; each event was told once by both ways
+(what came again under its id is dropped), in fewer mails; `desk usage` counts what people noted; each copy is the
+farm after a prefix of the commands; the metrics agree with the history; a night has one job; and nothing is left
+running. Then each demand is made once more of what was found with one fault in it, which it has to find
+(lab_week/spoils.py). It prints the figures in a table, and ends with status 1 where anything deviated.
 
 SECONDS is how long people work, 700 where no number is given (at least 400, for holds to end), or up to twice as long where
 sixty kills haven't come by then; SEED makes the same people again. With --site people ask with a password each through the
 example's nginx with farm-door, as packaged, which is killed too: two admins have logins of their own, a pipeline asks by
-tokens, and the audit has each command once; it wants nginx and openssl. (Consoles and limits over kills are
-access_handovers.py's and tests/security's.)
+tokens, and the audit has each command once; it wants nginx and openssl. (Consoles over kills are access_handovers.py's,
+limits tests/security's, the next farm test_next_units'.)
 """
 from __future__ import annotations
 
@@ -45,7 +44,7 @@ HERE = os.path.dirname(os.path.abspath(__file__))
 sys.path[:0] = [os.path.join(HERE, it) for it in ("../shared", "../../tools", "../../python/src")]
 from lab_week import (  # noqa: E402
     beside, figures, nights, of_artifacts, of_copies, of_holds, of_jobs, of_messages, of_metrics, of_site, people, pipelines,
-    spoils, turn,
+    spoils,
 )
 from lab_week.lab import QUEUED, Lab  # noqa: E402
 from lab_week.texts import PIPELINE  # noqa: E402
@@ -139,24 +138,18 @@ def judged(lab: Lab) -> Tuple[figures.Rows, int]:
     return figures.of_work(lab, jobs, holds) + figures.of_tools(lab, lab.look("/status")["count"], told), tried
 
 
-def goes_on(lab: Lab, dice: random.Random) -> int:
-    """All commands are sent once more; then the next farm takes over, and what is left of the week's is its copies."""
+def at_its_end(lab: Lab) -> int:
+    """All commands are sent once more; then what is left of the farm is its file and its copies."""
     for name in ("dispatcher", "watcher"):
         lab.stop(name)
     tried = demand(lab, of_jobs.faults_of_all_keys(lab), spoils.of_commands(lab))
-    for name in ("dispatcher", "watcher"):
-        lab.start(name)
-    week, old = turn.begins_anew(lab, dice)
-    tried += demand(lab, turn.faults(lab, week), turn.spoils(lab, week))
     ends(lab)
-    found = of_copies.copies_of(lab, old)
-    return tried + demand(lab, of_copies.faults(found, week.commands), spoils.of_prefixes(found, week.commands))
+    found = of_copies.copies_of(lab)
+    return tried + demand(lab, of_copies.faults(found, lab.commands), spoils.of_prefixes(found, lab.commands))
 
 
 def ends(lab: Lab) -> None:
-    """Ends all; no tool tells of a fault of its own."""
-    for name in ("dispatcher", "watcher"):
-        lab.stop(name)
+    """Ends all; no tool has told of a fault of its own."""
     for name, tool in lab.tools.items():
         if "Traceback" in tool.errors():
             lab.wrong(f"the {name} tells: {tool.errors()}")
@@ -192,7 +185,7 @@ def main(has_site: bool, program: str, seconds: Union[int, str] = 700, seed: Opt
         if sum(lab.kills.values()) < beside.LEAST or len(lab.submitted) < SUBMISSIONS:
             lab.wrong(f"{sum(lab.kills.values())} kills, {len(lab.submitted)} submissions")
         rows, tried = judged(lab)
-        tried += goes_on(lab, dice)
+        tried += at_its_end(lab)
     rows += [("demands", f"{tried} faults were tried, each of which has to be found"),
              ("time", f"{(time.monotonic() - began) / 60:.1f} minutes"),
              ("deviated", "; ".join(lab.deviations) or "nothing")]

@@ -69,9 +69,9 @@ def faults_of_keeping(there: Sequence[str], nightly: Sequence[Copy]) -> List[str
     return []
 
 
-def copies_of(lab: Lab, old: str) -> List[Prefix]:
-    """The week's farm at its end, which isn't served any more, and all copies."""
-    last = prefix_in(lab, "the farm at its end", f"{old}/farm.db")
+def copies_of(lab: Lab) -> List[Prefix]:
+    """The farm at its end, which isn't served any more, and all copies."""
+    last = prefix_in(lab, "the farm at its end", lab.farm.db)
     return [last, *(prefix_in(lab, os.path.basename(os.path.dirname(it.db)), *it)
                     for it in [*lab.copies, *lab.nightly[-texts.KEEP:]])]
 

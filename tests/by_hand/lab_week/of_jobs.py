@@ -39,7 +39,7 @@ class Jobs(NamedTuple):
     def lost(self) -> Set[int]:
         """The groups that ended with their dispatcher."""
         return {it["group"] for it in self.lines if it["reason"].startswith("lost: ") and any(
-            before <= it["ended"] + 1 and it["began"] <= after for before, after in self.kills)}
+            before <= it["ended"] + 1 and (it["submitted"] or 0) <= after for before, after in self.kills)}
 
     def faults(self) -> List[str]:
         """Each job's line, outcome, and runs of its command."""
@@ -62,7 +62,8 @@ class Jobs(NamedTuple):
             found.append(f"job {number} is {job['state']} and has {lines} lines")
         if lines and outcome != job["result"]:
             found.append(f"job {number} is {job['result']}, in the history {outcome}")
-        if len(begun) != 1 and job["result"] != "Canceled" or len(begun) > 1:
+        least = 0 if job["result"] == "Canceled" or job["group"] in self.lost() else 1
+        if not least <= len(begun) <= 1:
             found.append(f"group {job['group']}'s command began {len(begun)} times")
         return found
 

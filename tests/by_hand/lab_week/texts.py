@@ -44,11 +44,6 @@ DATE = """#!/bin/sh
 # The day of the week that is played.
 cat "{room}/day"
 """
-# Asks what plays the week to stop or start what serves, and waits until that is done.
-ASKS = """#!/bin/sh
-: > "{room}/{what}"
-while [ -e "{room}/{what}" ]; do sleep 0.05; done
-"""
 WATCH = """
 [desk]
 server = '{server}'
