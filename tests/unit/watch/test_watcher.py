@@ -269,9 +269,10 @@ def test_a_reason_of_the_history_is_told_of_this_farms_job_alone(lab: Lab) -> No
     """And it isn't asked for again for a while where no proxy serves it."""
     lab.watches(**ALL)
     of_bob: Dict[str, Any] = {"kind": "job", "job": 2, "owner": "bob", "outcome": "Incomplete"}
-    for history in (None, [{**of_bob, "owner": "ann", "reason": "another farm's"},
-                           {**of_bob, "reason": "time limit,\nstatus 143"}, {"kind": "job", "job": 1}]):
-        lab.desk.history = history
+    histories: Tuple[Optional[List[Dict[str, Any]]], ...] = (None, [
+        {**of_bob, "owner": "ann", "reason": "another farm's"}, {**of_bob, "reason": "time limit,\nstatus 143"},
+        {"kind": "job", "job": 1}])
+    for lab.desk.history in histories:
         lab.desk.ends(lab.desk.submits(owner="bob"), "Incomplete")
         lab.looks(after=600)
     assert [it["reason"] for it in lab.bodies()] == ["", "time limit, status 143"]
