@@ -33,10 +33,10 @@ sys.path += [os.path.join(TESTS, it) for it in ("shared", "faults")]
 from ports import free_port  # noqa: E402
 from power_cuts import conversation, request  # noqa: E402
 from recorded import Entry, entries_in  # noqa: E402
+from served import Farm  # noqa: E402
 
 PAGE = 4096
 ENDS = ("", "-wal")
-LAB = '[types.plain]\n\n[boards.p1]\ntype = "plain"\n'
 
 
 class Disk:
@@ -170,31 +170,17 @@ def contents(path: str) -> bytes:
         return file.read()
 
 
-def farms(farm: str, folder: str) -> List[str]:
-    """A farm without a job, and one whose log is about to be carried into its file."""
+def farms(program: str, folder: str) -> List[str]:
+    """A farm without a job, and one of sixty jobs whose log is about to be carried into its file."""
     made = []
     for name, jobs in (("empty", 0), ("full", 60)):
         os.mkdir(f"{folder}/{name}")
-        db, lab = f"{folder}/{name}/farm.db", f"{folder}/{name}/lab.toml"
-        with open(lab, "w", encoding="utf-8") as file:
-            file.write(LAB)
-        subprocess.run([farm, "init", "--db", db], stdout=subprocess.DEVNULL, check=True)
-        subprocess.run([farm, "import", "--db", db, "--at", "1700000000", lab], stdout=subprocess.DEVNULL, check=True)
-        made.append(db)
-        if jobs:
-            fill(farm, db, jobs)
+        farm = Farm(program, f"{folder}/{name}", [("p1", "plain", [])])
+        for _ in range(jobs):
+            farm.tell("bea", "/jobs", b'job_name = "large"\ndevice_type = "plain"\n# ' + b"x" * 60000)
+        farm.kill()
+        made.append(farm.db)
     return made
-
-
-def fill(farm: str, db: str, jobs: int) -> None:
-    """Gives a farm so many jobs of sixty thousand bytes."""
-    port = free_port()
-    server = subprocess.Popen([farm, "serve", "--db", db, "--port", str(port), "--max", str(jobs)], stdout=subprocess.PIPE)
-    assert server.stdout is not None and server.stdout.readline()
-    text = 'job_name = "large"\ndevice_type = "plain"\n# ' + "x" * 60000 + "\n"
-    for _ in range(jobs):
-        assert conversation(port, request("bea", "/jobs", text)).startswith(b"HTTP/1.1 200 ")
-    server.communicate()
 
 
 def main(farm: str, recorder: str, rounds: int, seed: int) -> Tuple[int, int]:

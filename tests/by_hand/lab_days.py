@@ -2,60 +2,55 @@
 """A lab's week in about fourteen minutes, with every tool on:
 python3 tests/by_hand/lab_days.py [--site] bin/farm [SECONDS [SEED]]
 
-Run by hand, since it takes that long; `make test` leaves it out. A day is a seventh of the time, and ends with a night. Sixteen
-boards of four types (one checked by the hour, one by jobs, two never) are served from files. People submit a hundred
+Run by hand, since it takes that long; `make test` leaves it out. A day is a seventh of the time, and ends with a night. Fourteen
+boards of three types (one checked by the hour, one by jobs, one never) are served from files. People submit a hundred
 jobs of one board and a hundred groups of two to four, in two bursts and between them, and cancel
 some; others reserve, acquire, extend, give back, or forget a board, which farm-watch ends. An admin
 sets healths, mends what went Bad once that is told, and imports two more boards. farm-dispatch runs
 commands of 0.1 to 2 seconds that end in all ways and leave files, links, too much and tests in out/; farm-watch tells by mail
 and webhook, and keeps what people held; farm-backup makes copies,
-farm-metrics counts. Two boards have consoles, reached by farm-access over an sshd. Each night the
-line of examples/nightly-job.service comes twice under the key of its day, and farm-backup keeps the last copies; in the
-middle of the week the notes of boards change. Desk, dispatcher, watcher and door are killed (SIGKILL) at random moments and
-started again at once, at least sixty times. Then the next farm takes over from the week's, with another name of a board and another check.
+farm-metrics counts. Each night the line of examples/nightly-job.service comes twice under the key of its day, and
+farm-backup keeps the last copies. Desk, dispatcher, watcher and door are killed (SIGKILL) at random moments and
+started again at once, at least sixty times.
 
-At the end it demands: each command that was answered is answered alike once more; no board was held
-twice, by the desk's answers, its reports, and what commands and people noted; each job that began
-has one line in the history and the outcome that its command meant, and each group's command ran
-once, with all its boards; what it left is kept within the bounds, listed, counted, and fetched alike; each event was told once
-by both ways (what came again under its id is dropped), in fewer mails; `desk usage` counts what people noted; each copy
-is the farm after a prefix of the commands; the metrics agree
-with the history; a night has one job; who holds a board gets to it and nobody else; the next farm serves, and the past of
-both is there; and nothing is left running. Then each demand is made once more of what was found with one fault in it, which it
-has to find (lab_week/spoils.py). It prints the figures in a table, and ends with status 1 where anything deviated.
+At the end it demands: each command that was answered is answered alike once more; no board was held twice, by the
+desk's answers and what commands and people noted; each job that began has one line in the history and the outcome
+that its command meant (Infra where its dispatcher was killed, with which it ends), and each group's command ran once,
+with all its boards; what it left is kept within the bounds, listed and counted; each event was told once by both ways
+(what came again under its id is dropped), in fewer mails; `desk usage` counts what people noted; each copy is the
+farm after a prefix of the commands; the metrics agree with the history; a night has one job; and nothing is left
+running. Then each demand is made once more of what was found with one fault in it, which it has to find
+(lab_week/spoils.py). It prints the figures in a table, and ends with status 1 where anything deviated.
 
 SECONDS is how long people work, 700 where no number is given (at least 400, for holds to end), or up to twice as long where
 sixty kills haven't come by then; SEED makes the same people again. With --site people ask with a password each through the
-example's nginx with farm-door, as packaged, which is killed too: two admins have logins of their own, two people meet limits, a
-pipeline asks by tokens, and the audit has each command once; it wants nginx and openssl. Consoles want ser2net, pdudaemon and
-sshd, and are left out without these.
+example's nginx with farm-door, as packaged, which is killed too: two admins have logins of their own, a pipeline asks by
+tokens, and the audit has each command once; it wants nginx and openssl. (Consoles over kills are access_handovers.py's,
+limits tests/security's, the next farm test_next_units'.)
 """
 from __future__ import annotations
 
 import contextlib
 import os
 import random
-import shutil
 import signal
 import sys
 import tempfile
 import threading
 import time
-from typing import Callable, Dict, Iterator, List, Optional, Set, Union
+from typing import Callable, Iterator, List, Optional, Tuple, Union
 
 HERE = os.path.dirname(os.path.abspath(__file__))
-sys.path[:0] = [os.path.join(HERE, it) for it in ("../shared", "../tools", "../../tools", "../../python/src")]
-import access_lab  # noqa: E402
+sys.path[:0] = [os.path.join(HERE, it) for it in ("../shared", "../../tools", "../../python/src")]
 from lab_week import (  # noqa: E402
-    beside, consoles, figures, nights, of_artifacts, of_copies, of_holds, of_jobs, of_messages, of_metrics,
-    of_notes, of_site, people, pipelines, spoils, turn,
+    beside, figures, nights, of_artifacts, of_copies, of_holds, of_jobs, of_messages, of_metrics, of_site, people, pipelines,
+    spoils,
 )
 from lab_week.lab import QUEUED, Lab  # noqa: E402
-from lab_week.texts import HOURLY, LIMITED, PIPELINE  # noqa: E402
+from lab_week.texts import PIPELINE  # noqa: E402
 from served import PATIENCE  # noqa: E402
 
 SUBMISSIONS = 200
-FOR_CONSOLES = ("ssh", "sshd", "ser2net", "pdudaemon", "ssh-keygen", "unshare", "systemctl", "nft")
 
 
 def begins(lab: Lab, call: Callable[..., None], name: str, *words: object) -> threading.Thread:
@@ -70,7 +65,7 @@ def begins(lab: Lab, call: Callable[..., None], name: str, *words: object) -> th
     return thread
 
 
-def all_begin(lab: Lab, ways: Optional[access_lab.Lab], dice: random.Random) -> List[threading.Thread]:
+def all_begin(lab: Lab, dice: random.Random) -> List[threading.Thread]:
     """Lets people begin, and what ends with their work."""
 
     def chance() -> random.Random:
@@ -78,19 +73,15 @@ def all_begin(lab: Lab, ways: Optional[access_lab.Lab], dice: random.Random) -> 
 
     plans = zip(people.SUBMITTERS, people.plans_of(lab.left(), dice))
     found = [begins(lab, people.submits, user, user, plan, chance()) for user, plan in plans]
-    found += [begins(lab, call, user, user, chance()) for user, call in people.OTHERS]
-    if lab.site:
-        found += [begins(lab, call, user, user, chance()) for user, call in (
-            (LIMITED, pipelines.meets_limits), (HOURLY, pipelines.meets_the_hours), (PIPELINE, pipelines.asks_by_tokens))]
-    if ways:
-        found.append(begins(lab, consoles.goes_to_boards, "consoles", ways, chance()))
+    others = [*people.OTHERS, *([(PIPELINE, pipelines.asks_by_tokens)] if lab.site else [])]
+    found += [begins(lab, call, user, user, chance()) for user, call in others]
     return found + [begins(lab, call, call.__name__, chance())
                     for call in (beside.kills, beside.copies, nights.nights)]
 
 
-def lives(lab: Lab, ways: Optional[access_lab.Lab], dice: random.Random) -> None:
+def lives(lab: Lab, dice: random.Random) -> None:
     """Lets people work until the week is over and all is given back."""
-    working = all_begin(lab, ways, dice)
+    working = all_begin(lab, dice)
     late = [begins(lab, people.administers, "admin", "admin", random.Random(dice.random()))]
     late += [begins(lab, call, call.__name__, None) for call in (beside.measures, beside.watches_boards)]
     for it in working:
@@ -114,78 +105,51 @@ def busy(lab: Lab) -> List[object]:
     return [*lab.look("/queue")["queue"], *boards]
 
 
-class Demands:
-    """All that is demanded of the week, and whether each demand can fail."""
+def demand(lab: Lab, faults: List[str], spoiled: Iterator[spoils.Spoiled]) -> int:
+    """Demands that there are no faults, and that each one that is put in is found. Returns how many those were."""
+    tried = 0
+    for it in faults:
+        lab.wrong(it)
+    try:
+        for tried, (name, call) in enumerate(spoiled, 1):
+            if not call():
+                lab.wrong(f"no demand finds this fault: {name}")
+    except (StopIteration, LookupError, ValueError, RuntimeError) as fault:
+        lab.wrong(f"a fault couldn't be made: {type(fault).__name__}: {fault}")
+    return tried
 
-    def __init__(self, lab: Lab, ways: Optional[access_lab.Lab]):
-        self.lab = lab
-        self.boards: Dict[str, bytes] = {it: ways.text(it) for it in access_lab.BOARDS} if ways else {}
-        self.tried = 0
 
-    def demand(self, faults: List[str]) -> None:
-        for it in faults:
-            self.lab.wrong(it)
+def judged(lab: Lab) -> Tuple[figures.Rows, int]:
+    """What people, their jobs and the tools did. Returns its figures, and how many faults were put in."""
+    jobs, holds, told = of_jobs.jobs_of(lab), of_holds.judged(lab), of_messages.told(lab)
+    left = of_artifacts.seen(lab, jobs)
+    there = os.listdir(f"{lab.room}/nightly")
+    tried = demand(lab, jobs.faults(), spoils.of_jobs_run(jobs))
+    tried += demand(lab, left.faults(), spoils.of_artifacts_kept(left))
+    tried += demand(lab, holds.faults(), spoils.of_holds_counted(holds))
+    tried += demand(lab, of_holds.faults_of_holders(lab.held, lab.runs), spoils.of_holders(lab))
+    faults = nights.faults_of_nights(lab.nights, jobs.views) + of_copies.faults_of_keeping(there, lab.nightly)
+    tried += demand(lab, faults, spoils.of_the_nights(lab, jobs.views, there))
+    tried += demand(lab, of_metrics.faults(lab, quiet=True), spoils.of_figures(lab))
+    tried += demand(lab, told.faults(), spoils.of_messages_told(told))
+    if lab.site:
+        audit = of_site.audit_of(lab)
+        tried += demand(lab, audit.faults(), spoils.of_what_goes_by_site(audit))
+    return figures.of_work(lab, jobs, holds) + figures.of_tools(lab, lab.look("/status")["count"], told), tried
 
-    def can_fail(self, spoiled: Iterator[spoils.Spoiled]) -> None:
-        try:
-            unseen, count = spoils.unseen(spoiled)
-            self.tried += count
-            self.demand(unseen)
-        except (StopIteration, LookupError, ValueError, RuntimeError) as fault:
-            self.lab.wrong(f"a fault couldn't be made: {type(fault).__name__}: {fault}")
 
-    def of_work(self) -> figures.Rows:
-        """What people and their jobs did."""
-        lab, jobs = self.lab, of_jobs.jobs_of(self.lab)
-        began: Set[int] = {number for number, (begun, _, _) in jobs.notes.items() if begun}
-        left, holds = of_artifacts.seen(lab, began), of_holds.judged(lab)
-        nights.shows_notes(lab, 1)
-        self.demand(of_metrics.faults(lab, quiet=True))
-        self.demand([*jobs.faults(), *left.faults(), *holds.faults()])
-        self.demand(of_artifacts.faults_of_fetching(lab, sorted(map(int, os.listdir(left.folder))), left.folder))
-        self.demand(of_holds.faults_of_holders(lab.held, lab.runs))
-        self.demand([*of_notes.faults_of_nights(lab.nights, jobs.views), *of_notes.faults_of_notes(lab.notes_shown)])
-        self.demand(of_copies.faults_of_keeping(os.listdir(f"{lab.room}/nightly"), lab.nightly))
-        if self.boards:
-            self.demand(consoles.faults_of_consoles(self.boards, lab.sessions))
-        for spoiled in (spoils.of_jobs_run(jobs), spoils.of_artifacts_kept(lab, left), spoils.of_holds_counted(holds),
-                        spoils.of_the_nights(lab, jobs.views), spoils.of_figures(lab), spoils.of_boards(lab, self.boards)):
-            self.can_fail(spoiled)
-        return figures.of_work(lab, jobs, holds)
-
-    def of_tools(self) -> figures.Rows:
-        """What was told and let through; then all is sent once more, and the next farm takes over."""
-        lab, told = self.lab, of_messages.told(self.lab)
-        self.demand(told.faults())
-        self.can_fail(spoils.of_messages_told(told))
-        if lab.site:
-            audit = of_site.audit_of(lab)
-            self.demand([*audit.faults(), *of_site.faults_of_limits(of_site.asked_of(lab), lab.told_limits)])
-            self.can_fail(spoils.of_what_goes_by_site(lab, audit))
-        for name in ("dispatcher", "watcher"):
-            lab.stop(name)
-        rows = figures.of_tools(lab, lab.look("/status")["count"], told)
-        of_jobs.check_keys(lab)
-        self.can_fail(spoils.of_commands(lab))
-        for name in ("dispatcher", "watcher"):
-            lab.start(name)
-        return rows
-
-    def of_next_farm(self, dice: random.Random) -> None:
-        """The next farm, and what is left of the week's."""
-        lab = self.lab
-        week, old = turn.begins_anew(lab, dice)
-        self.demand(turn.faults(lab, week))
-        self.can_fail(turn.spoils(lab, week))
-        ends(lab)
-        found = of_copies.check_copies(lab, old, week.commands)
-        self.can_fail(spoils.of_prefixes(found, week.commands))
+def at_its_end(lab: Lab) -> int:
+    """All commands are sent once more; then what is left of the farm is its file and its copies."""
+    for name in ("dispatcher", "watcher"):
+        lab.stop(name)
+    tried = demand(lab, of_jobs.faults_of_all_keys(lab), spoils.of_commands(lab))
+    ends(lab)
+    found = of_copies.copies_of(lab)
+    return tried + demand(lab, of_copies.faults(found, lab.commands), spoils.of_prefixes(found, lab.commands))
 
 
 def ends(lab: Lab) -> None:
-    """Ends all; no tool tells of a fault of its own."""
-    for name in ("dispatcher", "watcher"):
-        lab.stop(name)
+    """Ends all; no tool has told of a fault of its own."""
     for name, tool in lab.tools.items():
         if "Traceback" in tool.errors():
             lab.wrong(f"the {name} tells: {tool.errors()}")
@@ -209,13 +173,6 @@ def processes_of(room: str) -> List[str]:
     return found
 
 
-def ways_of(lab: Lab) -> Optional[access_lab.Lab]:
-    missing = [it for it in FOR_CONSOLES if not (shutil.which(it) or shutil.which(it, path="/usr/sbin:/sbin"))]
-    if missing:
-        print(f"lab_days: without consoles, since there is no {', no '.join(missing)}", flush=True)
-    return None if missing else consoles.made(lab)
-
-
 def main(has_site: bool, program: str, seconds: Union[int, str] = 700, seed: Optional[str] = None) -> int:
     number = int(seed or random.randrange(10**6))
     dice, began = random.Random(number), time.monotonic()
@@ -224,21 +181,16 @@ def main(has_site: bool, program: str, seconds: Union[int, str] = 700, seed: Opt
     signal.signal(signal.SIGTERM, lambda *_: sys.exit(128 + signal.SIGTERM))
     with tempfile.TemporaryDirectory(ignore_cleanup_errors=True) as room:
         lab = Lab(os.path.realpath(program), os.path.realpath(room), int(seconds), has_site)
-        ways = ways_of(lab)
-        try:
-            lives(lab, ways, dice)
-            demands = Demands(lab, ways)
-        finally:
-            if ways:
-                ways.machine.end()
+        lives(lab, dice)
         if sum(lab.kills.values()) < beside.LEAST or len(lab.submitted) < SUBMISSIONS:
             lab.wrong(f"{sum(lab.kills.values())} kills, {len(lab.submitted)} submissions")
-        rows = [*demands.of_work(), *demands.of_tools(), *figures.of_site(lab)]
-        demands.of_next_farm(dice)
-        rows += [("demands", f"{demands.tried} faults were tried, each of which has to be found"),
-                 ("time", f"{(time.monotonic() - began) / 60:.1f} minutes"),
-                 ("deviated", "; ".join(lab.deviations) or "nothing")]
-        figures.show(rows)
+        rows, tried = judged(lab)
+        tried += at_its_end(lab)
+    rows += [("demands", f"{tried} faults were tried, each of which has to be found"),
+             ("time", f"{(time.monotonic() - began) / 60:.1f} minutes"),
+             ("deviated", "; ".join(lab.deviations) or "nothing")]
+    for name, text in rows:
+        print(f"{name:<16} {text}", flush=True)
     return 1 if lab.deviations else 0
 
 

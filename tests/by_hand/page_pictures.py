@@ -1,16 +1,13 @@
 #!/usr/bin/env python3
-"""Draws the pictures of the status page: python3 tests/by_hand/page_pictures.py bin/farm [FOLDER [states]]
+"""Draws the pictures of the status page: python3 tests/by_hand/page_pictures.py bin/farm [FOLDER]
 
 A farm of the example lab as a user of it sees it: page.png 1280 points wide, and page-phone.png as a phone of 390
-points has it, both in FOLDER, or in docs/. With `states` FOLDER gets instead, to be looked at, each state of the page at
-14 widths in light and dark, `big` and `grid` with 256 boards: STATE-WIDTH-SCHEME.png. Ends with status 1 where Chromium
-isn't there.
+points has it, both in FOLDER, or in docs/. Ends with status 1 where Chromium isn't there.
 """
 from __future__ import annotations
 
 import json
 import os
-import shutil
 import subprocess
 import sys
 import tempfile
@@ -19,8 +16,8 @@ from typing import Any, Dict
 
 sys.path.insert(0, os.path.join(os.path.dirname(os.path.abspath(__file__)), "../shared"))
 from browser import CHROMIUM, Browser  # noqa: E402
-from pages import HOUR, HURRY, PHONE, Lab, full_farm, full_present, record, tell_at, until  # noqa: E402
-from served import TOP, Farm, wait_until  # noqa: E402
+from pages import HOUR, PHONE, Lab, record, tell_at, until  # noqa: E402
+from served import TOP, Farm  # noqa: E402
 
 MINUTE = 60
 LOG = "U-Boot 2026.01 (Jan 05 2026)\nDRAM:  2 GiB\nbooting ...\nlogin: \n"
@@ -166,83 +163,13 @@ def draw(program: str, room: str, browser: Browser, folder: str) -> None:
     lab.end()
 
 
-# The states of the page: the user, the address, and what stands there once it is drawn.
-STATES = {
-    "boards": ("ann", "/", "main tbody tr"),
-    "big": ("ann", "/?flat", "main tbody tr"),
-    "grid": ("ann", "/?grid", "#tiles a"),
-    "waits": ("ann", "/#/jobs/15", "#job dd"),
-    "runs": ("ann", "/#/jobs/7", "#log:not([hidden])"),
-    "ended": ("ann", "/#/jobs/42", "#artifacts li"),
-    "usage": ("ann", "/#/usage", "#usage-days rect"),
-    "down": ("ann", "/", ".stale main"),
-    "first": ("", "/", "#boards .nothing"),
-}
-SIZES = ((320, 568), (360, 780), (390, 844), (430, 932), (480, 900), (640, 360), (705, 900), (768, 1000), (900, 1000),
-         (960, 540), (1024, 900), (1280, 900), (1600, 900), (1920, 1080))
-LEFT = {"group": 42, "left_out": [{"name": "passwd", "why": "a link"}], "files": [
-    {"number": 1, "name": "boot/console.log", "size": 48211}, {"number": 2, "name": "junit.xml", "size": 3120}]}
-SAID = {"passed": 41, "failed": 2, "errors": 0, "skipped": 3, "names": ["usb.speed", "net.link[eth1]"]}
-
-
-def ended_too(files: Dict[str, bytes], now: int) -> None:
-    """Gives job 42 tests and artifacts, the usage its lines, and the running job 7 a log."""
-    told = json.loads(files["/history.json"])
-    told["jobs"][0].update(tests=SAID, artifacts={"files": 2, "bytes": 51331, "left_out": 1}, outcome="Incomplete")
-    files["/history.json"] = json.dumps(told).encode()
-    files["/artifacts/42/index.json"] = json.dumps(LEFT).encode()
-    files["/logs/7"] = LOG.encode() * 8
-    days = [job(100 + it, ("ann", "ci", "bob")[it % 3], f"rpi4b-0{it % 4 + 1}", "rpi4b", "nightly",
-                now - it * 9000, 3000 + it * 60) for it in range(100)]
-    hold = {"kind": "hold", "key": "k", "reservation": 3, "owner": "bob", "board": "rpi4b-02", "type": "rpi4b",
-            "began": now - 40 * HOUR, "ended": now - 31 * HOUR, "reason": ""}
-    files["/history.jsonl"] = "".join(f"{json.dumps(it)}\n" for it in days).encode()
-    files["/holds.jsonl"] = json.dumps(hold).encode()
-
-
-def draw_states(program: str, room: str, browser: Browser, folder: str) -> None:
-    os.makedirs(folder, exist_ok=True)
-    lab, now = in_use(program, room, browser), int(time.time())
-    ended_too(lab.files, now)
-    kept = dict(lab.files)
-    os.mkdir(os.path.join(room, "empty"))
-    empty = Lab(browser, Farm(program, os.path.join(room, "empty"), []), None)
-    for state, (user, address, wanted) in STATES.items():
-        lab.passes()
-        seen_by = lab if user else empty
-        full = full_farm(int(time.time())) if state in ("big", "grid") else {}
-        lab.files = {**kept, **full, **(full_present(full) if full else {})}
-        opened = seen_by.opened(address, wide=1280, high=900, before=HURRY + ";" + sights(lab.farm, now))
-        if state == "down":
-            lab.farm.kill()
-            lab.files = {}
-        wait_until(f"{state} is there", lambda: opened.ask(f"!!document.querySelector({wanted!r})"))  # noqa: B023
-        for scheme in ("light", "dark"):
-            opened.set_scheme(scheme)
-            for wide, high in SIZES:
-                opened.resize(wide, high)
-                opened.ask("new Promise(done => requestAnimationFrame(() => setTimeout(done, 50)))")
-                opened.draw(os.path.join(folder, f"{state}-{wide}-{scheme}.png"))
-        opened.close()
-        if state == "down":
-            lab.farm.start()
-    lab.end()
-    empty.end()
-
-
 def main() -> None:
     if CHROMIUM is None:
         sys.exit("page_pictures: there is no Chromium")
-    target = sys.argv[2] if len(sys.argv) > 2 else os.path.join(TOP, "docs")
-    work = tempfile.mkdtemp()
-    try:
+    with tempfile.TemporaryDirectory(ignore_cleanup_errors=True) as work:  # (Chromium may still write)
         chromium = Browser(work)
-        call = draw_states if sys.argv[3:] == ["states"] else draw
-        call(os.path.realpath(sys.argv[1]), work, chromium, target)
+        draw(os.path.realpath(sys.argv[1]), work, chromium, (sys.argv[2:] or [os.path.join(TOP, "docs")])[0])
         chromium.end()
-    finally:
-        # (Chromium may still write)
-        shutil.rmtree(work, ignore_errors=True)
 
 
 if __name__ == "__main__":

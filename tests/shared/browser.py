@@ -188,11 +188,16 @@ class Page:
         self.browser.do("Target.closeTarget", targetId=self.target)
 
     def poor_texts(self) -> Set[str]:
-        """The texts of the page, or of what is open over it, whose contrast is below 4.5, as WCAG
+        """The texts of the page, or of what is open over it, whose contrast is below 4.5 in light or dark, as WCAG
         counts it."""
-        texts = self.ask(TEXTS)
-        assert len(texts) > 3, "there are hardly any texts"
-        return {name for name, colour, grounds in texts if contrast(parts(colour), ground_of(grounds)) < 4.5}
+        found: Set[str] = set()
+        for scheme in ("light", "dark"):
+            self.set_scheme(scheme)
+            texts = self.ask(TEXTS)
+            assert len(texts) > 3, "there are hardly any texts"
+            found |= {f"{name} in {scheme}" for name, colour, grounds in texts
+                      if contrast(parts(colour), ground_of(grounds)) < 4.5}
+        return found
 
 
 def high_pipe() -> List[int]:

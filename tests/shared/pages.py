@@ -180,15 +180,9 @@ class Lab:
         self.may_answer.set()
         self.door, self.visit = Server(self), browser.visit()
 
-    def open(self, path: str = "/", scheme: str = "", before: str = HURRY, **size: int) -> Page:
-        """A page that looks at the farm, in light or dark where that is said."""
-        address = f"http://127.0.0.1:{self.door.server_address[1]}{path}"
-        if not scheme:
-            return self.visit.open(address, before=before, **size)
-        opened = self.visit.open("data:text/html,", before=before, **size)
-        opened.set_scheme(scheme)
-        opened.go(address)
-        return opened
+    def open(self, path: str = "/", before: str = HURRY, **size: int) -> Page:
+        """A page that looks at the farm."""
+        return self.visit.open(f"http://127.0.0.1:{self.door.server_address[1]}{path}", before=before, **size)
 
     def opened(self, path: str = "/", **more: Any) -> Page:
         """A page that has looked."""

@@ -14,7 +14,6 @@ import signal
 import subprocess
 import tempfile
 import threading
-import time
 from typing import Any, Callable, Dict, Iterator, List, Optional, Sequence, Tuple
 
 from desks import write
@@ -121,8 +120,6 @@ class Hook:
     def __init__(self) -> None:
         self.posted: List[Tuple[str, Dict[str, str], bytes]] = []
         self.answer = 200
-        self.answers: Dict[str, int] = {}  # in its place, to messages of these owners
-        self.hangs = False
         self.to_kill: Optional[int] = None
         hook = self
 
@@ -140,22 +137,12 @@ class Hook:
         threading.Thread(target=self.server.serve_forever, daemon=True).start()
 
     def take(self, handler: http.server.BaseHTTPRequestHandler, body: bytes) -> None:
-        if self.hangs:
-            handler.send_response_only(200)
-            for _ in range(600):  # a byte now and then, so that no wait for bytes ends it
-                time.sleep(0.5)
-                try:
-                    handler.wfile.write(b"x")
-                except OSError:
-                    return
-            return
-        answer = self.answers.get(json.loads(body)["owner"], self.answer)
-        if answer == 200:
+        if self.answer == 200:
             self.posted.append((handler.path, dict(handler.headers.items()), body))
         if self.to_kill is not None:
             process, self.to_kill = self.to_kill, None
             os.kill(process, signal.SIGKILL)
-        reply(handler, answer, b"")
+        reply(handler, self.answer, b"")
 
     def messages(self) -> List[Any]:
         """What was taken, by its id: one that came again is dropped, and has to be the same."""
@@ -174,15 +161,10 @@ class Hook:
 
 
 class Door:
-    """What stands in front of a desk, notes what is asked of it, and may change its answers."""
+    """What stands in front of a desk, and counts the looks."""
 
     def __init__(self, farm: Farm):
-        self.asked: List[Tuple[str, str]] = []
-        self.change: Dict[str, Dict[str, Any]] = {}
-        self.serves: Dict[str, bytes] = {}  # what it serves beside the desk
-        self.is_full = False  # it refuses keys, as a farm that has no room for replies
-        self.before: Optional[Callable[[], object]] = None  # what is called in the place of a command,
-        self.after: Optional[Callable[[], object]] = None  # and after one, before its answer
+        self.looks = 0
         door = self
 
         class Handler(http.server.BaseHTTPRequestHandler):
@@ -200,32 +182,10 @@ class Door:
         threading.Thread(target=self.server.serve_forever, daemon=True).start()
 
     def pass_on(self, handler: http.server.BaseHTTPRequestHandler, farm: Farm) -> None:
-        self.asked.append((handler.command, handler.path))
-        if handler.path in self.serves:
-            reply(handler, 200, self.serves[handler.path])
-            return
-        user, key = handler.headers["x-user"], handler.headers["x-key"]
-        if self.is_full and key:
-            reply(handler, 409, b'{"code":4,"text":"full"}')
-            return
-        if self.before is not None and handler.command == "POST":
-            self.before()
-            return
-        try:
-            status, said = farm.ask(user, handler.command, handler.path, key=key)
-        except (OSError, http.client.HTTPException):
-            return  # no desk is there
-        if self.after is not None and handler.command == "POST":
-            self.after()
-        if status == 200:
-            said = {**said, **self.change.get(handler.path, {})}
-        reply(handler, status, json.dumps(said).encode())
-
-    def looks(self) -> int:
-        return self.asked.count(("GET", "/status"))
-
-    def count(self, path: str) -> int:
-        return self.asked.count(("GET", path))
+        self.looks += handler.path == "/status"
+        with contextlib.suppress(OSError, http.client.HTTPException):  # no desk is there
+            status, said = farm.ask(handler.headers["x-user"], handler.command, handler.path, key=handler.headers["x-key"])
+            reply(handler, status, json.dumps(said).encode())
 
 
 class Watched:
@@ -266,8 +226,8 @@ class Watched:
 
     def looked(self, count: int = 1) -> None:
         """Waits for whole looks that begin from now on."""
-        begun = self.door.looks()
-        wait_until("looks", lambda: self.door.looks() > begun + count)
+        begun = self.door.looks
+        wait_until("looks", lambda: self.door.looks > begun + count)
 
     def stop(self) -> None:
         self.tool.send(signal.SIGTERM)

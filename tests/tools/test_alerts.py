@@ -5,14 +5,13 @@ import json
 import os
 import pathlib
 import subprocess
-import threading
-from http.server import BaseHTTPRequestHandler, HTTPServer
-from typing import Any, Callable, Dict, List
+from typing import Any, Callable, Dict, List, Tuple
 
 import pytest
 from ports import free_port
 from served import STARTED, TOP, Farm, ends_with_us, wait_until
 from wants import wants
+from watched import Hook
 
 EXAMPLES = os.path.join(TOP, "examples")
 BACKUP = "fizgruk_backup_last_success_timestamp_seconds"
@@ -72,19 +71,6 @@ def test_the_example_of_whom_to_tell_is_read() -> None:
     assert ran.returncode == 0 and "SUCCESS" in ran.stdout, ran.stdout + ran.stderr
 
 
-class Hook(BaseHTTPRequestHandler):
-    """Takes what Alertmanager posts."""
-
-    def do_POST(self) -> None:
-        said = json.loads(self.rfile.read(int(self.headers["content-length"])))
-        self.server.told += [(it["labels"]["alertname"], it["status"]) for it in said["alerts"]]  # type: ignore[attr-defined]
-        self.send_response(200)
-        self.end_headers()
-
-    def log_message(self, *_: object) -> None:
-        pass
-
-
 def runs(folder: pathlib.Path, *words: str) -> None:
     with open(folder / f"{os.path.basename(words[0])}.log", "ab") as log:
         STARTED.append(subprocess.Popen(words, stdout=log, stderr=log, cwd=folder, preexec_fn=ends_with_us()))
@@ -98,9 +84,7 @@ def test_a_desk_that_is_down_reaches_the_admins(
     wants("prometheus", "prometheus-alertmanager")
     farm = make_farm([("b1", "bbb", [])])
     metrics, prometheus, alertmanager = free_port(), free_port(), free_port()
-    hook = HTTPServer(("127.0.0.1", 0), Hook)
-    hook.told = []  # type: ignore[attr-defined]
-    threading.Thread(target=hook.serve_forever, daemon=True).start()
+    hook = Hook()
     with open(f"{EXAMPLES}/alerts.yml", encoding="utf-8") as rules:
         (tmp_path / "alerts.yml").write_text(rules.read().replace("for: 1m", "for: 1s"))
     (tmp_path / "prometheus.yml").write_text(json.dumps({
@@ -108,10 +92,9 @@ def test_a_desk_that_is_down_reaches_the_admins(
         "alerting": {"alertmanagers": [{"static_configs": [{"targets": [f"127.0.0.1:{alertmanager}"]}]}]},
         "scrape_configs": [{"job_name": "farm", "static_configs": [{"targets": [f"127.0.0.1:{metrics}"]}]}],
     }))
-    url = f"http://127.0.0.1:{hook.server_port}/"
     (tmp_path / "alertmanager.yml").write_text(json.dumps({
         "route": {"receiver": "admins", "group_wait": "1s", "group_interval": "1s", "group_by": ["alertname"]},
-        "receivers": [{"name": "admins", "webhook_configs": [{"url": url}]}],
+        "receivers": [{"name": "admins", "webhook_configs": [{"url": hook.url}]}],
     }))
     start_tool("farm-metrics", "--listen", str(metrics), "--server", farm.server)
     runs(tmp_path, "prometheus-alertmanager", "--config.file=alertmanager.yml", f"--web.listen-address=127.0.0.1:{alertmanager}",
@@ -119,8 +102,12 @@ def test_a_desk_that_is_down_reaches_the_admins(
     runs(tmp_path, "prometheus", "--config.file=prometheus.yml", f"--web.listen-address=127.0.0.1:{prometheus}",
          "--storage.tsdb.path=prometheus")
     farm.kill()
-    told: List[Any] = hook.told  # type: ignore[attr-defined]
-    wait_until("the alert reaches the admins", lambda: ("DeskDown", "firing") in told)
+
+    def told() -> List[Tuple[str, str]]:
+        alerts = [it for _, _, body in list(hook.posted) for it in json.loads(body)["alerts"]]
+        return [(it["labels"]["alertname"], it["status"]) for it in alerts]
+
+    wait_until("the alert reaches the admins", lambda: ("DeskDown", "firing") in told())
     farm.start()
-    wait_until("its end does, too", lambda: ("DeskDown", "resolved") in told)
-    hook.shutdown()
+    wait_until("its end does, too", lambda: ("DeskDown", "resolved") in told())
+    hook.server.shutdown()

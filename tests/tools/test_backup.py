@@ -178,8 +178,11 @@ def test_what_cant_be_copied_or_proved_is_told_in_a_line(
     assert sorted(os.listdir(folder)) == before
 
 
-def test_a_copy_that_cant_be_compared_is_kept(make_farm: Made, folder: str) -> None:
-    status, said, errors = backup(make_farm(), folder, "--server", "http://127.0.0.1:1")
+def test_a_copy_is_compared_with_the_desk_and_one_that_cant_be_is_kept(make_farm: Made, folder: str) -> None:
+    farm = make_farm()
+    status, said, errors = backup(farm, folder, "--server", farm.server, "--verbose")
+    assert (status, errors) == (0, f"farm-backup: compared with the desk at {farm.server}: 0 commands\n")
+    status, said, errors = backup(farm, folder, "--server", "http://127.0.0.1:1")
     assert (status, os.path.realpath(f"{folder}/latest"), errors.count("\n")) == (0, said.strip(), 1)
 
 

@@ -98,27 +98,6 @@ b1:
   tags:
     kind: bbb
 """
-# Files of labgrid that hold no places, and what is said of each.
-NO_PLACES = [
-    (
-        "desk:\n  location: shelf 3\n  NetworkSerialPort:\n    host: h\n    port: 4001\n",
-        "it looks like an exporter's resources (desk: NetworkSerialPort)",
-    ),
-    (
-        "b1:\n  tags: {}\nb2:\n  uart0:\n    cls: RawSerialPort\n    port: /dev/ttyUSB0\n",
-        "it looks like an exporter's resources (b2: uart0)",
-    ),
-    (
-        "targets:\n  main:\n    resources:\n      RemotePlace:\n        name: b1\n"
-        "    drivers:\n      SerialDriver: {}\n",
-        "it looks like an environment of labgrid's client (targets)",
-    ),
-    (
-        "targets:\n  main:\n    resources: []\nmy_own: 3\n",
-        "it looks like an environment of labgrid's client (targets)",
-    ),
-    ("b1:\n  tags: {}\nb2:\n  owner: ann\n", "'b2' has nothing that a place has"),
-]
 # As a LAVA server has its devices.
 DEVICES = {
     "devices/bbb-01.jinja2": """\
@@ -204,17 +183,14 @@ b2 = { type = "bbb" }
 type = "rpi"
 """
 REMARKS = {
-    "[types.rpi]": """OWN:5 has check = "hours", every = 24""",
-    "[boards.b1]": """OWN:8 has type = "bbb", tags = ["rack=1"]""",
-    '[boards."r.1"]': """OWN:13 has type = "bbb", tags = []""",
+    "[types.rpi]": "OWN:5 has every 24 hours",
+    "[boards.b1]": "OWN:8 has bbb rack=1",
+    '[boards."r.1"]': "OWN:13 has bbb",
 }
 NOTES_OF_OWN_LAB = """\
-OWN:8: board b1: it has type = "bbb", tags = ["rack=1"], and the desk type = "bbb", \
-tags = ["hdmi", "rack=1"]: an import changes nothing
-OWN:13: board r.1: it has type = "bbb", tags = [], and the desk type = "rpi", tags = []: \
-an import changes nothing
-OWN:5: type rpi: it has check = "hours", every = 24, and the desk check = "jobs", every = 20: \
-an import changes nothing
+OWN:8: board b1: it has bbb rack=1, and the desk bbb hdmi rack=1: an import changes nothing
+OWN:13: board r.1: it has bbb, and the desk rpi: an import changes nothing
+OWN:5: type rpi: it has every 24 hours, and the desk every 20 jobs: an import changes nothing
 """
 NOTES_OF_DESK = """\
 board b1: reservation 1, which has it, isn't carried over
@@ -313,20 +289,6 @@ def test_devices_of_which_nothing_is_lost_are_carried_over_with_status_0(folder:
     assert refused(run(*words, "--verbose")) == (0, 2)
 
 
-def test_tags_and_boards_that_a_farm_has_no_room_for_are_told(program: str, folder: str) -> None:
-    for place in range(65):
-        write(folder, f"devices/b{place}.jinja2", "{% extends 'bbb.jinja2' %}")
-    many = " ".join(f"t{place}" for place in range(10, 27))
-    tags = write(folder, "tags", f"b0 {many} a=b=c {'k' * 33} v={'w' * 65} name=x\n")
-    status, output, errors = run("farm-from-lava", folder, "--tags", tags)
-    kept = ["a=b-c", "k" * 32, *(f"t{place}" for place in range(10, 24))]
-    assert status == 1 and f"tags = [{', '.join(f'{chr(34)}{it}{chr(34)}' for it in kept)}]" in output
-    for tag in ("t24", "t25", "t26", f"v={'w' * 64}"):
-        assert f"devices/b0.jinja2: tag {tag} isn't carried over: a board has 16 tags at most\n" in errors
-    assert "lab file: it has 65 boards of type bbb, and a farm has room for 64\n" in errors
-    assert imported(program, folder, write(folder, "lab.toml", output)) == "farm: 4 full at 66\n"
-
-
 # ---- labgrid
 
 
@@ -351,19 +313,17 @@ def test_places_of_which_nothing_is_lost(folder: str) -> None:
     assert run("farm-from-labgrid", write(folder, "empty.yaml", "{}\n")) == (0, "", "")
 
 
-@pytest.mark.parametrize("text", ["- a\n", "b1: 3\n", "{", "b1:\n  tags: [a]\n"])
-def test_a_file_that_holds_no_places(folder: str, text: str) -> None:
+@pytest.mark.parametrize("text, why", [
+    ("- a\n", "has no places by their names"), ("{", "isn't YAML"), ("b1:\n  tags: [a]\n", "its tags aren't words by their keys"),
+    ("b1: 3\n", "'b1' has nothing that a place has; the coordinator's is places.yaml"),
+    ("b1:\n  tags: {}\nb2:\n  uart0:\n    cls: RawSerialPort\n", "'b2' has nothing that a place has"),
+    ("targets:\n  main:\n    resources: []\n", "'targets' has nothing that a place has"),
+])
+def test_a_file_that_holds_no_places(folder: str, text: str, why: str) -> None:
+    """Such as an exporter's resources, and a client's environment."""
     wants_modules("yaml")
     status, output, errors = run("farm-from-labgrid", write(folder, "wrong.yaml", text))
-    assert (status, output, errors.count("\n")) == (4, "", 1)
-
-
-@pytest.mark.parametrize("text, what", NO_PLACES)
-def test_another_file_of_labgrid_is_told_as_what_it_looks_like(folder: str, text: str, what: str) -> None:
-    wants_modules("yaml")
-    wrong = write(folder, "wrong.yaml", text)
-    told = f"farm-from-labgrid: {wrong} is no file of places: {what}; the coordinator's is places.yaml\n"
-    assert run("farm-from-labgrid", wrong) == (4, "", told)
+    assert (status, output, errors.count("\n")) == (4, "", 1) and why in errors
 
 
 def test_words_of_the_reader_of_labgrid(folder: str) -> None:

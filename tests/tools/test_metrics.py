@@ -32,36 +32,7 @@ SMALL = """\
 fizgruk_up 1.0
 # HELP fizgruk_boards Boards.
 # TYPE fizgruk_boards gauge
-fizgruk_boards{health="Good",state="Idle",type="bbb"} 0.0
-fizgruk_boards{health="Good",state="Reserved",type="bbb"} 1.0
-fizgruk_boards{health="Good",state="Running",type="bbb"} 1.0
-fizgruk_boards{health="Bad",state="Idle",type="bbb"} 1.0
-fizgruk_boards{health="Bad",state="Reserved",type="bbb"} 0.0
-fizgruk_boards{health="Bad",state="Running",type="bbb"} 0.0
-fizgruk_boards{health="Unknown",state="Idle",type="bbb"} 0.0
-fizgruk_boards{health="Unknown",state="Reserved",type="bbb"} 0.0
-fizgruk_boards{health="Unknown",state="Running",type="bbb"} 0.0
-fizgruk_boards{health="Maintenance",state="Idle",type="bbb"} 0.0
-fizgruk_boards{health="Maintenance",state="Reserved",type="bbb"} 0.0
-fizgruk_boards{health="Maintenance",state="Running",type="bbb"} 0.0
-fizgruk_boards{health="Retired",state="Idle",type="bbb"} 0.0
-fizgruk_boards{health="Retired",state="Reserved",type="bbb"} 0.0
-fizgruk_boards{health="Retired",state="Running",type="bbb"} 0.0
-fizgruk_boards{health="Good",state="Idle",type="ccc"} 1.0
-fizgruk_boards{health="Good",state="Reserved",type="ccc"} 0.0
-fizgruk_boards{health="Good",state="Running",type="ccc"} 0.0
-fizgruk_boards{health="Bad",state="Idle",type="ccc"} 0.0
-fizgruk_boards{health="Bad",state="Reserved",type="ccc"} 0.0
-fizgruk_boards{health="Bad",state="Running",type="ccc"} 0.0
-fizgruk_boards{health="Unknown",state="Idle",type="ccc"} 0.0
-fizgruk_boards{health="Unknown",state="Reserved",type="ccc"} 0.0
-fizgruk_boards{health="Unknown",state="Running",type="ccc"} 0.0
-fizgruk_boards{health="Maintenance",state="Idle",type="ccc"} 0.0
-fizgruk_boards{health="Maintenance",state="Reserved",type="ccc"} 0.0
-fizgruk_boards{health="Maintenance",state="Running",type="ccc"} 0.0
-fizgruk_boards{health="Retired",state="Idle",type="ccc"} 0.0
-fizgruk_boards{health="Retired",state="Reserved",type="ccc"} 0.0
-fizgruk_boards{health="Retired",state="Running",type="ccc"} 0.0
+BOARDS
 # HELP fizgruk_board_bad Boards that are Bad.
 # TYPE fizgruk_board_bad gauge
 fizgruk_board_bad{board="b3"} 1.0
@@ -124,6 +95,11 @@ def limits_in_machine() -> Dict[str, str]:
     return {name: limit.replace(",", "") for name, limit in pairs}
 
 
+THERE = {("Good", "Reserved", "bbb"), ("Good", "Running", "bbb"), ("Bad", "Idle", "bbb"), ("Good", "Idle", "ccc")}
+SMALL = SMALL.replace("BOARDS\n", "".join(
+    f'fizgruk_boards{{health="{health}",state="{state}",type="{kind}"}} {float((health, state, kind) in THERE)}\n'
+    for kind in ("bbb", "ccc") for health in ("Good", "Bad", "Unknown", "Maintenance", "Retired")
+    for state in ("Idle", "Reserved", "Running")))
 for table, limit in limits_in_machine().items():
     SMALL = SMALL.replace(f'{{table="{table}"}} MOST\n', f'{{table="{table}"}} {limit}.0\n')
 
@@ -230,8 +206,7 @@ def test_a_reader_of_prometheus_takes_it(small: Farm, folder: str) -> None:
 
 def test_the_dashboard_shows_what_there_is() -> None:
     """Each panel shows metrics that there are, and none lies on another."""
-    with open(f"{TOP}/examples/grafana.json", encoding="utf-8") as file:
-        panels = json.load(file)["panels"]
+    panels = json.loads(read(f"{TOP}/examples/grafana.json"))["panels"]
     known = set(re.findall("^# TYPE (fizgruk_[a-z_]+) ", SMALL + PASSES + ENDED, re.M))
     asked = [set(re.findall("fizgruk_[a-z_]+", it["expr"])) for panel in panels for it in panel["targets"]]
     assert set().union(*asked) == known
@@ -247,13 +222,11 @@ def test_the_dashboard_shows_what_there_is() -> None:
 # ---- jobs that ended, passes, claims
 
 
-def test_a_historys_lines_are_counted_once(make_farm: Made, folder: str) -> None:
-    """Over processes, and over a file that takes its place."""
+def test_a_historys_lines_are_counted_once_over_processes(make_farm: Made, folder: str) -> None:
     farm, history, prom = make_farm(), write_history(folder), f"{folder}/fizgruk.prom"
-    words = ["--history", history, "--textfile", prom]
 
     def counted() -> Dict[str, int]:
-        assert metrics(farm.server, *words) == (0, "", "")
+        assert metrics(farm.server, "--history", history, "--textfile", prom) == (0, "", "")
         return counts(read(prom))
 
     assert counted() == {"Complete": 2, "Incomplete": 1, "Infra": 0, "Canceled": 0}
@@ -266,11 +239,8 @@ def test_a_historys_lines_are_counted_once(make_farm: Made, folder: str) -> None
         lines.write((JOB % (4, 4, "Infra"))[40:] + JOB % (5, 5, "Canceled") + JOB % (6, 6, odd))
     wanted = {"Complete": 2, "Incomplete": 1, "Infra": 1, "Canceled": 1, odd: 1}
     assert counted() == wanted
-    assert counted() == wanted, "one that stays"
-    os.replace(write(folder, "history.jsonl.new", JOB % (7, 7, "Complete")), history)
-    assert counted() == {**wanted, "Complete": 3}, "another file in its place"
     os.remove(history)
-    assert counted() == {**wanted, "Complete": 3}, "none in its place"
+    assert counted() == wanted, "none in its place"
     assert sorted(it for it in os.listdir(folder) if "prom" in it) == ["fizgruk.prom", "fizgruk.prom.state"]
 
 

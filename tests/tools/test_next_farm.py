@@ -127,10 +127,11 @@ def test_a_farm_that_nobody_serves_has_a_next_one_too(lab: Lab) -> None:
 # ---- what is in its way
 
 
-def test_a_job_that_has_a_board_is_in_the_way_whatever_is_said(lab: Lab) -> None:
+def test_a_job_that_has_a_board_and_a_health_that_changed_are_in_the_way_whatever_is_said(lab: Lab) -> None:
     lab.tell("ann", "/jobs", b"job_name = 'j'\ndevice_type = 'bbb'")
     lab.tell("dispatcher", "/pass")
-    told = ["board b1: job 1 of ann has it", IN_THE_WAY]
+    lab.tell("admin", "/boards/b1/health", {"health": "Bad"})
+    told = ["board b1: job 1 of ann has it", "board b1: the desk has it Bad, and the file Good", IN_THE_WAY]
     assert lab.turn() == (1, CHANGES, told) == lab.turn("--let-go")
     lab.demand_untouched()
 
@@ -146,13 +147,6 @@ def test_what_people_have_and_wait_for_is_in_the_way_until_it_is_let_go(lab: Lab
     lab.demand_untouched()
     status, _, errors = lab.turn("--let-go")
     assert (status, errors) == (0, [f"{it}, and isn't carried over" for it in waits])
-
-
-def test_a_health_that_changed_since_the_file_was_written_is_in_the_way(lab: Lab) -> None:
-    lab.tell("admin", "/boards/b1/health", {"health": "Bad"})
-    told = ["board b1: the desk has it Bad, and the file Good", IN_THE_WAY]
-    assert lab.turn() == (1, CHANGES, told) == lab.turn("--let-go")
-    lab.demand_untouched()
 
 
 def test_what_comes_between_the_look_and_the_stop_gets_its_desk_back(lab: Lab) -> None:

@@ -3,17 +3,13 @@ from __future__ import annotations
 
 import json
 import time
-from typing import Any, Dict
+from typing import Any, Dict, Optional
 
-from pages import Lab
+import pytest
+
+from pages import Lab, facts_of as facts_in
 from served import wait_until
 
-FACTS = """(() => {
-  const facts = {};
-  for (const it of document.querySelectorAll("#board dl dt"))
-    facts[it.textContent] = it.nextElementSibling.textContent;
-  return facts;
-})()"""
 WAYS = ["console", "flash", "power on|off|cycle", "tcp 22|80"]
 
 
@@ -22,44 +18,31 @@ def told(lab: Lab, sessions: Any = ()) -> None:
     lab.files["/access.json"] = json.dumps({"boards": boards}).encode()
 
 
-def facts_of(lab: Lab, board: str) -> Dict[str, str]:
-    opened = lab.opened()
-    opened.ask(f"void (location.hash = '#/boards/{board}')")
-    wait_until("it is open", lambda: bool(opened.ask("document.querySelector('#board dl dt') !== null")))
-    return dict(opened.ask(FACTS))
-
-
-def test_a_board_that_one_holds_shows_the_commands_to_copy(lab: Lab) -> None:
-    told(lab)
-    number = lab.reserve("ann", "hdmi")
+def facts_of(lab: Lab, board: str, holder: str, is_acquired: bool = True) -> Dict[str, str]:
+    """What is told of a board that somebody holds."""
+    number = lab.reserve(holder, f"name={board}")
     lab.passes()
-    assert "Ways" not in facts_of(lab, "b1"), "it isn't acquired"
-    lab.farm.tell("ann", f"/reservations/{number}/acquire")
-    facts = facts_of(lab, "b1")
-    assert facts["Ways"] == "desk console b1\ndesk power b1 cycle\ndesk ssh b1"
-    assert "Connected" not in facts
+    if is_acquired:
+        lab.farm.tell(holder, f"/reservations/{number}/acquire")
+    opened = lab.opened(f"/#/boards/{board}")
+    wait_until("it is open", lambda: bool(facts_in(opened, "board")))
+    return facts_in(opened, "board")
+
+
+@pytest.mark.parametrize("board, is_acquired, ways", [
+    ("b1", True, "desk console b1\ndesk power b1 cycle\ndesk ssh b1"), ("b1", False, None), ("b2", True, None)])
+def test_a_board_that_one_holds_shows_the_commands_to_copy(lab: Lab, board: str, is_acquired: bool, ways: Optional[str]) -> None:
+    """b2's one way is a port that is no ssh's."""
+    told(lab)
+    facts = facts_of(lab, board, "ann", is_acquired)
+    assert (facts.get("Ways"), facts.get("Connected")) == (ways, None)
 
 
 def test_another_s_board_shows_who_is_connected_and_no_commands(lab: Lab) -> None:
     told(lab, [{"person": "bob", "way": "console", "since": int(time.time())}])
-    number = lab.reserve("bob", "hdmi")
-    lab.passes()
-    lab.farm.tell("bob", f"/reservations/{number}/acquire")
-    facts = facts_of(lab, "b1")
-    assert facts["Connected"].startswith("bob: console, since ")
-    assert "Ways" not in facts
-
-
-def test_a_port_that_is_no_ssh_s_gives_no_command(lab: Lab) -> None:
-    told(lab)
-    number = lab.reserve("ann", "name=b2")
-    lab.passes()
-    lab.farm.tell("ann", f"/reservations/{number}/acquire")
-    assert "Ways" not in facts_of(lab, "b2")
+    facts = facts_of(lab, "b1", "bob")
+    assert facts["Connected"].startswith("bob: console, since ") and "Ways" not in facts
 
 
 def test_where_there_is_no_farm_access_nothing_is_shown(lab: Lab) -> None:
-    number = lab.reserve("ann", "hdmi")
-    lab.passes()
-    lab.farm.tell("ann", f"/reservations/{number}/acquire")
-    assert not {"Ways", "Connected"} & set(facts_of(lab, "b1"))
+    assert not {"Ways", "Connected"} & set(facts_of(lab, "b1", "ann"))

@@ -4,9 +4,7 @@ from __future__ import annotations
 
 import contextlib
 import json
-import os
 import re
-import subprocess
 import time
 from typing import Callable, Iterator, Set, Tuple
 
@@ -18,7 +16,7 @@ from pages import (
     HOUR, SHOWN, STATE, TRIPS, Lab, buttons, choose, click, facts_of, full_farm, full_present, past, record, seen, tell_at,
     text_of, until,
 )
-from served import TOP, Farm, wait_until
+from served import wait_until
 
 pytestmark = pytest.mark.xdist_group("page2")
 WIDTHS = (320, 360, 390, 480, 640, 705, 768, 820, 900, 961, 1024, 1025, 1280, 1600, 2560)
@@ -36,17 +34,7 @@ LAID_OUT = """(() => {
 @pytest.fixture(name="example", scope="module")
 def example_fixture(program: str, browser: Browser, tmp_path_factory: pytest.TempPathFactory) -> Iterator[Lab]:
     """The example lab in use, as ann sees it."""
-    now = int(time.time())
-    lab = Lab(browser, Farm(program, str(tmp_path_factory.mktemp("example")), []), "ann")
-    lab.farm.kill()
-    words = [lab.farm.program, "import", "--db", lab.farm.db, "--at", str(now - 27 * HOUR),
-             os.path.join(TOP, "examples", "lab.toml")]
-    subprocess.run(words, check=True, stdout=subprocess.DEVNULL)
-    lab.farm.start()
-    page_pictures.use(lab.farm, now)
-    lab.files.update({"/history.json": page_pictures.past(now), "/logs/42": page_pictures.LOG.encode()})
-    lab.passes()
-    lab.files.update(page_pictures.present(lab.farm, now))
+    lab = page_pictures.in_use(program, str(tmp_path_factory.mktemp("example")), browser)
     yield lab
     lab.end()
     lab.farm.kill()
@@ -139,14 +127,14 @@ def test_a_grid_shows_all_boards_free_ones_or_ones_own(example: Lab) -> None:
     opened.ask("free.click()")
     # (the lease of qemu-03 is over, and it is free too, where the machine takes half a minute to come here)
     assert [it for it in opened.ask(tiles) if it[0] != "qemu-03"] == [["qemu-04", "free"]]
-    for scheme in ("light", "dark"):
-        opened.set_scheme(scheme)
-        assert opened.poor_texts() == set(), scheme
+    assert opened.poor_texts() == set()
     opened.close()
 
 
 def test_256_boards_are_one_screen(lab: Lab) -> None:
     lab.files.update(full_farm(int(time.time())))
+    shown = lab.look()
+    assert (shown["boards"], len(shown["groups"])) == ([], 8), "of many boards the types are seen at first"
     opened = lab.opened("/?grid", wide=1280, high=1000)
     assert opened.ask("document.querySelectorAll('#tiles a').length") == 256
     assert opened.ask("document.getElementById('tiles').offsetHeight") < 900
@@ -182,9 +170,10 @@ def test_a_reservation_of_the_page_lives_over_a_reload_and_out_of_sight_and_is_t
     number = lab.reserve("bob", "hdmi")
     lab.passes()
     lab.farm.tell("bob", f"/reservations/{number}/acquire")  # (so that no lease of it ends)
+    lab.reserve("ann", "hdmi", priority="low")
     opened = lab.opened()
     opened.ask("tags.value = 'hdmi'; reserve.requestSubmit()")
-    until(opened, "it waits", lambda it: len(it["reservations"]) == 2)
+    until(opened, "it waits", lambda it: len(it["reservations"]) == 3)
     kept = STATE.format("state.reserved.size")
     wait_until("it is kept", lambda: bool(opened.ask(kept) == 1))
     opened.ask("window.isOld = true; location.reload()")
@@ -196,13 +185,18 @@ def test_a_reservation_of_the_page_lives_over_a_reload_and_out_of_sight_and_is_t
 
     wait_until("it is there again", knows_it)
     seen(opened)
-    lab.date = int(lab.farm.reservation(2)["deadline"]) - 20
-    wait_until("it is extended", lambda: ("/reservations/2/refresh", None, "") in lab.given)
+    assert [path for path, _, _ in lab.given if "refresh" in path] == [], "before half of its lease is over"
+    deadline = int(lab.farm.reservation(3)["deadline"])
+    lab.date = deadline - 20
+    wait_until("it is extended", lambda: int(lab.farm.reservation(3)["deadline"]) > deadline)
+    lab.looks_twice()
+    extended = [it for it in lab.given if "refresh" in it[0]]
+    assert extended == [("/reservations/3/refresh", None, "")], "once, without a key, and no other one"
     lab.date = None
     opened.ask(HIDDEN)
     lab.farm.tell("bob", f"/reservations/{number}/cancel")
     lab.passes()
-    wait_until("it is taken", lambda: bool(lab.farm.reservation(2)["state"] == "acquired"))
+    wait_until("it is taken", lambda: bool(lab.farm.reservation(3)["state"] == "acquired"))
     wait_until("its title says so", lambda: bool(opened.ask("document.title").startswith("(b1 is yours)")))
 
 
@@ -250,15 +244,9 @@ def test_a_job_is_submitted_and_its_faults_are_told_by_line(lab: Lab) -> None:
     field = "document.getElementById('job-file').value"
     for text, told in [
         ("job_name = 'x'\\ndevice_type = 'ddd'", "refused: line 2, column 1: no such type: ddd"),
-        ("job_name = 'x'\\ndevice_type = 'bbb'\\npriority = 101", "refused: line 3, column 1: bad priority"),
         ("job_name = 'x\\ndevice_type = 'bbb'", "refused: line 1, column 12: no TOML: a text in quotes isn't closed"),
-        ("job_name = 'x'\\njob_name = 'y'", "refused: line 2, column 1: no TOML: job_name is there already"),
-        ("job_name = 'x'\\ndevice_type = 'bbb'\\ntags = ['hdmi', 'vga']",
-         "refused: line 3, column 1: no board has the tag vga"),
         ("job_name = 'x'\\ndevice_type = 'bbb'\\ntimeouts.job = '15 parsecs'",
          "nothing is submitted: line 3, column 10: timeouts.job \"15 parsecs\" isn't like '1 hour 30 minutes'"),
-        (" ", "nothing is submitted: there is no text"),
-        ("device_type = 'bbb'", "refused: it has no job_name"),
     ]:
         opened.ask(f"{field} = \"{text}\"; {send}")
         wait_until(told, lambda: str(text_of(opened, "#faults")).startswith(told))  # noqa: B023
@@ -328,9 +316,7 @@ def test_in_each_state_all_has_a_name_and_contrast(example: Lab, address: str, w
 
 def has_names_and_contrast(opened: Page) -> None:
     assert [it for it in accessible(opened) if it[0] in NAMED and not it[1]] == [], "what has no name"
-    for scheme in ("light", "dark"):
-        opened.set_scheme(scheme)
-        assert opened.poor_texts() == set(), scheme
+    assert opened.poor_texts() == set()
 
 
 def test_a_desk_that_is_down_leaves_an_old_page_without_live_buttons(lab: Lab) -> None:
@@ -384,17 +370,6 @@ def test_long_and_hostile_texts_stay_in_their_rows(make_lab: Callable[..., Lab])
     assert opened.ask(f"{more}.parentElement.textContent.length") < 250
     opened.ask(f"{more}.click()")
     assert opened.ask(f"{more}.parentElement.textContent.length") > 5000, "the rest on demand"
-
-
-def test_a_log_is_shown_as_a_terminal_would(lab: Lab) -> None:
-    number = lab.farm.submit("true", "ccc")
-    lab.passes()
-    lab.farm.tell("dispatcher", f"/jobs/{number}/start")
-    past(lab)
-    lab.files[f"/logs/{number}"] = b"\x1b]0;title\x07\x1b[31mred\x1b[0m\n10 %\r99 %\n\xe2\x80\xae<b>x</b>\n"
-    opened = lab.opened(f"/#/jobs/{number}")
-    wait_until("its log", lambda: text_of(opened, "#log") == "red\n99 %\n\u27e8U+202E\u27e9<b>x</b>\n")
-    assert text_of(opened, "#log .red") == "red"
 
 
 # ---- a slow line

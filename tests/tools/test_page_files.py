@@ -163,9 +163,7 @@ def test_a_worker_that_doesn_t_answer_is_told_at_its_boards_and_jobs(make_lab: C
     wait_until("at the board", lambda: facts_of(opened, "board").get("Worker", "").startswith(told))
     opened.ask(f"void (location.hash = '#/jobs/{runs}')")
     wait_until("at the job", lambda: facts_of(opened, "job").get("Worker", "").startswith(told))
-    for scheme in ("light", "dark"):
-        opened.set_scheme(scheme)
-        assert opened.poor_texts() == set(), scheme
+    assert opened.poor_texts() == set()
     put(lab, "/workers.json", {"at": 1, "workers": [{**away, "answers": True}]})
     until(opened, "it answers", lambda it: told not in it["warned"] and "answer" not in str(it["boards"]))
     put(lab, "/workers.json", ["rack2"])

@@ -149,11 +149,12 @@ SMALL = """[...(document.querySelector("dialog:modal") || document).querySelecto
   .filter(([, box]) => box.width && (box.height < 23.9 || box.width < 23.9)).map(([text, box]) => [text, box.width, box.height])"""
 
 
-@pytest.mark.parametrize("wide", [390, 1280])
-def test_what_is_clicked_has_24_points(big: Lab, wide: int) -> None:
+def test_what_is_clicked_has_24_points(big: Lab) -> None:
     for address in ADDRESSES:
-        opened = big.opened(address, wide=wide)
-        assert opened.ask(f"{LAID_OUT}.then(() => {SMALL})") == [], address
+        opened = big.opened(address)
+        for wide in (390, 1280):
+            opened.resize(wide, 900)
+            assert opened.ask(f"{LAID_OUT}.then(() => {SMALL})") == [], (address, wide)
         opened.close()
 
 

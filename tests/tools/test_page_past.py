@@ -9,7 +9,7 @@ import pytest
 
 from browser import Page
 from pages import (
-    BOARDS, PHONE, SHOWN, STATE, Lab, choose, click, facts_of, full_farm, names, past, record, seen, tell_at, text_of, until,
+    BOARDS, PHONE, SHOWN, STATE, Lab, choose, click, facts_of, names, past, record, seen, tell_at, text_of, until,
 )
 from served import Farm, wait_until
 
@@ -64,9 +64,7 @@ def test_a_board_tells_its_history_newest_first_and_what_is_new(lab: Lab) -> Non
         ["job 899", "bob", "Infra", "test 899: lost"],
     ]
     assert facts_of(opened, "board")["Health"] == "Good"
-    for scheme in ("light", "dark"):
-        opened.set_scheme(scheme)
-        assert opened.poor_texts() == set(), scheme
+    assert opened.poor_texts() == set()
     past(lab, record(901, "ann", "b1", int(time.time())), *jobs)
     wait_until("what is new", lambda: "901" in str(text_of(opened, "#board-history")))
 
@@ -88,6 +86,7 @@ def test_a_jobs_log_is_shown_at_a_click_and_followed_while_it_runs(lab: Lab) -> 
     wait_until("no log", lambda: log_said(opened) == "no log yet")
     lab.files[path] = b"\x1b[1;32mU-Boot\x1b[0m\r\nboots\n"
     wait_until("the log", lambda: log(opened) == "U-Boot\nboots\n")
+    assert text_of(opened, "#log .green") == "U-Boot"
     assert log_said(opened) == ""
     opened.ask("void (window.kept = document.getElementById('log').firstChild)")
     lab.files[path] += b"login:"
@@ -160,15 +159,6 @@ def test_where_the_next_farm_begins_the_page_forgets_the_one_before(
     lab.passes()
     held = ["bob reservation 1", "", "fay job 2 test"]
     until(opened, "who holds them then", lambda it: [row[4] for row in it["boards"]] == held)
-
-
-def test_a_full_farm_is_shown(lab: Lab) -> None:
-    lab.files.update(full_farm(int(time.time())))
-    shown = lab.look()
-    assert (shown["boards"], len(shown["groups"])) == ([], 8), "of many boards the types are seen at first"
-    shown = lab.look("/?flat")
-    assert (len(shown["boards"]), len(shown["queue"])) == (256, 50)
-    assert shown["counts"]["queue"] == "(3,000)"
 
 
 @pytest.mark.parametrize("late", [0, 1])

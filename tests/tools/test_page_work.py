@@ -75,16 +75,6 @@ def test_a_click_on_a_head_sorts_then_the_other_way_round_then_no_more(lab: Lab)
     until(opened, "a new look", lambda it: names(it) == ["b1", "b10", "b2", "c1", "a1"])
 
 
-def test_numbers_sort_by_size(lab: Lab) -> None:
-    lab.farm.submit("true", "ccc")
-    lab.passes()
-    for priority in (7, 100, 20):
-        lab.farm.submit("true", "ccc", more=f"priority = {priority}\n")
-    opened = lab.opened()
-    sort_by(opened, "queue", "Priority")
-    assert [it[4] for it in opened.ask(SHOWN)["queue"]] == ["7", "20", "100"]
-
-
 def test_boards_stand_by_type_with_counts_and_a_type_can_be_closed(lab: Lab) -> None:
     for name in ("b3", "b4"):
         lab.farm.tell("admin", "/boards", {"name": name, "type": "bbb", "tags": []})
@@ -240,29 +230,6 @@ def test_a_command_without_any_answer_can_be_sent_again_under_its_key(lab: Lab) 
     assert buttons(opened.ask(SHOWN), "reservations", number) == "Extend Cancel", "nothing is told beside it"
 
 
-def test_what_was_reserved_here_and_waits_is_extended(make_lab: Callable[..., Lab]) -> None:
-    lab = make_lab()
-    lab.reserve("bob", "hdmi")
-    lab.passes()
-    lab.reserve("ann", "hdmi")
-    opened = lab.opened()
-    opened.ask("tags.value = 'hdmi'; reserve.requestSubmit()")
-    until(opened, "it waits", lambda it: len(it["reservations"]) == 3)
-    deadline = int(lab.farm.reservation(3)["deadline"])
-    lab.date = deadline - 60
-    wait_until("a second later", lambda: time.time() > deadline - 58)
-    lab.given.clear()
-    lab.looks_twice()
-    assert lab.given == [], "it isn't extended before half of its lease is over"
-    lab.farm.tell("ann", "/reservations/3/refresh")  # (the looks may have taken most of its lease)
-    deadline = int(lab.farm.reservation(3)["deadline"])
-    wait_until("another second later", lambda: time.time() > deadline - 58)
-    lab.date = deadline - 20
-    wait_until("it is extended", lambda: int(lab.farm.reservation(3)["deadline"]) > deadline)
-    lab.looks_twice()
-    assert lab.given == [("/reservations/3/refresh", None, "")], "once, without a key, and no other one"
-
-
 def test_a_refusal_is_told_in_words_beside_the_row(make_lab: Callable[..., Lab]) -> None:
     now = time.time()
     lab = make_lab(at=now - 100)
@@ -282,9 +249,7 @@ def test_a_refusal_is_told_in_words_beside_the_row(make_lab: Callable[..., Lab])
     wait_until("a refusal", lambda: text_of(opened, "#reserve-told") == told)
     assert opened.ask("tags.value") == "vga", "the words stay"
     assert len(lab.given) == 2, "neither is sent again"
-    for scheme in ("light", "dark"):
-        opened.set_scheme(scheme)
-        assert opened.poor_texts() == set(), scheme
+    assert opened.poor_texts() == set()
 
 
 def test_what_is_told_beside_a_row_goes_after_two_minutes(lab: Lab) -> None:

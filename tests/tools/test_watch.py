@@ -1,5 +1,5 @@
-"""What farm-watch tells of a served farm: ends of jobs, boards that came free, holds that
-are reminded of and ended; what it asks of the desk; its words and its unit."""
+"""What farm-watch tells of a served farm: the end of a group, holds that are reminded of and ended, and what people held;
+its words and its unit."""
 from __future__ import annotations
 
 import json
@@ -7,12 +7,11 @@ import os
 import subprocess
 import sys
 import time
-from typing import Dict, List, Optional, Tuple
+from typing import List, Optional, Tuple
 
 import pytest
 from desks import GROUP, desk, write
 from served import TOOLS, TOP, environment, read, wait_until
-from wants import wants
 from watched import HOUR, Labs, Watched
 
 WATCH = os.path.join(TOOLS, "farm-watch")
@@ -61,35 +60,6 @@ def test_what_people_held_is_counted_by_the_client(watched: Labs) -> None:
 # ---- jobs
 
 
-def test_the_end_of_a_job_is_told_once_of_a_group_with_all_members(watched: Labs) -> None:
-    """Also of one that began and ended between two looks; not of one that ended before the first."""
-    lab = watched(JOBS)
-    early = lab.runs()
-    waits = lab.farm.submit("true", user="bob")
-    lab.start()
-    short = lab.runs("Incomplete")
-    lab.passes()
-    lab.starts(waits)
-    lab.finishes(waits, "Infra")
-    group = lab.farm.tell("cat", "/jobs", GROUP.encode())["number"]
-    lab.passes()
-    lab.starts(group)
-    lab.finishes(group)
-    gone = lab.farm.submit("true", kind="ccc", user="dan")
-    lab.farm.tell("dan", f"/jobs/{gone}/cancel")
-    told = [
-        ("ann", f"job {short} (test) has ended: Incomplete"),
-        ("bob", f"job {waits} (test) has ended: Infra"),
-        ("dan", f"job {gone} (test) has ended: Canceled"),
-    ]
-    lab.mails([(at(owner), f"farm: {subject}") for owner, subject in told])
-    lab.finishes(group + 1, "Incomplete")
-    told.append(("cat", f"job {group} (two) has ended: Complete, Incomplete"))
-    lab.mails([(at(owner), f"farm: {subject}") for owner, subject in told])
-    wait_until("the same by the webhook", lambda: lab.hook.told() == sorted(told))
-    assert [it for it in lab.mailbox.told() if f"job {early} " in it[1]] == []
-
-
 def test_a_message_says_what_happened_to_people_and_programs(watched: Labs) -> None:
     """A group of two that has ended, by the webhook and by mail."""
     lab = watched(JOBS)
@@ -114,96 +84,6 @@ def test_a_message_says_what_happened_to_people_and_programs(watched: Labs) -> N
         f"{group:6} Complete   b1    bbb  a",
         f"{group + 1:6} Incomplete b2    bbb  a",
     ]
-
-
-def test_a_reason_of_the_dispatchers_history_is_told_where_a_proxy_serves_it(watched: Labs) -> None:
-    lab = watched(JOBS, hook=False)
-    of_bob: Dict[str, object] = {"kind": "job", "job": 2, "owner": "bob", "outcome": "Incomplete"}
-    rows: List[Dict[str, object]] = [
-        {**of_bob, "owner": "ann", "reason": "another farm's"},
-        {**of_bob, "reason": "time limit of 1 hour,\nstatus 143"},
-        {"kind": "job", "job": 1},
-    ]
-    lab.door.serves["/history.json"] = json.dumps({"at": 1, "jobs": rows, "boards": []}).encode()
-    lab.start()
-    lab.runs()
-    lab.runs("Incomplete", user="bob")
-    told = [
-        (at("ann"), "farm: job 1 (test) has ended: Complete"),
-        (at("bob"), "farm: job 2 (test) has ended: Incomplete"),
-    ]
-    lab.mails(told)
-    assert "Reason" not in content_to(lab, "ann")
-    assert content_to(lab, "bob").splitlines()[-1] == "Reason: time limit of 1 hour, status 143"
-    lab.door.serves["/history.json"] = b"[]"
-    last = lab.runs(user="cat")
-    lab.mails([*told, (at("cat"), f"farm: job {last} (test) has ended: Complete")])
-
-
-def test_outcomes_owners_addresses_and_who_wants_no_mail_are_the_files(watched: Labs) -> None:
-    """Ends of health checks aren't told."""
-    rules = "[job]\nended = ['Incomplete', 'Infra']\n[owners]\nbob = 'b.smith@other.example'\ncat = ''\n"
-    lab = watched(rules, boards=[("b1", "bbb", [])], hook=False)
-    lab.start()
-    lab.runs()
-    numbers = {}
-    for user in ("ann", "bob", "cat"):
-        numbers[user] = lab.runs("Infra", user=user)
-        lab.farm.tell("admin", "/boards/b1/health", {"health": "Good"})
-    lab.farm.tell("admin", "/types", {"name": "checked", "check": "jobs", "every": 1})
-    lab.farm.tell("admin", "/boards", {"name": "x1", "type": "checked"})
-    lab.farm.tell("admin", "/boards/x1/health", {"health": "Unknown"})
-    assert lab.passes()["checks"] == 1
-    check = int(lab.farm.board("x1")["holder"].split()[1])
-    lab.starts(check)
-    lab.finishes(check, "Incomplete")
-    last = lab.runs("Infra", user="dan")
-    lab.mails([
-        (at("ann"), f"farm: job {numbers['ann']} (test) has ended: Infra"),
-        ("b.smith@other.example", f"farm: job {numbers['bob']} (test) has ended: Infra"),
-        (at("dan"), f"farm: job {last} (test) has ended: Infra"),
-    ])
-
-
-def test_the_jobs_of_the_next_farm_are_told_too(watched: Labs) -> None:
-    """Its numbers begin at 1 again."""
-    lab = watched(JOBS, hook=False)
-    lab.start()
-    for _ in range(2):
-        lab.runs()
-    told = [(at("ann"), f"farm: job {it} (test) has ended: Complete") for it in (1, 2)]
-    lab.mails(told)
-    lab.farm.kill()
-    for name in (lab.farm.db, f"{lab.farm.db}-wal"):
-        os.unlink(name)
-    subprocess.run([lab.farm.program, "init", "--db", lab.farm.db], check=True, stdout=subprocess.DEVNULL)
-    lab.farm.start()
-    lab.farm.tell("admin", "/types", {"name": "bbb"})
-    lab.looked()
-    lab.farm.tell("admin", "/boards", {"name": "b1", "type": "bbb"})
-    lab.farm.tell("admin", "/boards/b1/health", {"health": "Good"})
-    lab.runs(user="bob")
-    lab.mails([*told, (at("bob"), "farm: job 1 (test) has ended: Complete")])
-
-
-# ---- boards
-
-
-def test_who_waited_is_told_of_the_board_that_was_given(watched: Labs) -> None:
-    lab = watched("[board]\nfree = 'all'\n", hook=False)
-    first = lab.holds("ann", "b1")
-    lab.start()
-    second = lab.reserves("bob", "b1")
-    job = lab.farm.submit("true", user="cat", more="tags = ['name=b1']")
-    lab.looked()
-    lab.farm.tell("ann", f"/reservations/{first}/cancel")
-    lab.passes()
-    told = [(at("bob"), f"farm: reservation {second} has got b1")]
-    lab.mails(told)
-    assert f"desk acquire {second}" in content_to(lab, "bob")
-    lab.farm.tell("bob", f"/reservations/{second}/cancel")
-    lab.passes()
-    lab.mails([*told, (at("cat"), f"farm: job {job} has got b1")])
 
 
 # ---- holds
@@ -238,45 +118,6 @@ def test_an_old_hold_is_reminded_of_and_one_beyond_its_time_is_ended(watched: La
     lab.start()
     lab.looked()
     assert lab.mailbox.told() == sorted(told)
-
-
-def test_who_isnt_the_admin_ends_no_hold_and_no_owner_is_told_otherwise(watched: Labs) -> None:
-    lab = watched("[hold]\nend = '12h'\n", boards=[])
-    (number,) = lab.held_since([(time.time() - 13 * HOUR, "ann", "h1")])
-    lab.start("--user", "eve")
-    told = f"farm-watch: reservation {number} can't be ended: refused: 3 forbidden: asked as eve\n"
-    wait_until("what is told", lambda: told in lab.tool.errors())
-    lab.looked()
-    assert lab.tool.errors().count(told) == 1
-    lab.stop()
-    assert lab.mailbox.told() == []
-    lab.start()
-    lab.mails([(at("ann"), f"farm: reservation {number} was ended: you had held h1 for 13 hours")])
-
-
-# ---- what is asked
-
-
-def test_a_look_asks_for_three_views_and_new_jobs(watched: Labs) -> None:
-    """Nothing that grows with the farm's age, and little."""
-    lab = watched(f"{JOBS}[hold]\nremind = '4h'\nend = '12h'\n[board]\nfree = true\n")
-    lab.start()
-    first = [path for _, path in lab.door.asked]
-    # (on a slow machine it may ask for one again)
-    assert list(dict.fromkeys(first[: first.index("/boards") + 1])) == ["/status", "/queue", "/boards"]
-    lab.holds("ann", "b1")
-    waits = lab.reserves("bob", "b1")
-    job = lab.runs()
-    lab.farm.submit("true", kind="ccc", user="bob")
-    before = len(lab.door.asked)
-    lab.looked(20)
-    asked = [path for _, path in lab.door.asked[before:]]
-    assert [it for it in lab.door.asked if it[0] != "GET"] == [], "commands"
-    assert asked.count("/reservations") == 0, "what grows"
-    assert lab.door.count("/history.json") == 1, "the history, which isn't served"
-    assert asked.count(f"/jobs/{job}") <= 2
-    assert sum(it not in ("/status", "/queue", "/boards") for it in asked) <= 3
-    assert lab.farm.reservation(waits)["state"] == "waiting"
 
 
 # ---- the file, words, the unit
@@ -348,21 +189,7 @@ def test_try_tells_the_admins_a_word_by_each_way(watched: Labs) -> None:
     assert tried() == (4, taken, told)
 
 
-def text_of_unit(name: str) -> str:
-    with open(os.path.join(TOP, "examples", f"{name}.service"), encoding="utf-8") as file:
-        return file.read()
-
-
 def test_the_unit_begins_again_but_at_2_and_3() -> None:
     wanted = {"StartLimitIntervalSec=0", "Restart=always", "RestartPreventExitStatus=2 3",
               "KillMode=mixed", "ProtectSystem=strict", "StateDirectory=farm-watch"}
-    assert wanted <= set(text_of_unit("farm-watch").split("\n"))
-
-
-def test_systemd_finds_no_fault_with_the_unit(folder: str) -> None:
-    wants("systemd-analyze")
-    for name in ("farm", "farm-dispatch", "farm-watch"):
-        write(folder, f"{name}.service", text_of_unit(name).replace("/usr/local/bin/", "/bin/true "))
-    words = ["systemd-analyze", "--man=no", "verify", os.path.join(folder, "farm-watch.service")]
-    ran = subprocess.run(words, capture_output=True, text=True, check=False)
-    assert (ran.returncode, ran.stderr) == (0, "")
+    assert wanted <= set(read(os.path.join(TOP, "examples", "farm-watch.service")).split("\n"))

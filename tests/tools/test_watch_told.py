@@ -13,7 +13,7 @@ import time
 from typing import Any, Dict, List, Pattern, Sequence, Tuple
 
 import pytest
-from served import STARTED, TOOLS, Tool, environment, wait_until
+from served import STARTED, TOOLS, environment, wait_until
 from watched import HOUR, Labs, Watched
 
 JOBS = "[job]\nended = true\n"
@@ -78,48 +78,6 @@ def test_what_isnt_taken_is_tried_again_the_same_to_the_byte(watched: Labs) -> N
     assert set(lab.mailbox.texts("refused")) <= set(lab.mailbox.texts())
 
 
-@pytest.mark.slow(20)
-def test_each_try_waits_twice_as_long_and_holds_no_other_message_up(watched: Labs) -> None:
-    lab = watched(JOBS, mail=False)
-    lab.hook.answers["ann"] = 503
-    lab.start()
-    first = lab.runs()
-    for wait in ("5 seconds", "10 seconds"):
-        told = f"'{ended(first)}' is tried again in {wait}\n"
-        wait_until(told, lambda it=told: it in lab.tool.errors())  # type: ignore[misc]
-    fresh = lab.runs(user="bob")
-    wait_until("the fresh one", lambda: lab.hook.told() == [("bob", ended(fresh))])
-    lab.hook.answers.clear()
-    wait_until("both", lambda: lab.hook.told() == [("ann", ended(first)), ("bob", ended(fresh))])
-
-
-@pytest.mark.slow(25)
-def test_a_webhook_that_hangs_is_left_and_holds_up_neither_mail_nor_looks(watched: Labs) -> None:
-    lab = watched(JOBS)
-    lab.hook.hangs = True
-    lab.start()
-    numbers = []
-    for _ in range(3):
-        numbers.append(lab.runs())
-        lab.looked(5)
-    lab.mails([("ann@lab.example", f"farm: {ended(it)}") for it in numbers])
-    told = f"webhook: 127.0.0.1: no answer: '{ended(numbers[0])}' is tried again in 5 seconds\n"
-    wait_until("it is told", lambda: told in lab.tool.errors())
-    lab.hook.hangs = False
-    wait_until("all, by the webhook", lambda: len(lab.hook.told()) == 3)
-
-
-def test_a_webhook_that_sends_elsewhere_hasnt_taken_a_message(watched: Labs) -> None:
-    lab = watched(JOBS, mail=False)
-    lab.hook.answer = 302
-    lab.start()
-    number = lab.runs()
-    told = tried_again("answered 302", number)
-    wait_until("it is told", lambda: told.search(lab.tool.errors()))
-    lab.hook.answer = 204
-    wait_until("the last try", lambda: "told by webhook to 127.0.0.1" in lab.tool.output())
-
-
 def test_a_message_that_it_is_at_when_it_is_stopped_is_told_once(watched: Labs) -> None:
     """SIGTERM while sendmail has a message."""
     lab = watched(JOBS, hook=False)
@@ -143,45 +101,6 @@ def test_a_message_that_it_is_at_when_it_is_stopped_is_told_once(watched: Labs) 
 
 
 # ---- kills
-
-
-def test_killed_while_it_ends_a_hold_it_tells_its_own_end(watched: Labs) -> None:
-    """Before the desk has the command, or after; neither an extended one nor another's end is told."""
-    lab = watched("[hold]\nend = '12h'\n", boards=[])
-    moments = [(time.time() - 13 * HOUR - 10 + it, f"user{it}", f"h{it}") for it in range(4)]
-    held = lab.held_since(moments)
-
-    def is_killed(when: str) -> None:
-        setattr(lab.door, when, lambda: lab.tool.send(signal.SIGKILL))
-        lab.tool = Tool(lab.words(), lab.folder)
-        assert lab.tool.ends() == -signal.SIGKILL
-        setattr(lab.door, when, None)
-
-    def ends(place: int) -> Tuple[str, str]:
-        text = f"reservation {held[place]} was ended: you had held h{place} for 13 hours"
-        return (f"user{place}@lab.example", f"farm: {text}")
-
-    is_killed("after")  # (each ends one, which the next tells)
-    assert lab.farm.reservation(held[0])["state"] == "canceled"
-    is_killed("before")
-    lab.farm.tell("user1", f"/reservations/{held[1]}/refresh")
-    lab.farm.tell("user2", f"/reservations/{held[2]}/cancel")
-    lab.start()
-    lab.mails([ends(0), ends(3)])
-    lab.looked(3)
-    states = [lab.farm.reservation(it)["state"] for it in held]
-    assert states == ["canceled", "acquired", "canceled", "canceled"]
-    assert lab.mailbox.told() == sorted([ends(0), ends(3)])
-
-
-def test_where_the_desk_has_no_room_for_replies_holds_are_ended_without_keys(watched: Labs) -> None:
-    lab = watched("[hold]\nend = '12h'\n", boards=[])
-    (number,) = lab.held_since([(time.time() - 13 * HOUR, "ann", "h1")])
-    lab.door.is_full = True
-    lab.start()
-    text = f"farm: reservation {number} was ended: you had held h1 for 13 hours"
-    lab.mails([("ann@lab.example", text)])
-    assert lab.farm.reservation(number)["state"] == "canceled"
 
 
 @pytest.mark.slow(60)

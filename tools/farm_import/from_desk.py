@@ -130,7 +130,7 @@ def lab_of(desk: calls.Desk, own_file: Optional[str]) -> lab_file.LabFile:
     for row in desk.look("/boards")["boards"]:
         where = f"board {row['name']}"
         if row["health"] == "Retired":
-            lab.note_usual(where, "it isn't carried over: it is Retired")
+            lab.note(where, "it isn't carried over: it is Retired", True)
             continue
         lab.add_board(where, row["name"], row["type"], row["tags"], row["health"])
         if row["holder"] != "none":
@@ -158,32 +158,17 @@ def compare(lab: lab_file.LabFile, file: str) -> None:
     with open(file, encoding="utf-8") as opened:
         text = opened.read()
     try:
-        own = {(it.section, it.name): words_of(it) for it in lab_text.additions_of(text)}
+        own = {(it.section, it.name): next_lab.words_of(it.section, it.body) for it in lab_text.additions_of(text)}
     except BadFile as fault:
         raise lab_file.Unreadable(f"{file} is no lab file: {fault}") from fault
-    here = {("types", name): type_words(*it) for name, it in lab.types.items()}
-    here.update({("boards", name): board_words(it[0], it[1]) for name, it in lab.boards.items()})
+    here = {("types", name): next_lab.words_of("types", {"check": it[0], "every": it[1]}) for name, it in lab.types.items()}
+    here.update({("boards", name): next_lab.words_of("boards", {"type": it[0], "tags": it[1]}) for name, it in lab.boards.items()})
     for key in sorted(here.keys() & own.keys()):
         if own[key] != here[key]:
             where = f"{file}:{toml_text.line_of(text, key)}"
             lab.remarks[key] = f"{where} has {own[key]}: its import leaves what stands here"
             what = f"it has {own[key]}, and the desk {here[key]}: an import changes nothing"
             lab.note(where, f"{key[0][:-1]} {key[1]}: {what}")
-
-
-def type_words(check: str, every: int) -> str:
-    return f'check = "{check}"' + (f", every = {every}" if check != "none" else "")
-
-
-def board_words(kind: str, tags: Sequence[str]) -> str:
-    listed = ", ".join(f'"{it}"' for it in sorted(set(tags)))
-    return f'type = "{kind}", tags = [{listed}]'
-
-
-def words_of(it: lab_text.Addition) -> str:
-    if it.section == "types":
-        return type_words(it.body.get("check", "none"), it.body.get("every", 0))
-    return board_words(it.body["type"], it.body["tags"])
 
 
 # ---- the next farm

@@ -1,7 +1,6 @@
 """farm-from-labgrid: a lab file from the places that labgrid's coordinator keeps."""
 import argparse
 import os
-import re
 from typing import Any, Dict, List, Optional, Sequence, Tuple
 
 from farm_import import lab_file
@@ -20,8 +19,6 @@ KNOWN = (
 )
 # When a place was made and changed, which each has.
 TIMES = ("created", "changed")
-# A word of each file that isn't the coordinator's.
-OF_AN_ENVIRONMENT = {"targets", "images", "tools", "options", "imports"}
 NOTHING: Tuple[object, ...] = (None, "", "null", "Null", "NULL", "~", [], {})
 
 
@@ -79,32 +76,12 @@ def places_of(file: str) -> Dict[str, Dict[str, Any]]:
     places = {} if places in NOTHING else places
     if not isinstance(places, dict):
         raise lab_file.Unreadable(f"{file} has no places by their names")
-    strange = [name for name, place in places.items() if not is_place(place)]
-    if strange:
-        what = f"{kind_of(places, strange)}; the coordinator's is places.yaml"
-        raise lab_file.Unreadable(f"{file} is no file of places: {what}")
+    for name, place in places.items():
+        # (each has something that the coordinator writes of it, which exporters' and clients' files have nowhere)
+        if not isinstance(place, dict) or place.keys().isdisjoint({*KNOWN, *TIMES}):
+            what = f"'{name}' has nothing that a place has; the coordinator's is places.yaml"
+            raise lab_file.Unreadable(f"{file} is no file of places: {what}")
     return places
-
-
-def is_place(place: Any) -> bool:
-    """Whether it has something that the coordinator writes of each place."""
-    return isinstance(place, dict) and not place.keys().isdisjoint({*KNOWN, *TIMES})
-
-
-def kind_of(file: Dict[str, Any], strange: List[str]) -> str:
-    """What a file looks like that has something which is no place."""
-    targets = file.get("targets")
-    if OF_AN_ENVIRONMENT >= file.keys() or (isinstance(targets, dict) and "targets" in strange):
-        return "it looks like an environment of labgrid's client (targets)"
-    for group in strange:
-        for name, resource in _members(file[group]):
-            if isinstance(resource, dict) and ("cls" in resource or re.match("[A-Z]", name)):
-                return f"it looks like an exporter's resources ({group}: {name})"
-    return f"'{strange[0]}' has nothing that a place has"
-
-
-def _members(group: Any) -> Sequence[Any]:
-    return list(group.items()) if isinstance(group, dict) else []
 
 
 def carry(lab: lab_file.LabFile, name: str, place: Dict[str, Any], options: argparse.Namespace) -> None:
@@ -115,9 +92,8 @@ def carry(lab: lab_file.LabFile, name: str, place: Dict[str, Any], options: argp
         raise lab_file.Unreadable(f"{where}: its tags aren't words by their keys")
     kind = tags.get(options.type_tag)
     if not kind:
-        note = lab.note if options.type is None else lab.note_usual
         kind = options.type or "place"
-        note(where, f"it has no tag {options.type_tag}: its type is {kind}")
+        lab.note(where, f"it has no tag {options.type_tag}: its type is {kind}", options.type is not None)
     kind = lab.add_type(where, kind)
     lab.add_board(where, name, kind, [f"{key}={value}" for key, value in tags.items()])
     note_rest(lab, where, place, bool(options.notes))
@@ -130,7 +106,7 @@ def note_rest(lab: lab_file.LabFile, where: str, place: Dict[str, Any], has_note
     if place.get("comment") not in NOTHING and not has_notes:
         lab.note(where, f"comment {' '.join(str(place['comment']).split())!r} isn't carried over")
     for match in _items(place.get("matches")):
-        lab.note_usual(where, f"match {_match_text(match)} isn't carried over")
+        lab.note(where, f"match {_match_text(match)} isn't carried over", True)
     for key in ("acquired", "reservation"):
         if place.get(key) not in NOTHING:
             lab.note(where, f"{key} {place[key]} isn't carried over: the board is nobody's")
@@ -138,8 +114,7 @@ def note_rest(lab: lab_file.LabFile, where: str, place: Dict[str, Any], has_note
         lab.note(where, f"allowed {user} isn't carried over: a board is its holder's alone")
     for key in place:
         if key not in KNOWN and place[key] not in NOTHING:
-            note = lab.note_usual if key in TIMES else lab.note
-            note(where, f"{key} {place[key]} isn't carried over")
+            lab.note(where, f"{key} {place[key]} isn't carried over", key in TIMES)
 
 
 def _items(value: Any) -> List[Any]:

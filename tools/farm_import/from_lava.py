@@ -81,7 +81,7 @@ def lab_of(options: argparse.Namespace) -> LabFile:
         if not name.startswith("base"):
             where = f"device-types/{name}{SUFFIX}"
             types[name] = lab.add_type(where, name)
-            lab.note_usual(where, "what it says isn't carried over, but for its name")
+            lab.note(where, "what it says isn't carried over, but for its name", True)
     for name in devices:
         carry(lab, options.folder, name, tags.pop(name, []), types)
     for name in files_of(options.folder, "health-checks", ".yaml") or []:
@@ -99,7 +99,7 @@ def note_database(lab: LabFile, options: argparse.Namespace, left: Dict[str, Lis
     for name in left:
         lab.note(str(options.tags), f"tags of {name} aren't carried over: there is no such device")
     rest = "what stands in LAVA's database alone isn't carried over: owners, workers, permissions"
-    lab.note_usual(options.folder, rest)
+    lab.note(options.folder, rest, True)
 
 
 def files_of(folder: str, part: str, suffix: str) -> Optional[List[str]]:
@@ -123,7 +123,7 @@ def carry(lab: LabFile, folder: str, name: str, tags: List[str], types: Dict[str
         types[kind] = lab.add_type(where, kind)
     lab.add_board(where, name, types[kind], tags)
     for line, what in notes:
-        lab.note_usual(f"{where}:{line}", f"{what} isn't carried over")
+        lab.note(f"{where}:{line}", f"{what} isn't carried over", True)
 
 
 def dictionary_of(file: str) -> Tuple[Optional[str], List[Tuple[int, str]]]:
@@ -151,9 +151,9 @@ def carry_check(lab: LabFile, name: str, types: Dict[str, str], every: int) -> N
     if name not in types:
         lab.note(where, "it isn't carried over: no device is of this type")
         return
-    lab.check_type(types[name], every)
-    lab.note_usual(where, "its job isn't carried over: see farm-dispatch --check")
-    lab.note_usual(where, f"how often isn't carried over: it is every {every} hours")
+    lab.types[types[name]] = ("hours", every)
+    lab.note(where, "its job isn't carried over: see farm-dispatch --check", True)
+    lab.note(where, f"how often isn't carried over: it is every {every} hours", True)
 
 
 def tags_of(file: Optional[str]) -> Dict[str, List[str]]:
@@ -187,7 +187,7 @@ class Job(LabFile):
 
     def lose(self, what: str, why: str) -> None:
         """Notes what is lost, once."""
-        if not any(it.text.startswith(f"{self.file}: {what} ") for it in self.notes):
+        if not any(it.startswith(f"{self.file}: {what} ") for it, _ in self.notes):
             self.note(self.file, f"{what} isn't carried over: {why}")
 
     # ---- words

@@ -2,12 +2,11 @@
 carried over."""
 import argparse
 import json
-import os
 import re
 import sys
-from typing import Any, Callable, Dict, Iterable, List, NamedTuple, Optional, TextIO, Tuple, Union
+from typing import Any, Callable, Dict, Iterable, List, Optional, TextIO, Tuple, Union
 
-from fizgruk._tools import lab_text, parsers, service
+from fizgruk._tools import disk, lab_text, parsers, service
 from fizgruk.bounds import MOST_TAGS, NAME, TAG_KEY, TAG_VALUE
 
 CARRIED, NOT_CARRIED = 0, 1
@@ -16,13 +15,6 @@ LEFT_OUT = "The lab file is written, and standard error says what was left out, 
 
 class Unreadable(Exception):
     """What is to be read isn't of its kind."""
-
-
-class Note(NamedTuple):
-    """Something that couldn't be carried over, and whether every file of its kind has the like."""
-
-    text: str
-    usual: bool
 
 
 def statuses_of(fault: str) -> parsers.Statuses:
@@ -59,17 +51,14 @@ class LabFile:
     def __init__(self) -> None:
         self.types: Dict[str, Tuple[str, int]] = {}
         self.boards: Dict[str, Tuple[str, List[str], Optional[str]]] = {}
-        self.notes: List[Note] = []
+        # What couldn't be carried over, and whether every file of its kind has the like.
+        self.notes: List[Tuple[str, bool]] = []
         # Lines of comment: at the head of the file, and over a type or a board ("types", its name).
         self.head: List[str] = []
         self.remarks: Dict[Tuple[str, str], str] = {}
 
-    def note(self, where: str, what: str) -> None:
-        self.notes.append(Note(f"{where}: {what}", False))
-
-    def note_usual(self, where: str, what: str) -> None:
-        """Notes what is left out of every file of its kind."""
-        self.notes.append(Note(f"{where}: {what}", True))
+    def note(self, where: str, what: str, is_usual: bool = False) -> None:
+        self.notes.append((f"{where}: {what}", is_usual))
 
     def add_type(self, where: str, name: str, check: str = "none", every: int = 0) -> str:
         """Adds a type with its check, where it isn't there already. Returns its name in the lab
@@ -78,18 +67,7 @@ class LabFile:
         self.types.setdefault(word, (check, every))
         return word
 
-    def check_type(self, name: str, hours: int) -> None:
-        """Lets the boards of a type be checked every so many hours."""
-        self.types[name] = ("hours", hours)
-
-    def add_board(
-        self,
-        where: str,
-        name: str,
-        kind: str,
-        tags: Iterable[str],
-        health: Optional[str] = None,
-    ) -> None:
+    def add_board(self, where: str, name: str, kind: str, tags: Iterable[str], health: Optional[str] = None) -> None:
         """Adds a board of a type that was added, with its tags as texts `key` or `key=value`, and
         its health, which `farm import` passes over."""
         word = self.word(where, "board", name, NAME)
@@ -179,10 +157,8 @@ def write(tell: Callable[[str], None], lab: LabFile, options: argparse.Namespace
         sys.stdout.write(lab.text())
         sys.stdout.flush()
     else:
-        with open(f"{options.output}.new", "w", encoding="utf-8") as file:
-            file.write(lab.text())
-        os.replace(f"{options.output}.new", options.output)
-    for note in lab.notes:
-        if options.verbose or not note.usual:
-            tell(note.text)
-    return CARRIED if all(note.usual for note in lab.notes) else NOT_CARRIED
+        disk.write_whole(options.output, lab.text())
+    for text, is_usual in lab.notes:
+        if options.verbose or not is_usual:
+            tell(text)
+    return CARRIED if all(is_usual for _, is_usual in lab.notes) else NOT_CARRIED

@@ -91,12 +91,9 @@ def healths_of(lab: NextLab, desk: calls.Looker) -> Dict[str, str]:
 def changes_of(lab: NextLab, desk: calls.Looker) -> List[str]:
     """What is otherwise in the next farm, a line each."""
     lines = []
-    for what, here, there in (
-        ("type", {it: type_words(row) for it, row in lab.types.items()},
-         {it["name"]: tables.check_of(it) for it in calls.rows_of(desk, "types")}),
-        ("board", {it: board_words(row) for it, row in lab.boards.items()},
-         {it["name"]: board_words(it) for it in calls.rows_of(desk, "boards")}),
-    ):
+    for view, rows in (("types", lab.types), ("boards", lab.boards)):
+        what, here = view[:-1], {it: words_of(view, row) for it, row in rows.items()}
+        there = {it["name"]: words_of(view, it) for it in calls.rows_of(desk, view)}
         lines += [f"{what} {it}: it is left out" for it in sorted(there.keys() - here.keys())]
         lines += [f"{what} {it}: it is new" for it in sorted(here.keys() - there.keys())]
         changed = sorted(it for it in here.keys() & there.keys() if here[it] != there[it])
@@ -104,11 +101,10 @@ def changes_of(lab: NextLab, desk: calls.Looker) -> List[str]:
     return lines
 
 
-def type_words(row: Dict[str, Any]) -> str:
-    return tables.check_of({"check": "none", "every": 0, **row})
-
-
-def board_words(row: Dict[str, Any]) -> str:
+def words_of(view: str, row: Dict[str, Any]) -> str:
+    """A type's check, or a board's type and tags, as an import counts them."""
+    if view == "types":
+        return tables.check_of({"check": "none", "every": 0, **row})
     return " ".join([row["type"], *sorted(set(row["tags"]))])
 
 

@@ -23,7 +23,6 @@ from served import PATIENCE, Farm, Tool, environment, read, wait_until
 from watched import Hook, Mailbox
 
 QUEUED = 4 * PATIENCE  # seconds for what waits in the queue, too
-SEEN = "sees "  # what farm-watch prints once it has looked
 TOOLS = ("dispatcher", "watcher")
 
 
@@ -90,7 +89,6 @@ class Lab:
         self.drained = threading.Event()
         self.counts = itertools.count()
         self.note_nothing()
-        self.note_nothing_beside()
         self.runs, self.withs, self.left_notes = (f"{room}/{it}" for it in ("runs", "withs", "left"))
         # (the history's folder and the holds' stand side by side, as `desk usage` looks for them)
         self.dispatch_folder, self.watch_folder = f"{room}/site/dispatch", f"{room}/site/farm-watch"
@@ -107,12 +105,13 @@ class Lab:
         self.tools: Dict[str, Tool] = {}
         for name in TOOLS:
             self.start(name)
-        self.wait_for_look(0)
+        # (what ended before its first look isn't told)
+        wait_until("a first look", lambda: "sees " in self.tools["watcher"].output())
         self.begun = time.monotonic()
         self.over = self.begun + seconds
 
     def note_nothing(self) -> None:
-        """What is noted of a farm while people work."""
+        """What is noted while people work, and of what goes on beside them."""
         self.commands: List[Command] = []
         self.logins: Dict[str, str] = {}  # by the keys of the commands that the site let through
         self.submitted: Dict[int, Submitted] = {}
@@ -120,35 +119,26 @@ class Lab:
         self.reservations: List[int] = []
         self.forgotten: List[int] = []
         self.held: List[Held] = []
-
-    def note_nothing_beside(self) -> None:
-        """What is noted of what goes on beside them."""
         self.kills: Counter[str] = collections.Counter()
-        self.killed: List[Tuple[float, float]] = []  # before and after each kill of farm-watch
+        self.killed: Dict[str, List[Tuple[float, float]]] = collections.defaultdict(list)  # before and after each kill
         self.copies: List[Copy] = []
         self.nightly: List[Copy] = []
         self.nights: List[List[Tuple[int, str]]] = []  # of each night what the nightly job's command came to
-        self.told_limits: Counter[str] = collections.Counter()
         self.tokens: Counter[str] = collections.Counter()
         self.by_token: List[int] = []
-        self.sessions: Counter[str] = collections.Counter()
-        self.notes_shown: List[Tuple[texts.Notes, Dict[str, str]]] = []
 
     def write_files(self) -> None:
         self.command_file = write(self.room, "command", texts.COMMAND, 0o755)
         self.with_file = write(self.room, "with", texts.WITH, 0o755)
-        self.notes_file = write(self.room, "notes.toml", texts.notes_text(texts.NOTES[0]))
         write(self.room, "late.toml", texts.lab_file(EARLY + LATE))
         write(f"{self.room}/bin", "date", texts.DATE.format(room=self.room), 0o755)
-        for what in ("stop", "start"):
-            write(f"{self.room}/bin", what, texts.ASKS.format(room=self.room, what=what), 0o755)
-        rules = texts.watch_text(self.door.address, self.mailbox.sendmail, self.hook.url)
-        self.rules_file = write(self.room, "watch.toml", rules)
+        self.rules_file = write(self.room, "watch.toml", texts.WATCH.format(
+            server=self.door.address, sendmail=self.mailbox.sendmail, url=self.hook.url, remind=texts.REMIND, end=texts.END))
 
     # ---- what runs
 
     def words_of(self, name: str) -> List[str]:
-        dispatch = ["--folder", self.dispatch_folder, "--every", "1", "--notes", self.notes_file, *leaving.BOUNDS]
+        dispatch = ["--folder", self.dispatch_folder, "--every", "1", *leaving.BOUNDS]
         return {
             "dispatcher": ["farm-dispatch", "--server", self.farm.server, *dispatch, self.command_file],
             "watcher": ["farm-watch", "--every", "1", "--folder", self.watch_folder, self.rules_file],
@@ -166,10 +156,6 @@ class Lab:
         if status not in (0, -signal.SIGTERM):
             self.wrong(f"the {name} ended with status {status}: {tool.errors()[-500:]}")
 
-    def stop_desk(self) -> None:
-        self.farm.process.terminate()
-        self.farm.process.communicate()
-
     def kill(self, name: str) -> None:
         self.kills[name] += 1
         before = time.time()
@@ -184,13 +170,8 @@ class Lab:
             if status is not None:
                 self.wrong(f"the {name} ended by itself with status {status}: {self.tools[name].errors()[-500:]}")
             self.tools[name].kill()
-            if name == "watcher":
-                self.killed.append((before, time.time()))
+            self.killed[name].append((before, time.time()))
             self.start(name)
-
-    def wait_for_look(self, seen: int) -> None:
-        """Waits until farm-watch has looked, after so many first looks. (What ended before its first isn't told.)"""
-        wait_until("a first look", lambda: self.tools["watcher"].output().count(SEEN) > seen)
 
     # ---- what people do
 
@@ -298,7 +279,7 @@ def aged_farm(program: str, place: str, seconds: int) -> Farm:
     file = write(place, "early.toml", texts.lab_file(EARLY))
     subprocess.run([program, "import", "--db", farm.db, "--at", str(begin), file],
                    check=True, capture_output=True)
-    for place_of, board in enumerate([*EARLY, *texts.WAYS]):
+    for place_of, board in enumerate(EARLY):
         moment = begin + 10 * place_of
         at(farm, moment, "admin", f"/boards/{board}/health", {"health": "Good"})
         if at(farm, moment, "dispatcher", "/pass")["checks"]:

@@ -1,4 +1,4 @@
-"""The nights of the week: the nightly job, which comes twice, the nightly copy, and looks at the farm beside its desk."""
+"""The nights of the week: the nightly job, which comes twice, and the nightly copy."""
 from __future__ import annotations
 
 import os
@@ -7,15 +7,15 @@ import re
 import subprocess
 import sys
 import time
-from typing import List, Tuple
+from typing import List, Sequence, Tuple
 
 from desks import DESK, write
 from lab_week import texts
 from lab_week.beside import backup
 from lab_week.lab import QUEUED, Copy, Lab, Submitted
-from served import PATIENCE, TOP, environment, read, wait_until
+from served import PATIENCE, TOP, environment, read
 
-LEAVES = "j:3:0:0:1 f:report.txt:300"
+LEAVES = "tests"
 NO_ANSWER = 4
 
 
@@ -27,9 +27,11 @@ def nights(lab: Lab, dice: random.Random) -> None:
         time.sleep(max(0.0, lab.begun + (day + 0.8) * length - time.monotonic()))
         write(lab.room, "day", f"2026-12-{day + 1:02}\n")
         runs_nightly_job(lab)
-        copies_nightly(lab, day)
-        if day == texts.NIGHTS // 2:
-            changes_notes(lab)
+        begin = time.time()
+        ran = backup(lab, "--keep", f"{texts.KEEP}", f"{lab.room}/nightly")
+        if ran.returncode:
+            lab.wrong(f"farm-backup ended with status {ran.returncode}: {ran.stderr}")
+        lab.nightly.append(Copy(f"{ran.stdout.strip()}/farm.db", begin, time.time()))
 
 
 def line_of_the_unit(lab: Lab) -> List[str]:
@@ -57,40 +59,18 @@ def runs_nightly_job(lab: Lab) -> None:
             again = subprocess.run(words, env=around, capture_output=True, text=True, check=False)
             status, said, errors = again.returncode, again.stdout, again.stderr
         came.append((status, said))
-        if status:
+        if status != (0 if "Complete" in said else 1):
             lab.wrong(f"the nightly job ended with status {status}: {errors}")
     lab.nights.append(came)
     number = int(came[0][1].split()[0])
     lab.submitted[number] = Submitted(texts.NIGHTLY, 1, "0", LEAVES, time.time())
 
 
-def copies_nightly(lab: Lab, day: int) -> None:
-    """The nightly copy, of which some are kept; a copy in one file; and a report."""
-    for words in (["--keep", f"{texts.KEEP}", f"{lab.room}/nightly"], ["--now", "--to", f"{lab.room}/now-{day}.db"],
-                  ["--now", "--report", "queue"]):
-        begin = time.time()
-        ran = backup(lab, *words)
-        if ran.returncode:
-            lab.wrong(f"farm-backup {' '.join(words)} ended with status {ran.returncode}: {ran.stderr}")
-        elif words[0] == "--keep":
-            lab.nightly.append(Copy(f"{ran.stdout.strip()}/farm.db", begin, time.time()))
-        elif words[1] == "--to":
-            lab.copies.append(Copy(words[2], begin, time.time()))
-
-
-def changes_notes(lab: Lab) -> None:
-    """In the middle of the week other things are noted of boards."""
-    shows_notes(lab, 0)
-    write(lab.room, "notes.new", texts.notes_text(texts.NOTES[1]))
-    os.replace(f"{lab.room}/notes.new", lab.notes_file)
-    place = texts.NOTES[1]["bbb-01"]["place"]
-    wait_until("the notes", lambda: place in read(f"{lab.dispatch_folder}/notes.json"))
-    shows_notes(lab, 1)
-
-
-def shows_notes(lab: Lab, which: int) -> None:
-    """Notes what `desk boards NAME` shows of each board of which something is noted, or was, or is never."""
-    shown = {}
-    for board in sorted({*texts.NOTES[0], *texts.NOTES[1], texts.UNNOTED}):
-        shown[board] = lab.desk("ann", "boards", board)
-    lab.notes_shown.append((texts.NOTES[which], shown))
+def faults_of_nights(came: Sequence[Sequence[Tuple[int, str]]], jobs: Sequence[texts.Row]) -> List[str]:
+    """The nightly job's command, which came twice a night, made one job of its user each night. `jobs` are the desk's."""
+    found = [f"a night's job came to {it}" for it in came if len(it) != 2 or len(set(it)) != 1]
+    numbers = sorted(int(it[0][1].split()[0]) for it in came)
+    own = sorted(it["number"] for it in jobs if it["owner"] == texts.NIGHTLY)
+    if numbers != own or len(own) != texts.NIGHTS:
+        found.append(f"{len(came)} nights made the jobs {numbers}, and the desk has {own}")
+    return found

@@ -3,10 +3,8 @@ from __future__ import annotations
 
 import contextlib
 import os
-import re
 import shutil
 import sqlite3
-import subprocess
 import tempfile
 from typing import Any, Dict, List, NamedTuple, Sequence
 
@@ -18,7 +16,6 @@ Rows = Dict[str, Any]
 
 def rows_of(db: str, place: str) -> Rows:
     """The rows of a farm's files, which are copied first, so that they stay as they are."""
-    os.makedirs(place)
     for end in ("", "-wal"):
         with contextlib.suppress(FileNotFoundError):
             shutil.copy(db + end, f"{place}/farm.db{end}")
@@ -58,25 +55,9 @@ class Prefix(NamedTuple):
         return found
 
 
-def prefix_in(lab: Lab, name: str, copy: Copy) -> Prefix:
-    place = tempfile.mkdtemp(dir=lab.room)
-    rows = rows_of(copy.db, f"{place}/rows")
-    check_report(lab, name, f"{place}/rows/farm.db")
-    shutil.rmtree(place)
-    return Prefix(name, rows, copy.begin, copy.end)
-
-
-def check_report(lab: Lab, name: str, db: str) -> None:
-    """Both reports of a farm that isn't served open it, and show each holder once."""
-    for which in ("boards", "reservations"):
-        ran = subprocess.run([lab.farm.program, "report", "--db", db, which], capture_output=True,
-                             text=True, check=False)
-        if ran.returncode or not ran.stdout:
-            lab.wrong(f"{name}: farm report ended with status {ran.returncode}: {ran.stderr}")
-        elif which == "boards":
-            holders = re.findall(r" ((?:job|reservation) \d+) ", ran.stdout)
-            if len(holders) != len(set(holders)):
-                lab.wrong(f"{name}: the report has a holder twice:\n{ran.stdout}")
+def prefix_in(lab: Lab, name: str, db: str, due: float = 0, killed: float = 0) -> Prefix:
+    with tempfile.TemporaryDirectory(dir=lab.room) as place:
+        return Prefix(name, rows_of(db, place), due, killed)
 
 
 def faults_of_keeping(there: Sequence[str], nightly: Sequence[Copy]) -> List[str]:
@@ -88,13 +69,12 @@ def faults_of_keeping(there: Sequence[str], nightly: Sequence[Copy]) -> List[str
     return []
 
 
-def check_copies(lab: Lab, old: str, commands: Sequence[Command]) -> List[Prefix]:
-    """All copies, beside the week's farm at its end, which isn't served any more."""
-    final = rows_of(f"{old}/farm.db", f"{lab.room}/final")
-    check_report(lab, "the farm at its end", f"{lab.room}/final/farm.db")
-    named = [(os.path.basename(os.path.dirname(it.db)), it) for it in [*lab.copies, *lab.nightly[-texts.KEEP:]]]
-    found = [prefix_in(lab, name, it) for name, it in named]
-    for prefix in found:
-        for it in prefix.faults(commands, final):
-            lab.wrong(it)
-    return [Prefix("the farm at its end", final, 0, 0), *found]
+def copies_of(lab: Lab) -> List[Prefix]:
+    """The farm at its end, which isn't served any more, and all copies."""
+    last = prefix_in(lab, "the farm at its end", lab.farm.db)
+    return [last, *(prefix_in(lab, os.path.basename(os.path.dirname(it.db)), *it)
+                    for it in [*lab.copies, *lab.nightly[-texts.KEEP:]])]
+
+
+def faults(found: Sequence[Prefix], commands: Sequence[Command]) -> List[str]:
+    return [fault for it in found[1:] for fault in it.faults(commands, found[0].rows)]

@@ -130,7 +130,7 @@ def _of_row(row: Row, noted: Sequence[Held], looks: List[Look]) -> List[str]:
 
 
 def looks_of(lab: Lab) -> List[Look]:
-    return whole_looks(lab.door.noted, lab.killed)
+    return whole_looks(lab.door.noted, lab.killed["watcher"])
 
 
 class Judged(NamedTuple):
@@ -152,8 +152,3 @@ class Judged(NamedTuple):
 def judged(lab: Lab) -> Judged:
     usage: Dict[str, Any] = {by: used_by(lab, by) for by in ("owner", "board")}
     return Judged(lab.held, looks_of(lab), lines_in(lab), lab.job_lines(), usage)
-
-
-def shorter(it: Judged) -> int:
-    """How many holds needn't have been seen, and weren't."""
-    return sum(not any(is_of(line, one, bounds_of(one, it.looks)) for line in it.lines) for one in it.held)

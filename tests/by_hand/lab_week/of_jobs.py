@@ -34,6 +34,12 @@ class Jobs(NamedTuple):
     canceled: Set[int]
     notes: Dict[int, Notes]
     lines: Sequence[Row]
+    kills: Sequence[Tuple[float, float]]  # of the dispatcher, with which what it runs by hand ends
+
+    def lost(self) -> Set[int]:
+        """The groups that ended with their dispatcher."""
+        return {it["group"] for it in self.lines if it["reason"].startswith("lost: ") and any(
+            before <= it["ended"] + 1 and (it["submitted"] or 0) <= after for before, after in self.kills)}
 
     def faults(self) -> List[str]:
         """Each job's line, outcome, and runs of its command."""
@@ -56,14 +62,15 @@ class Jobs(NamedTuple):
             found.append(f"job {number} is {job['state']} and has {lines} lines")
         if lines and outcome != job["result"]:
             found.append(f"job {number} is {job['result']}, in the history {outcome}")
-        if len(begun) != 1 and job["result"] != "Canceled" or len(begun) > 1:
+        least = 0 if job["result"] == "Canceled" or job["group"] in self.lost() else 1
+        if not least <= len(begun) <= 1:
             found.append(f"group {job['group']}'s command began {len(begun)} times")
         return found
 
     def faults_of_group(self, number: int, members: Sequence[Row]) -> List[str]:
         """A group is there whole, ended as its command meant, and began with all its boards."""
         job, results, found = self.submitted[number], {it["result"] for it in members}, []
-        wanted = {"Canceled"} if number in self.canceled else {MEANS[job.ends]}
+        wanted = {"Canceled"} if number in self.canceled else {"Infra" if number in self.lost() else MEANS[job.ends]}
         if len(members) != job.boards or results != wanted:
             found.append(f"group {number}: {len(members)} of {job.boards} members, {results} for {wanted}")
         if {it["owner"] for it in members} != {job.owner}:
@@ -88,22 +95,20 @@ def jobs_of(lab: Lab) -> Jobs:
         status, job = lab.ask("ann", "GET", f"/jobs/{number}")
         if status == 200:
             found.append(job)
-    return Jobs(found, lab.submitted, lab.canceled, notes_of(lab.runs), lab.job_lines())
+    return Jobs(found, lab.submitted, lab.canceled, notes_of(lab.runs), lab.job_lines(), lab.killed["dispatcher"])
 
 
 # ---- commands, once more
 
 
-def check_keys(lab: Lab) -> None:
+def faults_of_all_keys(lab: Lab) -> List[str]:
     """Sends all again, while no dispatcher runs, to a desk that was killed: each command is
     answered as it was, and none is done again."""
     lab.farm.kill()
     lab.farm.start()
     count = lab.look("/status")["count"]
-    for it in faults_of_keys(lab, [*lab.commands, *dispatched(lab)]):
-        lab.wrong(it)
-    if lab.look("/status")["count"] != count:
-        lab.wrong("what was sent again was done again")
+    found = faults_of_keys(lab, [*lab.commands, *dispatched(lab)])
+    return found + ["what was sent again was done again"] * (lab.look("/status")["count"] != count)
 
 
 def faults_of_keys(lab: Lab, commands: Sequence[Command]) -> List[str]:
@@ -117,12 +122,11 @@ def faults_of_keys(lab: Lab, commands: Sequence[Command]) -> List[str]:
 
 def dispatched(lab: Lab) -> List[Command]:
     """The starts and ends that the dispatcher told, of jobs that weren't canceled."""
-    identity, found = read(f"{lab.dispatch_folder}/id").strip(), []
+    found = []
     for row in lab.job_lines():
         if row["outcome"] != "Canceled":
-            group, job = row["group"], row["job"]
-            found.append(Command("dispatcher", f"/jobs/{group}/start", None, f"start-{identity}-{group}", 0, 0,
-                                 {"number": group}))
-            found.append(Command("dispatcher", f"/jobs/{job}/finish", {"outcome": row["outcome"]},
-                                 f"finish-{identity}-{job}", 0, 0, {"number": job}))
+            group, job, unit = row["group"], row["job"], row["unit"]
+            found.append(Command("dispatcher", f"/jobs/{group}/start", None, f"start-{unit}", 0, 0, {"number": group}))
+            found.append(Command("dispatcher", f"/jobs/{job}/finish", {"outcome": row["outcome"]}, f"finish-{unit}-{job}",
+                                 0, 0, {"number": job}))
     return found

@@ -1,17 +1,17 @@
-"""Demands: what the site let through is in its audit once, under the login that asked; limits are told as often as met."""
+"""Demands: what the site let through is in its audit once, under the login that asked."""
 from __future__ import annotations
 
 import collections
 import json
 import re
-from typing import Counter, Dict, List, NamedTuple, Optional, Sequence, Set, Tuple
+from typing import Counter, Dict, List, NamedTuple, Optional, Sequence, Set
 
 from lab_week.lab import Command, Lab
 from lab_week.pipelines import BY_TOKEN
-from lab_week.texts import ADMINS, HOURLY, LIMITED, PIPELINE, Row
+from lab_week.texts import ADMINS, PIPELINE, Row
 from served import read
 
-OWN = re.compile(r"(days|door)-[0-9]+")  # the keys of the people of the week
+OWN = re.compile(r"days-[0-9]+")  # the keys of the people of the week
 FRESH = re.compile(r"[0-9a-f]{32}|nightly-2026-12-[0-9]{2}|token-[0-9]+-job|(type|board)[.][a-z0-9-]+")  # of `desk`
 UNKNOWN = (502, 503, 504)  # of these nobody knows whether it was done
 
@@ -65,20 +65,3 @@ def audit_of(lab: Lab) -> Audit:
     lab.site.door.site.settle()
     lines = [json.loads(it) for it in read(f"{lab.room}/site/audit.log").splitlines()]
     return Audit(lines, {it.key: it for it in lab.commands}, dict(lab.logins), lab.tokens, lab.by_token)
-
-
-def asked_of(lab: Lab) -> Counter[Tuple[str, str]]:
-    """How often the site answered commands that make something with which status."""
-    rows = [it.split() for it in read(f"{lab.room}/site/asked.log").splitlines()]
-    return collections.Counter((row[1], row[3]) for row in rows if row[2] == "POST")
-
-
-def faults_of_limits(asked: Counter[Tuple[str, str]], told: Counter[str]) -> List[str]:
-    """Each command that met a limit was told which, and the site has refused no other so."""
-    found = []
-    for status, path, who, what in (("429", "/reservations", LIMITED, "open reservations"),
-                                    ("429", "/jobs", HOURLY, "jobs an hour"), ("403", "/reservations", LIMITED, "priority 50")):
-        mine = sum(count for text, count in told.items() if text.startswith(f"{status} the limit of {who} ") and what in text)
-        if asked[status, path] != mine or not mine:
-            found.append(f"{path}: {asked[status, path]} times {status}, and {who} was told {mine} times of {what}")
-    return found

@@ -5,9 +5,9 @@ import random
 import time
 from typing import Dict, List, Optional, Sequence, Tuple
 
-from lab_week import leaving
 from lab_week.lab import Held, Hold, Lab, Submitted
-from lab_week.texts import END, GONE, LATE, MEANS, WAYS, text_of, wants
+from lab_week.leaving import KINDS
+from lab_week.texts import END, GONE, LATE, MEANS, text_of, wants
 from served import PATIENCE, read
 
 REFUSED = 3
@@ -17,7 +17,7 @@ NO_ANSWER = ("no answer", "503", "502", "504", "has expired")
 
 def submit(lab: Lab, user: str, boards: int, dice: random.Random) -> Optional[int]:
     """Submits a job of so many boards, and notes it."""
-    ends, leaves = dice.choices(list(MEANS), [84, 8, 4, 4])[0], leaving.leaves_of(dice)
+    ends, leaves = dice.choices(list(MEANS), [84, 8, 4, 4])[0], dice.choice(list(KINDS))
     said = lab.command(user, "/jobs", text_of(boards, ends, leaves, dice).encode())
     if not said:
         return None
@@ -188,7 +188,7 @@ class Admin:
 
     def takes_out(self) -> None:
         good = [it["name"] for it in self.lab.look("/boards")["boards"]
-                if it["health"] == "Good" and it["name"] not in self.out and it["name"] not in WAYS]
+                if it["health"] == "Good" and it["name"] not in self.out]
         if good:
             board = self.dice.choice(good)
             self.out[board] = (time.monotonic() + self.dice.uniform(2, 6), "Good")

@@ -129,14 +129,6 @@ def insert(farm: FarmFile, turn: int, *more: str) -> None:
         conn.execute("insert into turns values (?)", (turn,))
 
 
-def test_a_copy_is_what_the_two_files_hold(farm: FarmFile, tmp_path: pathlib.Path) -> None:
-    insert(farm, 1)
-    place = place_in(tmp_path)
-    assert copied(farm, place, lambda: None) == []
-    assert (tmp_path / "to" / "farm.db").read_bytes() == (tmp_path / "farm.db").read_bytes()
-    assert turns_in(place) == [1]
-
-
 def test_a_farm_that_grows_and_is_carried_meanwhile_is_copied_at_once(
     farm: FarmFile, tmp_path: pathlib.Path
 ) -> None:
@@ -220,14 +212,6 @@ def test_a_farm_without_a_log_is_none(tmp_path: pathlib.Path) -> None:
     (tmp_path / "farm.db").write_text("")
     with pytest.raises(copying.NoCopy, match="there is no .*farm.db-wal: a farm is a file and its log"):
         copying.copied(FarmFile(str(tmp_path / "farm.db"), "true"), str(tmp_path), lambda why: None)
-
-
-def test_what_isnt_proved_leaves_nothing(farm: FarmFile, tmp_path: pathlib.Path) -> None:
-    to = place_in(tmp_path)
-    farm.program = "false"
-    with pytest.raises(copying.NoCopy), copying.new_copy(farm, to, lambda why: None):
-        raise AssertionError("it is proved before")
-    assert os.listdir(to) == []
 
 
 def test_what_was_cut_off_is_removed_by_who_takes_the_folder(tmp_path: pathlib.Path) -> None:

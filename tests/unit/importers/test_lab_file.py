@@ -20,7 +20,7 @@ def lab() -> lab_file.LabFile:
 
 
 def told(lab: lab_file.LabFile) -> List[str]:
-    return [it.text for it in lab.notes]
+    return [text for text, _ in lab.notes]
 
 
 def test_types_and_boards_in_the_order_of_their_names(lab: lab_file.LabFile) -> None:
@@ -58,8 +58,6 @@ def test_a_type_that_is_added_again_stays(lab: lab_file.LabFile) -> None:
     lab.add_type("t", "bbb", "hours", 24)
     assert lab.add_type("t", "bbb") == "bbb"
     assert lab.types == {"bbb": ("hours", 24)}
-    lab.check_type("bbb", 12)
-    assert lab.types == {"bbb": ("hours", 12)}
 
 
 @pytest.mark.parametrize("name, word", [
@@ -125,7 +123,7 @@ def test_what_a_farm_has_no_room_for_is_told(lab: lab_file.LabFile) -> None:
 def test_the_status_says_whether_something_that_matters_was_left_out(
     lab: lab_file.LabFile, folder: str, capsys: pytest.CaptureFixture[str], verbose: bool, lost: bool, status: int
 ) -> None:
-    lab.note_usual("place", "usual")
+    lab.note("place", "usual", True)
     if lost:
         lab.note("place", "unusual")
     options = argparse.Namespace(output=os.path.join(folder, "lab.toml"), verbose=verbose)

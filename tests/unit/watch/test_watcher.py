@@ -3,7 +3,7 @@ from __future__ import annotations
 
 import os
 import tempfile
-from typing import Any, Dict, Iterator, List, Optional, Sequence, Tuple
+from typing import Any, Dict, Iterator, List, Optional, Sequence, Set, Tuple
 
 import pytest
 from hand_clock import NOW, Clock
@@ -29,11 +29,13 @@ class Desk:
         self.queue: List[Dict[str, Any]] = []
         self.jobs: Dict[int, Dict[str, Any]] = {}
         self.reservations: Dict[int, Dict[str, Any]] = {}
-        self.checked = "none"
         self.asked: List[str] = []
         self.told: List[Tuple[str, Optional[str]]] = []
+        self.done: Set[Optional[str]] = set()  # the keys of commands
         self.refusal: Optional[Refused] = None
         self.is_full = False
+        self.history: Optional[List[Dict[str, Any]]] = None  # none is served
+        self.kills = ""  # farm-watch, as it tells a command: before the desk has it, or after
 
     @staticmethod
     def board(name: str) -> Dict[str, Any]:
@@ -46,14 +48,11 @@ class Desk:
             if int(number) not in self.jobs:
                 raise GONE
             return self.jobs[int(number)]
-        if kind == "history.json":
+        if kind == "history.json" and self.history is None:
             raise Refused(404, Code.NO_SUCH_ROUTE, "no such route")
         return {
-            "status": {
-                "count": self.count, "next": self.next, "types": 1, "clock": int(self.clock.at),
-                "jobs": len(self.jobs), "reservations": len(self.reservations),
-            },
-            "types": {"types": [{"name": "bbb", "check": self.checked}]},
+            "status": {"count": self.count, "next": self.next, "clock": int(self.clock.at)},
+            "history.json": {"jobs": self.history},
             "queue": {"queue": self.queue},
             "boards": {"boards": list(self.boards.values())},
             "reservations": {"reservations": list(self.reservations.values())},
@@ -61,14 +60,23 @@ class Desk:
 
     def tell(self, path: str, body: None = None, key: Optional[str] = None) -> Any:
         self.told.append((path, key))
+        if self.kills == "before":
+            raise SystemExit
         if self.is_full and key:
             raise Refused(409, Code.FULL, "full")
         if self.refusal:
             raise self.refusal
-        self.count += 1
         row = self.reservations[int(path.split("/")[2])]
+        if key in self.done:
+            return {}
+        if row["state"] == "canceled":
+            raise Refused(409, Code.WRONG_RESERVATION_STATE, "wrong state")
+        self.count += 1
+        self.done.add(key)
         row["state"] = "canceled"
         self.boards[row["board"]].update(state="Idle", holder="none")
+        if self.kills:
+            raise SystemExit
         return {}
 
     # ---- what happens
@@ -152,15 +160,19 @@ class Lab:
         self.clock.at += after
         self.watcher.round()
 
-    def told(self) -> List[Tuple[str, str]]:
-        """Whom what was told since this was asked."""
-        found: List[Tuple[str, str]] = []
+    def bodies(self) -> List[Dict[str, Any]]:
+        """What was told since this was asked."""
+        found: List[Dict[str, Any]] = []
         while True:
             it = self.store.take("mail")
             if it is None:
                 return found
             self.store.done(it, "mail")
-            found.append((it.body["owner"], it.body["subject"]))
+            found.append(it.body)
+
+    def told(self) -> List[Tuple[str, str]]:
+        """Whom what was told since this was asked."""
+        return [(it["owner"], it["subject"]) for it in self.bodies()]
 
 
 @pytest.fixture
@@ -253,6 +265,41 @@ def test_more_jobs_than_a_look_asks_for_are_told_by_the_next(lab: Lab) -> None:
     assert len(lab.told()) == 201
 
 
+def test_a_reason_of_the_history_is_told_of_this_farms_job_alone(lab: Lab) -> None:
+    """And it isn't asked for again for a while where no proxy serves it."""
+    lab.watches(**ALL)
+    of_bob: Dict[str, Any] = {"kind": "job", "job": 2, "owner": "bob", "outcome": "Incomplete"}
+    histories: Tuple[Optional[List[Dict[str, Any]]], ...] = (None, [
+        {**of_bob, "owner": "ann", "reason": "another farm's"}, {**of_bob, "reason": "time limit,\nstatus 143"},
+        {"kind": "job", "job": 1}])
+    for lab.desk.history in histories:
+        lab.desk.ends(lab.desk.submits(owner="bob"), "Incomplete")
+        lab.looks(after=600)
+    assert [it["reason"] for it in lab.bodies()] == ["", "time limit, status 143"]
+    lab.desk.history = None
+    for _ in range(2):
+        lab.desk.ends(lab.desk.submits())
+        lab.looks(5)
+    assert lab.desk.asked.count("/history.json") == 3
+
+
+def test_a_look_asks_for_three_views_and_new_jobs(lab: Lab) -> None:
+    """Nothing that grows with the farm's age, and little."""
+    lab.watches(**ALL, **HOLDS, free=("reservation",))
+    assert lab.desk.asked == ["/status", "/queue", "/boards"]
+    lab.desk.waits()
+    job = lab.desk.submits()
+    acquires(lab, lab.desk.waits(), "b1")
+    lab.looks()
+    lab.desk.asked.clear()
+    for _ in range(20):
+        lab.looks(5)
+    assert lab.desk.asked == ["/status", "/queue", "/boards"] * 20 and not lab.desk.told
+    lab.desk.ends(job)
+    lab.looks()
+    assert lab.desk.asked[-2:] == [f"/jobs/{job}", "/history.json"]
+
+
 def test_the_next_farm_begins_its_numbers_anew(lab: Lab) -> None:
     lab.watches(**ALL)
     for _ in range(2):
@@ -285,7 +332,9 @@ def test_who_waited_is_told_once_of_the_boards_that_were_given(
     lab.desk.gives(job, "b2")
     lab.looks()
     lab.looks()
-    assert sorted(lab.told()) == wanted
+    found = lab.bodies()
+    assert sorted((it["owner"], it["subject"]) for it in found) == wanted
+    assert not found or f"desk acquire {waits}" in found[0]["text"]
 
 
 def test_who_didnt_wait_isnt_told(lab: Lab) -> None:
@@ -399,6 +448,26 @@ def test_a_hold_that_cant_be_ended_is_told_and_tried_again_after_ten_minutes(lab
     lab.desk.refusal = None
     lab.looks(after=60)
     assert [owner for owner, _ in lab.told()] == ["ann"]
+
+
+def test_killed_while_it_ends_a_hold_the_next_process_tells_its_own_end(lab: Lab) -> None:
+    """Before the desk has the command, or after; neither an extended one nor another's end is told."""
+    lab.desk.boards.clear()
+    extended, other, mine, last = (lab.desk.holds(f"h{it}", NOW - 12 * HOUR, f"user{it}") for it in range(4))
+    lab.desk.kills = "before"
+    with pytest.raises(SystemExit):
+        lab.watches(end=12 * HOUR)
+    lab.desk.reservations[extended]["deadline"] = NOW + 60
+    lab.desk.reservations[other]["state"] = "canceled"
+    lab.desk.kills = "after"
+    with pytest.raises(SystemExit):
+        lab.watches(end=12 * HOUR)
+    lab.desk.kills = ""
+    lab.watches(end=12 * HOUR)
+    lab.looks()
+    assert [owner for owner, _ in lab.told()] == ["user2", "user3"]
+    states = [lab.desk.reservations[it]["state"] for it in (extended, other, mine, last)]
+    assert states == ["acquired", "canceled", "canceled", "canceled"]
 
 
 def test_without_room_for_replies_a_hold_is_ended_without_a_key(lab: Lab) -> None:
