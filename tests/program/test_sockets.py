@@ -242,6 +242,16 @@ def test_more_than_was_asked_for(start: Start) -> None:
     desk.ends()
 
 
+def test_long_answer_to_more_than_was_asked_for(start: Start) -> None:
+    """So does one that reads a list of two million bytes late."""
+    desk = start(1, reservations=20_000)
+    client = desk.client(request("GET", "/reservations", {}) + b"x" * 100000)
+    time.sleep(0.5)
+    head, _, body = answered(client).partition(b"\r\n\r\n")
+    assert int(head.split(b"content-length: ")[1].split(b"\r\n")[0]) == len(body)
+    desk.ends()
+
+
 def test_own_address(start: Start) -> None:
     """Of what listens at its port, as the system lists it, all is at 127.0.0.1."""
     desk = start(1)
