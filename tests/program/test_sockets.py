@@ -234,11 +234,21 @@ def test_clients_that_fail(start: Start) -> None:
 
 
 def test_more_than_was_asked_for(start: Start) -> None:
-    """A client that sends 20,000 bytes too many gets its whole answer."""
+    """A client that sends 100,000 bytes too many, more than are read for a request, gets its whole answer."""
     desk = start(2)
     head = b"POST /types HTTP/1.1\r\nx-user: admin\r\ncontent-length: %d\r\n\r\n"
-    assert answered(desk.client(head % 65537 + b"x" * 20000)) == TOO_LARGE
-    assert answered(desk.client(FIRST_TYPE + b"x" * 20000)) == DONE
+    assert answered(desk.client(head % 65537 + b"x" * 100000)) == TOO_LARGE
+    assert answered(desk.client(FIRST_TYPE + b"x" * 100000)) == DONE
+    desk.ends()
+
+
+def test_long_answer_to_more_than_was_asked_for(start: Start) -> None:
+    """So does one that reads a list of two million bytes late."""
+    desk = start(1, reservations=20_000)
+    client = desk.client(request("GET", "/reservations", {}) + b"x" * 100000)
+    time.sleep(0.5)
+    head, _, body = answered(client).partition(b"\r\n\r\n")
+    assert int(head.split(b"content-length: ")[1].split(b"\r\n")[0]) == len(body)
     desk.ends()
 
 
@@ -289,6 +299,21 @@ def test_end_behind_further_bytes(start: Start) -> None:
     desk.process.send_signal(signal.SIGCONT)
     assert answered(cut) == BAD_REQUEST
     assert answered(other).startswith(b"HTTP/1.1 200 ")
+    desk.ends()
+
+
+@in_time
+def test_first_come_first_served(start: Start) -> None:
+    """Of two clients whose last bytes come while the desk is busy, the later's first, the one that came first is served
+    first."""
+    desk = start(3)
+    first, second = (desk.client(FIRST_TYPE[:10]) for _ in range(2))
+    assert answered(desk.client(LOOK)).startswith(b"HTTP/1.1 200 ")
+    desk.process.send_signal(signal.SIGSTOP)
+    second.sendall(FIRST_TYPE[10:])
+    first.sendall(FIRST_TYPE[10:])
+    desk.process.send_signal(signal.SIGCONT)
+    assert [answered(it) for it in (first, second)] == [DONE, EXISTS]
     desk.ends()
 
 

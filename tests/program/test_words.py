@@ -2,8 +2,10 @@
 the smallest and largest values, as what it then does shows."""
 from __future__ import annotations
 
+import contextlib
 import os
 import re
+import sqlite3
 import subprocess
 from typing import List
 
@@ -173,6 +175,19 @@ def test_served_ports(words: str, orders: Orders) -> None:
     assert (process.stdout.readline() or process.stderr.readline()) in (
         f"listening {port}\n".encode(), b"farm: 80 read fault\n",
     )
+
+
+def test_most_boards(orders: Orders) -> None:
+    """A pass over the largest lab: 256 boards of four types, all Good, and a reservation that one of them is for."""
+    orders.init()
+    with open(orders.path("lab.toml"), "w", encoding="utf-8") as file:
+        file.writelines(f"[types.t{it}]\n" for it in range(4))
+        file.writelines(f'[boards.b{it:03}]\ntype = "t{it % 4}"\n' for it in range(256))
+    orders.prints("accepted 260, kept 0", *"import --db lab.db --at 1 lab.toml".split())
+    with contextlib.closing(sqlite3.connect(orders.path(orders.db))) as lab, lab:
+        lab.execute("UPDATE boards SET health = 0")
+    orders.tell("/reservations", "ann", {"tags": ["name=b255"]})
+    assert orders.tell("/pass", "dispatcher") == {"checks": 0, "expired": 0, "served": 1}
 
 
 def started(orders: Orders, words: List[str]) -> "subprocess.Popen[bytes]":

@@ -119,6 +119,12 @@ shows_all migrate
 was_done
 shows_all 'a second migrate'
 
+# ---- an upgraded farm is in its file, and needs no log
+
+new_farm
+rm -f lab.db-wal
+shows_all 'a migrate whose log is gone'
+
 # ---- the farm goes on: kept replies
 
 new_farm
