@@ -20,7 +20,7 @@ from dispatch_lab import AT_IT, BOARDS, COMMAND, Lab, MakeLab, Proxy, one_line_e
 from dispatch_lab import lab_fixture, make_lab_fixture  # noqa: F401
 from farm_dispatch import main as dispatch_module
 from farm_dispatch.main import Clocks
-from fizgruk import clocks as farm_clocks, limits
+from fizgruk import limits
 from served import LIBRARY, MODULES, TOP, Tool, environment, read, wait_until
 from wants import wants
 
@@ -608,7 +608,7 @@ def warned(clocks: Clocks, minutes: int) -> bool:
     begin = time.monotonic()
     with pytest.MonkeyPatch.context() as patch:
         later = argparse.Namespace(monotonic=lambda: begin + 60 * minutes, time=time.time)
-        for module in (dispatch_module, farm_clocks):
+        for module in (dispatch_module, limits):
             patch.setattr(module, "time", later)
         return "1 day ahead" in clocks.warning()
 

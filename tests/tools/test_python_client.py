@@ -19,8 +19,7 @@ from typing import Any, Callable, Dict, Iterator, List, Optional, Tuple, Type, c
 import pytest
 
 import fizgruk
-from fizgruk import holding, waiting
-from fizgruk.version import VERSION
+from fizgruk import __version__, holding, waiting
 from nginx_site import Site
 from python_front import (  # noqa: F401
     BOARDS, JOB, PATH, SOURCES, SRC, Front, Passer, client_of, farm_fixture, no_settings_fixture, rows, states,
@@ -69,9 +68,9 @@ def test_pip_installs_it(folder: str) -> None:
     said(own, "-m", "pip", "install", "-q", "--no-build-isolation", "--no-index", copied)
     told = "import fizgruk; print(fizgruk.__version__, fizgruk.__path__[0])"
     version, place = said(own, "-c", told).split()
-    assert version == VERSION and place.startswith(to)
-    assert said(own, "-c", "import importlib.metadata as it; print(it.version('fizgruk'))") == f"{VERSION}\n"
-    assert said(f"{to}/bin/desk", "--version") == f"desk {VERSION}\n", "the command comes with it"
+    assert version == __version__ and place.startswith(to)
+    assert said(own, "-c", "import importlib.metadata as it; print(it.version('fizgruk'))") == f"{__version__}\n"
+    assert said(f"{to}/bin/desk", "--version") == f"desk {__version__}\n", "the command comes with it"
     files = {it for it in os.listdir(place) if it != "__pycache__"}
     assert files == {it for it in os.listdir(f"{SRC}/fizgruk") if it != "__pycache__"}
     assert "py.typed" in files

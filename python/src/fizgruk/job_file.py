@@ -2,10 +2,9 @@
 from typing import Any, Dict, List, Optional
 
 from fizgruk import calls, limits, toml_text, wants, words
-from fizgruk.bounds import HIGHEST_PRIORITY, LONGEST_JOB_FILE, MOST_WANTS
 from fizgruk.errors import Code, Refused, Unreachable
 from fizgruk.wants import Want
-from fizgruk.words import BadFile, at
+from fizgruk.words import HIGHEST_PRIORITY, LONGEST_JOB_FILE, MOST_WANTS, BadFile, at
 
 PRIORITIES = ("low", "medium", "high")
 # What the desk refuses for a rule that the file breaks.

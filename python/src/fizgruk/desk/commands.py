@@ -6,9 +6,9 @@ from typing import Any, Callable, Dict, Union
 from fizgruk._tools import asking, parsers
 from fizgruk._tools.lab_text import CHECKS
 from fizgruk._tools.parsers import Parser, one_of
-from fizgruk.bounds import HEALTHS, LONGEST_EVERY
 from fizgruk.desk import access, admin, audit, holding, orders, past_jobs, views
 from fizgruk.history import BY
+from fizgruk.words import HEALTHS, LONGEST_EVERY
 
 Part = Callable[[Parser], None]  # adds an option or an argument
 NUMBER = parsers.whole(1, 10**9 - 1)

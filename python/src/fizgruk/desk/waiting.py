@@ -4,7 +4,7 @@ import sys
 import time
 from typing import Any, Callable, Dict, Optional, Set
 
-from fizgruk import calls, clocks, limits, waiting
+from fizgruk import calls, limits, waiting
 from fizgruk._tools import service, terminal
 from fizgruk.desk import tell
 from fizgruk.errors import Refused, Unreachable
@@ -59,7 +59,7 @@ class FarmClock:
             raise
         except (Unreachable, Refused):
             return
-        ahead, quiet = clocks.ahead(status, clocks.NO_END), self._quiet(status)
+        ahead, quiet = limits.clock_ahead(status, limits.NO_END), self._quiet(status)
         for about, text in (("ahead", ahead), ("quiet", quiet)):
             if text and about not in self.told:
                 self.told.add(about)
