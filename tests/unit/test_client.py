@@ -177,16 +177,3 @@ def test_threads_at_once() -> None:
     assert (len(server.connections), len(made._idle)) == (6, calls.MOST_IDLE)
     made.close()
     assert not made._idle
-
-
-@pytest.mark.parametrize("ask", [
-    lambda client: client.boards(), lambda client: client.reserve("hdmi"), lambda client: client.status(),
-])
-def test_answer_that_is_no_desks(ask: Callable[[fizgruk.Client], object]) -> None:
-    """An answer of another server is told, whatever was asked."""
-    body = b'{"boards":{},"number":"7"}'
-    server = Raw(lambda _: b"HTTP/1.1 200 OK\r\ncontent-length: %d\r\n\r\n%s" % (len(body), body))
-    client = fizgruk.Client(f"http://127.0.0.1:{server.server_address[1]}", "ann")
-    assert (client.server, client.user) == (f"http://127.0.0.1:{server.server_address[1]}", "ann")
-    with pytest.raises(fizgruk.Unreachable, match="the answer isn't a desk's"):
-        ask(client)

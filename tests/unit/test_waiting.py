@@ -22,6 +22,7 @@ class Desk:
     def __init__(self, monkeypatch: pytest.MonkeyPatch) -> None:
         self.now = 1000.0
         self.comes = 100.0  # after so many seconds
+        self.holder = "job 1"  # until then
         self.state = "waiting"
         self.queue: List[Dict[str, Any]] = []  # what waits besides
         self.faults: List[Optional[Exception]] = []
@@ -43,7 +44,7 @@ class Desk:
 
     def look(self, path: str) -> Dict[str, Any]:
         has_board = self.now >= 1000 + self.comes
-        holder = "reservation 7" if has_board else "job 1"
+        holder = "reservation 7" if has_board else self.holder
         queue: List[Dict[str, Any]] = [] if has_board or self.state != "waiting" else [{"kind": "reservation", "number": 7}]
         row = {"number": 7, "state": self.state, "tags": [], "owner": "ann"}
         board = {"name": "b1", "type": "bbb", "tags": [], "health": "Good", "holder": holder}
@@ -77,6 +78,14 @@ def test_a_reservation_that_waits_is_refreshed_long_before_its_lease_ends(desk: 
     moments = [0.0, *desk.refreshes, desk.now - 1000]
     assert max(later - former for former, later in zip(moments, moments[1:])) <= LEASE * 2 / 3
     assert len(desk.refreshes) <= 5, "each refresh moves the desk's clock for all"
+
+
+def test_while_a_free_board_fits_it_is_told_that_no_pass_comes(desk: Desk, capsys: pytest.CaptureFixture[str]) -> None:
+    """Also though others move the desk's clock."""
+    for desk.holder, count in (("job 1", 0), ("none", 1)):
+        desk.now = 1000.0
+        assert wait(desk)["name"] == "b1"
+        assert capsys.readouterr().err.count("desk: no pass for 36 seconds: is farm-dispatch running?\n") == count
 
 
 def test_a_board_that_comes_between_two_views_is_its_own(
