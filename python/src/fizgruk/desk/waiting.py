@@ -1,4 +1,5 @@
 """A wait of the command's: its progress on standard error, and the farm's clock meanwhile."""
+import contextlib
 import math
 import os
 import sys
@@ -122,11 +123,9 @@ class Progress:
 
     def end(self) -> None:
         """Clears what a terminal shows."""
-        try:
+        with contextlib.suppress(OSError):  # (the terminal is gone)
             terminal.write_own(sys.stderr, self._erased())
             sys.stderr.flush()
-        except OSError:
-            pass  # the terminal is gone
 
     def _erased(self) -> str:
         """What erases the rows that a terminal shows of it."""
