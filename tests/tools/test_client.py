@@ -8,7 +8,6 @@ from __future__ import annotations
 import json
 import os
 import re
-import signal
 import subprocess
 import sys
 import time
@@ -237,13 +236,6 @@ def test_a_reservation_that_is_canceled_meanwhile(farm: Farm, folder: str) -> No
     farm.tell("ann", f"/reservations/{number}/cancel")
     assert tool.ends() == 1
     assert tool.errors().endswith(f"desk: reservation {number} is canceled\n")
-
-
-def test_a_reservation_that_is_interrupted_is_given_back(farm: Farm, folder: str) -> None:
-    tool = waiting_tool(farm, folder, "reserve", "--any", "--wait")
-    number = number_of(tool)
-    tool.send(signal.SIGTERM)
-    assert (tool.ends(), farm.reservation(number)["state"]) == (143, "canceled")
 
 
 def test_on_a_terminal_a_line_tells_the_place_in_the_queue_and_is_cleared(farm: Farm) -> None:

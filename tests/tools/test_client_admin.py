@@ -139,11 +139,6 @@ def test_a_lab_file_of_toml_1_1_is_read_as_the_program_reads_it(lab: Farm, folde
         ["[types.ddd]", "[boards.b1]", 'type = "bbb"', 'tags = ["a b"]'], "",
         "bad lab file: line 2: board b1: 'a b' isn't a tag: a key, or key=value", ["rpi"],
     ),
-    (
-        ["[types.ddd]", "[types.x]", 'check = "hours"'], "",
-        "bad lab file: line 2: type x: there is no every", ["rpi"],
-    ),
-    (["types = 1"], "", "bad lab file: types isn't a table", ["rpi"]),
     (["#" * 1048576], "", "bad lab file: it has more than 1,048,576 bytes", ["rpi"]),
     # a table that a dotted key opens again, which the program refuses too
     (

@@ -114,27 +114,6 @@ def test_an_open_job_says_its_name_and_how_long_it_runs_or_why_it_waits(farm: Fa
     assert " one " in line and line.endswith(f" {found['reason']}"), "in a pipe it is whole"
 
 
-def test_each_claim_of_the_queue_has_its_reason(farm: Farm, folder: str) -> None:
-    """A group of the dispatcher's is told without a call for it."""
-    farm.tell("ann", "/reservations", {"tags": ["serial"]})
-    farm.tell("ann", "/reservations", {"tags": ["serial"]})
-    passes(farm)
-    farm.tell("cat", "/reservations", {"tags": ["hdmi"]})
-    prints(farm, "4\n", "submit", "-", given=GROUP)
-    farm.tell("admin", "/boards/c1/health", {"health": "Bad"})
-    farm.tell("bob", "/reservations", {"tags": ["name=c1"]})
-    wants = [{"type": "bbb", "tags": []}, {"type": "bbb", "tags": []}]
-    for groups in ([], [{"group": 4, "name": "two", "submitted": None, "wants": wants}]):
-        status, said, errors = desk(farm, "queue", **shows(folder, groups=groups))
-        assert (status, errors) == (0, "")
-        for line, reason in zip(said.splitlines()[1:], (
-            "-    1 board fits, held by reservation 1 of ann",
-            "two  2 boards fit: 2 held (reservation 1 of ann, reservation 2 of ann)",
-            "-    1 board fits, Bad; none can come",
-        )):
-            assert line.endswith(f" {reason}")
-
-
 # ---- many jobs
 
 
@@ -324,14 +303,6 @@ def test_tables_fit_the_terminal_and_are_whole_elsewhere(make_farm: Callable[...
         wide = at_terminal(farm, *words, "--wide", width=80)
         assert [re.sub(r"\d+ s", "", it) for it in wide] == re.sub(r"\d+ s", "", desk(farm, *words)[1]).splitlines(), words
     assert "\x1b" not in "".join(at_terminal(farm, "boards"))
-
-
-def test_an_empty_cell_is_a_dash(farm: Farm) -> None:
-    assert desk(farm, "boards")[1].splitlines()[-1].split()[-1] == "-"
-    prints(farm, "1\n", "submit", "-", given=JOB)
-    rows = [line.split() for line in desk(farm, "jobs", "1", "1")[1].splitlines()]
-    assert rows[0] == "NUMBER GROUP KIND STATE RESULT BOARD TYPE ROLE PRIORITY OWNER TAGS BEGAN TOOK NAME REASON".split()
-    assert rows[1][:14] == "1 1 ordinary Submitted - - bbb - 50 ann - - - one".split()
 
 
 # ---- a board's name in the place of a number

@@ -242,7 +242,7 @@ def test_what_goes_over_several_lines_of_a_terminal_is_erased_whole(farm: Farm) 
     process, line = at_a_terminal(farm, "reserve", "name=b2", "--wait", "--every", "0.2", width=40)
     # reservation 1 is waiting, place 1 of 1 in the queue: 1 board fits, in Maintenance; none can
     # come (0 s): more than 80 letters, up to 120
-    read_until(line, b" s)")
+    read_until(line, rb" s\)")
     read_until(line, rb"\r\x1b\[2A\x1b\[J")
     press(line, b"\x03")
     assert process.wait(timeout=PATIENCE) == 130

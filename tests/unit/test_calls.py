@@ -318,11 +318,6 @@ def test_a_log_that_isnt_served_is_told_from_a_history_that_isnt() -> None:
         list(past.log(7, 0))
 
 
-def test_the_newest_lines_are_those_that_are_served() -> None:
-    past = history.Past(Served(history_json={"jobs": [{"job": 3}], "boards": []}))
-    assert past.newest() == [{"job": 3}]
-
-
 @pytest.mark.parametrize("healths", [0, 5000])
 @pytest.mark.parametrize("count, owner, first", [
     (1, None, 1000), (50, None, 951), (200, None, 801), (250, None, 751), (3, "zoe", 700), (2000, "ann", 1),
