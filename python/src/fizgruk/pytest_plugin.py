@@ -92,6 +92,12 @@ def end(number: int, frame: Optional[FrameType]) -> None:
     raise Ended(f"ended by {signal.Signals(number).name}")
 
 
+def first(function: Hook) -> Hook:
+    """Marks a hook that goes before those of others."""
+    marked: Hook = pytest.hookimpl(tryfirst=True)(function)
+    return marked
+
+
 def around(function: Hook) -> Hook:
     """Marks a hook that goes around those of others."""
     marked: Hook = pytest.hookimpl(hookwrapper=True, tryfirst=True)(function)
@@ -102,8 +108,8 @@ Asks = Callable[[pytest.Item], bool]  # whether a test asks for a board
 
 
 class Guard:
-    """Lets the tests that ask for a board fail with HoldLost once it is lost, and none of them begin then. Another test
-    isn't interrupted, and neither is a teardown."""
+    """Lets the tests that ask for a board fail with HoldLost once it is lost. Another test isn't
+    interrupted, and neither is a teardown."""
 
     def __init__(self, watch: BlockWatch, asks: Asks) -> None:
         self.watch, self.asks = watch, asks
@@ -128,9 +134,6 @@ class Guard:
         if not self.asks(item):
             yield
             return
-        if self.watch.lost:
-            self.told, self.watch.is_told = item, True
-            raise HoldLost(self.watch.lost)
         self.watch.interrupts = True
         outcome = yield
         self.watch.interrupts = False
@@ -152,6 +155,25 @@ class Guard:
         if not hasattr(outcome, "force_exception"):  # pluggy before 1.1
             raise fault
         outcome.force_exception(fault)
+
+
+class Gate:
+    """Lets no test begin that asks for a board once that is lost."""
+
+    def __init__(self, watch: BlockWatch, asks: Asks) -> None:
+        self.watch, self.asks = watch, asks
+
+    @first
+    def pytest_runtest_setup(self, item: pytest.Item) -> None:
+        self._demand_held(item)
+
+    @first
+    def pytest_runtest_call(self, item: pytest.Item) -> None:
+        self._demand_held(item)
+
+    def _demand_held(self, item: pytest.Item) -> None:
+        if self.watch.lost and self.asks(item):
+            raise HoldLost(self.watch.lost)
 
 
 def asks_for_board(item: pytest.Item) -> bool:
@@ -302,12 +324,14 @@ def guarded(config: pytest.Config, hold: holding.Hold, asks: Asks) -> Iterator[N
     """Lets tests fail once the board of a hold is lost."""
     if hold.watch is None:
         raise FizgrukError("there is no board to be guarded")
-    guard = Guard(hold.watch, asks)
-    config.pluginmanager.register(guard)
+    guards = [Guard(hold.watch, asks), Gate(hold.watch, asks)]
+    for it in guards:
+        config.pluginmanager.register(it)
     try:
         yield
     finally:
-        config.pluginmanager.unregister(guard)
+        for it in guards:
+            config.pluginmanager.unregister(it)
 
 
 def tell(config: pytest.Config, text: str) -> None:
