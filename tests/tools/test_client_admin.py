@@ -217,13 +217,10 @@ def test_the_clients_version_is_the_packages(lab: Farm) -> None:
 
 
 @pytest.mark.parametrize("line, wanted, others", [
-    ("desk ", "queue health tags add-type add-board import with", ""),
-    ("desk --v", "--version", "queue"),
+    ("desk ", "queue health tags add-type add-board import with log history usage resubmit", ""),
     ("desk ext", "extend", "queue"),
     ("desk add-t", "add-type add-token", "tokens"),
-    ("desk ", "log history usage resubmit", ""),
     ("desk usage --by ", "owner board type", ""),
-    ("desk jobs --", "--mine --last --limit --text", "--all"),
     ("desk --json ad", "add-type add-board", "queue"),
     ("desk reserve --priority ", "low medium high", "hdmi"),
     ("desk add-type x --check h", "hours", "jobs"),

@@ -6,7 +6,7 @@ import asyncio
 import datetime
 import os
 import time
-from typing import Any, List
+from typing import List
 
 import pytest
 
@@ -20,10 +20,6 @@ from served import Farm, wait_until
 RUN = "job_name = 'boot'\ndevice_type = 'bbb'\nrun = '{}'\n"
 
 
-def with_past(lab: Lab, **more: Any) -> fizgruk.Client:
-    return client_of(lab.farm.server, history=lab.place, **more)
-
-
 # ---- jobs, logs and the past
 
 
@@ -31,7 +27,7 @@ def test_a_job_is_run_and_its_log_and_its_past_are_there(lab: Lab) -> None:
     """One is run, one more is made of its text, and both are in the history and in what was used."""
     began = time.time()
     lab.dispatch()
-    ann = with_past(lab)
+    ann = client_of(lab.farm.server, history=lab.place)
     first = ann.run(RUN.format('echo "$FARM_JOB says" ä'), 300, every=0.1)
     assert [(it.number, it.result) for it in first] == [(1, "Complete")]
     assert ann.log(1) == "1 says ä\n"
@@ -49,18 +45,6 @@ def test_a_job_is_run_and_its_log_and_its_past_are_there(lab: Lab) -> None:
     assert [it.name for it in ann.usage(datetime.timedelta(hours=1), "type")] == ["bbb"]
     tomorrow = datetime.datetime.now(datetime.timezone.utc) + datetime.timedelta(days=1)
     assert ann.usage(tomorrow) == []
-
-
-def test_a_change_of_health_is_in_a_boards_past(lab: Lab) -> None:
-    lab.dispatch()
-    ann = with_past(lab)
-    wait_until("the dispatcher has looked", lambda: os.path.exists(os.path.join(lab.place, "healths.json")))
-    lab.farm.tell("admin", "/boards/b2/health", {"health": "Bad"})
-    wait_until("the change", lambda: ann.history("b2"))
-    (change,) = ann.history("b2")
-    assert isinstance(change, fizgruk.HealthChange)
-    assert (change.board, change.before, change.after, change.reason) == ("b2", "Good", "Bad", "by the admin")
-    assert ann.history("b3") == []
 
 
 # ---- a job that nobody waits for
