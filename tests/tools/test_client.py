@@ -20,7 +20,6 @@ from desks import (
 )
 from served import LIBRARY, PATIENCE, Farm, Tool, wait_until
 
-HEAD = "NAME TYPE HEALTH STATE HOLDER CHECKED TAGS\n"
 COLLECTING = """\
 NUMBER GROUP KIND     STATE      RESULT BOARD TYPE ROLE PRIORITY OWNER TAGS BEGAN TOOK NAME REASON
      2     2 ordinary Scheduling -      b2    bbb  a          50 ann   -    -     -    two  {0}
@@ -46,16 +45,13 @@ except service.Interrupted as it:
 # ---- views
 
 
-@pytest.mark.parametrize("tags, rows", [
-    ([], "b1   bbb  Good   Idle  -      -       hdmi serial\n"
-         "b2   bbb  Good   Idle  -      -       serial\nc1   ccc  Good   Idle  -      -       -\n"),
-    (["hdmi"], "b1   bbb  Good   Idle  -      -       hdmi serial\n"),
-    (["serial", "hdmi"], "b1   bbb  Good   Idle  -      -       hdmi serial\n"),
-    (["ccc"], "c1   ccc  Good   Idle  -      -       -\n"),
-    (["name=c1", "hdmi"], ""),
-])
-def test_boards_are_shown_all_or_by_their_tags(farm: Farm, tags: Sequence[str], rows: str) -> None:
-    prints(farm, HEAD + rows, "boards", *tags)
+def test_boards_are_shown(farm: Farm) -> None:
+    prints(farm, """\
+NAME TYPE HEALTH STATE HOLDER CHECKED TAGS
+b1   bbb  Good   Idle  -      -       hdmi serial
+b2   bbb  Good   Idle  -      -       serial
+c1   ccc  Good   Idle  -      -       -
+""", "boards")
 
 
 def test_types_are_shown_with_their_checks_and_boards_with_their_last_one(make_farm: Callable[..., Farm]) -> None:

@@ -266,6 +266,7 @@ def test_a_wrong_name_is_told_with_the_status_3(farm: Farm, words: List[str], to
 
 @pytest.mark.parametrize("words, names", [
     ("bbb", "b1 b2"), ("bbb hdmi", "b1"), ("ccc hdmi", ""), ("--free", "b1 c1"), ("bbb --free", "b1"), ("hdmi --free", "b1"),
+    ("serial hdmi", "b1"), ("ccc", "c1"), ("name=c1 hdmi", ""),
 ])
 def test_boards_are_chosen_by_type_tag_and_whether_they_are_free(farm: Farm, words: str, names: str) -> None:
     farm.tell("ann", "/reservations", {"tags": ["name=b2"]})
