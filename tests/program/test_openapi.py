@@ -19,7 +19,7 @@ from typing import Any, Callable, Dict, List, Optional, Set, Tuple
 
 import pytest
 
-from fizgruk.version import VERSION
+from fizgruk import __version__
 from orders import Body, Orders, bytes_of, request
 from served import TOP, read
 
@@ -114,7 +114,7 @@ def test_document_is_printed() -> None:
     """It is what docs/openapi.py prints, and has the tools' version."""
     words = [sys.executable, os.path.join(TOP, "docs", "openapi.py")]
     assert subprocess.run(words, capture_output=True, text=True, check=True).stdout == TEXT
-    assert DOCUMENT["info"]["version"] == VERSION
+    assert DOCUMENT["info"]["version"] == __version__
 
 
 def test_routes() -> None:

@@ -1,6 +1,7 @@
 """What the tests of the client share: its calls, and what they give it."""
 from __future__ import annotations
 
+import contextlib
 import fcntl
 import functools
 import json
@@ -15,7 +16,7 @@ import tempfile
 import termios
 from typing import Dict, List, Sequence, Tuple, Union
 
-from served import LASTING, STARTED, TOOLS, Board, Farm, Tool, environment, read, wait_until
+from served import LASTING, PATIENCE, STARTED, TOOLS, Board, Farm, Tool, environment, read, wait_until
 
 SHARED = os.path.dirname(os.path.abspath(__file__))
 DESK = os.path.join(TOOLS, "desk")
@@ -113,6 +114,25 @@ def at_a_terminal(farm: Farm, *words: str, width: int = 0) -> Tuple["subprocess.
     STARTED.append(process)
     os.close(its)
     return process, ours
+
+
+def read_until(line: int, wanted: bytes) -> bytes:
+    """What a client writes on its terminal, until this pattern is among it."""
+    said = b""
+    while not re.search(wanted, said):
+        assert select.select([line], [], [], PATIENCE)[0], f"{wanted!r} doesn't come, only {said!r}"
+        said += os.read(line, 4096)
+    return said
+
+
+def rest_of(line: int) -> bytes:
+    """What a client writes on its terminal from now on, which ends with it."""
+    said = b""
+    with contextlib.suppress(OSError):  # (which is how a terminal ends that nobody has any more)
+        while chunk := os.read(line, 4096):
+            said += chunk
+    os.close(line)
+    return said
 
 
 def write(folder: str, name: str, text: str, mode: int = 0o644) -> str:

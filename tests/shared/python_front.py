@@ -7,7 +7,7 @@ import http.server
 import os
 import threading
 from types import TracebackType
-from typing import Any, Callable, Dict, List, Optional, Tuple, Type, cast
+from typing import Any, Dict, List, Optional, Tuple, Type, cast
 
 import pytest
 
@@ -18,8 +18,6 @@ SOURCES = os.path.join(TOP, "python")
 SRC = os.path.join(SOURCES, "src")
 # The path of modules by which a program finds the package, before what else is on it.
 PATH = os.pathsep.join(filter(None, [SRC, os.environ.get("PYTHONPATH")]))
-BOARDS = [("b1", "bbb", ["hdmi", "serial"]), ("b2", "bbb", ["serial"]), ("c1", "ccc", [])]
-JOB = "job_name = 'one'\ndevice_type = 'bbb'\n"
 
 
 def client_of(server: str, user: str = "ann", **more: Any) -> fizgruk.Client:
@@ -165,9 +163,3 @@ def no_settings_fixture(monkeypatch: pytest.MonkeyPatch) -> None:
         monkeypatch.delenv(name)
     for name in ("HOME", "XDG_CONFIG_HOME"):
         monkeypatch.setenv(name, "/nonexistent")
-
-
-@pytest.fixture(name="farm")
-def farm_fixture(make_farm: Callable[..., Farm]) -> Farm:
-    """A farm of three boards, of which b1 alone has hdmi."""
-    return make_farm(BOARDS)

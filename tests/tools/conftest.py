@@ -1,4 +1,4 @@
-"""A browser, labs with a status page, and the site of the example before a farm."""
+"""A farm of three boards, a browser, labs with a status page, and the site of the example before a farm."""
 from __future__ import annotations
 
 import time
@@ -6,11 +6,18 @@ from typing import Callable, Iterator, List, Optional, Sequence
 
 import pytest
 
+import desks
 from browser import Browser, browser_fixture, visit_fixture  # noqa: F401
 from nginx_site import make_site_fixture  # noqa: F401
 from pages import BOARDS, HOUR, Lab, begin_at
 from served import Board, Farm
 from watched import Labs, watched_farms
+
+
+@pytest.fixture
+def farm(make_farm: Callable[..., Farm]) -> Farm:
+    """A farm of three boards, of which b1 alone has hdmi."""
+    return make_farm(desks.BOARDS)
 
 
 @pytest.fixture

@@ -5,28 +5,21 @@ imports and completion; test_client_history.py jobs that ended, logs, a board's 
 """
 from __future__ import annotations
 
-import base64
-import contextlib
-import functools
 import json
 import os
 import re
-import select
-import signal
-import socket
 import subprocess
 import sys
 import time
-from typing import Callable, Dict, List, Optional, Sequence, Set, Tuple
+from typing import Callable, List, Optional, Sequence, Tuple
 
 import pytest
 from desks import (
-    BOARDS, DESK, GROUP, JOB, around, at_a_terminal, at_ease, desk, number_of, passes, prints, waiting_tool, waits, write,
+    DESK, GROUP, JOB, around, at_a_terminal, at_ease, desk, number_of, passes, prints, read_until, rest_of,
+    waiting_tool, waits, write,
 )
-from ports import free_port
-from served import LIBRARY, PATIENCE, Farm, Tool, environment, wait_until
+from served import LIBRARY, PATIENCE, Farm, Tool, wait_until
 
-HEAD = "NAME TYPE HEALTH STATE HOLDER CHECKED TAGS\n"
 COLLECTING = """\
 NUMBER GROUP KIND     STATE      RESULT BOARD TYPE ROLE PRIORITY OWNER TAGS BEGAN TOOK NAME REASON
      2     2 ordinary Scheduling -      b2    bbb  a          50 ann   -    -     -    two  {0}
@@ -49,24 +42,16 @@ except service.Interrupted as it:
 """
 
 
-@pytest.fixture
-def farm(make_farm: Callable[..., Farm]) -> Farm:
-    return make_farm(BOARDS)
-
-
 # ---- views
 
 
-@pytest.mark.parametrize("tags, rows", [
-    ([], "b1   bbb  Good   Idle  -      -       hdmi serial\n"
-         "b2   bbb  Good   Idle  -      -       serial\nc1   ccc  Good   Idle  -      -       -\n"),
-    (["hdmi"], "b1   bbb  Good   Idle  -      -       hdmi serial\n"),
-    (["serial", "hdmi"], "b1   bbb  Good   Idle  -      -       hdmi serial\n"),
-    (["ccc"], "c1   ccc  Good   Idle  -      -       -\n"),
-    (["name=c1", "hdmi"], ""),
-])
-def test_boards_are_shown_all_or_by_their_tags(farm: Farm, tags: Sequence[str], rows: str) -> None:
-    prints(farm, HEAD + rows, "boards", *tags)
+def test_boards_are_shown(farm: Farm) -> None:
+    prints(farm, """\
+NAME TYPE HEALTH STATE HOLDER CHECKED TAGS
+b1   bbb  Good   Idle  -      -       hdmi serial
+b2   bbb  Good   Idle  -      -       serial
+c1   ccc  Good   Idle  -      -       -
+""", "boards")
 
 
 def test_types_are_shown_with_their_checks_and_boards_with_their_last_one(make_farm: Callable[..., Farm]) -> None:
@@ -122,6 +107,8 @@ def test_of_the_queue_those_are_shown_that_are_asked_for(farm: Farm) -> None:
     assert places(farm, "--mine") == ([*numbers[:4], held], "")
     assert places(farm, "ccc") == ([numbers[it] for it in (1, 3, 5, 7)], "")
     assert places(farm, "ccc", "--mine", "--limit", "2") == ([numbers[1], numbers[3]], "")
+    own = desk(farm, "queue", "ccc", "--mine")[1].splitlines()[1:]
+    assert [it.split()[0] for it in own] == ["2", "4"], "the places are those among all"
     three = [numbers[it] for it in (1, 3, 5)]
     assert places(farm, "ccc", "--limit", "3") == (three, "desk: more wait than these 3: --limit\n")
     rows = json.loads(desk(farm, "queue", "ccc", "--mine", "--json")[1])["queue"]
@@ -199,15 +186,6 @@ def test_a_group_is_waited_for_until_all_its_members_have_ended(farm: Farm, fold
     assert json.loads(desk(farm, "wait", "1", "--json")[1]) == said
 
 
-@pytest.mark.parametrize("outcome, status", [("Complete", 0), ("Incomplete", 1), ("Infra", 1)])
-def test_the_status_of_a_wait_is_the_jobs(farm: Farm, outcome: str, status: int) -> None:
-    farm.submit("true")
-    passes(farm)
-    farm.tell("dispatcher", "/jobs/1/start")
-    farm.tell("dispatcher", "/jobs/1/finish", {"outcome": outcome})
-    assert desk(farm, "wait", "1") == (status, f"1 {outcome} b1\n", "")
-
-
 def test_a_job_that_is_canceled_before_it_had_a_board(farm: Farm) -> None:
     prints(farm, "1\n", "submit", "-", given=JOB)
     prints(farm, "", "cancel", "1")
@@ -226,22 +204,25 @@ def test_a_board_is_reserved_waited_for_and_acquired(farm: Farm, folder: str) ->
     assert farm.reservation(1)["state"] == "acquired"
 
 
-def test_what_is_done_with_a_reservation(farm: Farm) -> None:
+@pytest.mark.parametrize("hold", ["1", "b1"], ids=["number", "board"])
+def test_what_is_done_with_a_reservation(farm: Farm, hold: str) -> None:
+    """By its number, or by the board that it has."""
     prints(farm, "1\n", "reserve", "hdmi")
     passes(farm)
-    prints(farm, "", "refresh", "1")
+    prints(farm, "", "refresh", hold)
     prints(farm, "b1\n", "wait", "1")
-    prints(farm, "b1\n", "acquire", "1")
+    prints(farm, "b1\n", "acquire", hold)
     wrong = "desk: refused: 32 wrong reservation state: reservation 1 is"
-    assert desk(farm, "acquire", "1") == (3, "", f"{wrong} acquired\n")
+    assert desk(farm, "acquire", hold) == (3, "", f"{wrong} acquired\n")
     before: int = farm.reservation(1)["deadline"]
     wait_until("a later second", lambda: time.time() >= before - 58)
-    prints(farm, "", "extend", "1")
+    prints(farm, "", "extend", hold)
     assert farm.reservation(1)["state"] == "acquired" and farm.reservation(1)["deadline"] > before
     kept = "desk: reservation 1 keeps the board for a minute: desk cancel-reservation 1 ends that at once\n"
-    assert desk(farm, "release", "1") == (0, "", kept)
+    assert desk(farm, "release", hold) == (0, "", kept)
     assert farm.reservation(1)["state"] == "allocated"
-    prints(farm, '{"number":1}\n', "cancel-reservation", "1", "--json")
+    prints(farm, '{"number":1}\n', "cancel-reservation", hold, "--json")
+    assert farm.board("b1")["holder"] == "none"
     assert desk(farm, "extend", "1") == (3, "", f"{wrong} canceled\n")
 
 
@@ -253,55 +234,13 @@ def test_a_reservation_that_is_canceled_meanwhile(farm: Farm, folder: str) -> No
     assert tool.errors().endswith(f"desk: reservation {number} is canceled\n")
 
 
-def test_a_reservation_that_is_interrupted_is_given_back(farm: Farm, folder: str) -> None:
-    tool = waiting_tool(farm, folder, "reserve", "--any", "--wait")
-    number = number_of(tool)
-    tool.send(signal.SIGTERM)
-    assert (tool.ends(), farm.reservation(number)["state"]) == (143, "canceled")
-
-
-def has_no_pass(tool: Tool) -> bool:
-    """Whether a client told that no pass comes."""
-    return re.search(r"(?m)^desk: no pass for \d+ seconds: is farm-dispatch running\?$", tool.errors()) is not None
-
-
-@pytest.mark.slow(35)
-def test_a_reservation_that_waits_is_refreshed_and_says_that_no_pass_comes(farm: Farm, folder: str) -> None:
-    farm.tell("admin", "/boards/b1/health", {"health": "Maintenance"})
-    tool = waiting_tool(farm, folder, "reserve", "hdmi", "--wait", "--every", "60")
-    number = number_of(tool)
-    first = farm.reservation(number)["deadline"]
-    wait_until("a refresh", lambda: bool(farm.reservation(number)["deadline"] > first))
-    wait_until("a warning", functools.partial(has_no_pass, tool))
-    tool.send(signal.SIGTERM)
-    assert tool.ends() == 143
-
-
-@pytest.mark.slow(45)
-def test_two_that_wait_for_a_free_board_both_say_that_no_pass_comes(farm: Farm, folder: str) -> None:
-    """Each moves the desk's clock for the other."""
-    tools = [waiting_tool(farm, folder, "reserve", "hdmi", "--wait", "--every", "1")]
-    time.sleep(5)
-    tools += [waiting_tool(farm, folder, "reserve", "hdmi", "--wait", "--every", "1")]
-    for tool in tools:
-        wait_until("a warning", functools.partial(has_no_pass, tool), 120)
-        tool.send(signal.SIGTERM)
-        assert tool.ends() == 143
-
-
 def test_on_a_terminal_a_line_tells_the_place_in_the_queue_and_is_cleared(farm: Farm) -> None:
     process, line = at_a_terminal(farm, "reserve", "--any", "--wait", "--every", "0.1")
-    said = b""
     # (a second may be passed over where the machine stands still)
-    while not re.search(rb"in the queue \([1-9][0-9]* s\)", said):
-        assert select.select([line], [], [], PATIENCE)[0], f"no progress: {said!r}"
-        said += os.read(line, 4096)
+    said = read_until(line, rb"in the queue \([1-9][0-9]* s\)")
     passes(farm)
+    said += rest_of(line)
     assert process.wait(timeout=PATIENCE) == 0
-    with contextlib.suppress(OSError):  # (which is how a terminal ends that nobody has any more)
-        while chunk := os.read(line, 4096):
-            said += chunk
-    os.close(line)
     assert said.startswith(b"1\r\n") and said.endswith(b"\r\x1b[Jb1\r\n")
 
 
@@ -313,11 +252,7 @@ def test_which_desk_is_asked_is_told_to_who_wants_to_know(farm: Farm) -> None:
         ended, _, errors = desk(farm, "-v", *words)
         assert (ended, errors.startswith(where)) == (status, True)
         process, line = at_a_terminal(farm, *words)
-        text = b""
-        with contextlib.suppress(OSError):
-            while chunk := os.read(line, 4096):
-                text += chunk
-        os.close(line)
+        text = rest_of(line)
         assert process.wait(timeout=PATIENCE) == status and b"the desk is at" not in text
 
 
@@ -347,28 +282,6 @@ def test_a_command_runs_with_a_board_that_is_given_back(farm: Farm, folder: str)
     tool = with_hdmi(farm, folder, "sh", "-c", 'echo $BOARD $BOARD_TYPE "$BOARD_TAGS" $RESERVATION; exit 7')
     assert (tool.ends(), tool.output()) == (7, "b1 bbb hdmi serial 1\n")
     assert is_free(farm) and farm.reservation(1)["state"] == "canceled"
-
-
-def test_a_command_that_is_killed(farm: Farm, folder: str) -> None:
-    assert with_hdmi(farm, folder, "sh", "-c", "kill -9 $$").ends() == 137
-    assert is_free(farm)
-
-
-def test_a_command_that_is_told_to_end(farm: Farm, folder: str) -> None:
-    loop = "echo begun; while true; do sleep 0.1; done"
-    tool = with_hdmi(farm, folder, "sh", "-c", f"trap 'echo told; exit 9' TERM; {loop}")
-    wait_until("it runs", lambda: "begun" in tool.output())
-    assert farm.board("b1")["state"] == "Running"
-    tool.send(signal.SIGTERM)
-    assert (tool.ends(), tool.output()) == (9, "begun\ntold\n")
-    assert is_free(farm)
-
-
-def test_with_that_is_interrupted_while_it_waits_leaves_no_reservation(farm: Farm, folder: str) -> None:
-    tool = waiting_tool(farm, folder, "with", "hdmi", "--every", "0.1", "--", "true")
-    waits(tool)
-    tool.send(signal.SIGHUP)
-    assert (tool.ends(), farm.look("/queue")["queue"]) == (129, [])
 
 
 @pytest.mark.parametrize("words, status, told", [
@@ -432,131 +345,7 @@ def test_a_reader_that_has_enough_is_no_fault_of_what_is_shown(farm: Farm, folde
     assert (ran.returncode, at_ease(ran.stderr.decode())) == (status, told)
 
 
-# ---- a desk that goes away
-
-
-def test_a_desk_that_is_away_while_a_board_is_waited_for_and_given_back(farm: Farm, folder: str) -> None:
-    end = os.path.join(folder, "end")
-    tool = waiting_tool(farm, folder, "with", "hdmi", "--every", "0.1", "--", "sh", "-c",
-                        f"echo begun; until [ -e {end} ]; do sleep 0.1; done; exit 5")
-    waits(tool)
-    farm.kill()
-    wait_until("it tells", lambda: "no answer from the desk" in tool.errors())
-    farm.start()
-    passes(farm)
-    wait_until("it runs", lambda: "begun" in tool.output())
-    farm.kill()
-    write(folder, "end", "")
-    wait_until("it tells", lambda: f"desk: waiting for the desk at {farm.server}: " in tool.errors())
-    farm.start()
-    assert (tool.ends(), farm.board("b1")["holder"]) == (5, "none")
-
-
-def through_a_door(
-    farm: Farm, start_tool: Callable[..., Tool], *answers: Callable[[bytes], bytes]
-) -> Tuple[Tool, Set[bytes]]:
-    """A `desk reserve` and the keys of its requests, which reach the desk; of each answer it gets what one of these
-    makes of it."""
-    door = socket.create_server(("127.0.0.1", 0))
-    door.settimeout(60)
-    tool = start_tool("desk", "reserve", "--any", DESK_USER="ann", DESK_SERVER=f"http://127.0.0.1:{door.getsockname()[1]}")
-    keys: Set[bytes] = set()
-    for answer in answers:
-        client, _ = door.accept()
-        sent = request_of(client)
-        keys |= {line for line in sent.split(b"\r\n") if line.lower().startswith(b"x-key:")}
-        with socket.create_connection(("127.0.0.1", farm.port)) as line:
-            line.sendall(sent)
-            client.sendall(answer(b"".join(iter(lambda: line.recv(4096), b""))))
-        client.close()
-    door.close()
-    return tool, keys
-
-
-def request_of(client: socket.socket) -> bytes:
-    """The bytes of one request."""
-    sent = b""
-    while b"\r\n\r\n" not in sent:
-        sent += client.recv(4096)
-    head, _, body = sent.partition(b"\r\n\r\n")
-    length = next(int(it[15:]) for it in head.lower().split(b"\r\n") if it.startswith(b"content-length:"))
-    while len(body) < length:
-        body += client.recv(4096)
-    return head + b"\r\n\r\n" + body
-
-
-def test_a_command_whose_answer_is_lost_is_sent_again_under_its_key_and_done_once(
-    farm: Farm, start_tool: Callable[..., Tool]
-) -> None:
-    tool, keys = through_a_door(farm, start_tool, lambda it: b"", lambda it: it[:20], lambda it: it)
-    assert (tool.ends(), tool.output(), len(keys)) == (0, "1\n", 1)
-    assert len(farm.look("/reservations")["reservations"]) == 1
-
-
-@pytest.mark.parametrize("status", ["502 Bad Gateway", "503 Service Unavailable", "504 Gateway Timeout"])
-def test_a_503_is_sent_again(farm: Farm, start_tool: Callable[..., Tool], status: str) -> None:
-    """So is a proxy's 502 or 504: nobody knows whether the command was done."""
-    none = f"HTTP/1.1 {status}\r\ncontent-length: 0\r\nconnection: close\r\n\r\n".encode()
-    tool, keys = through_a_door(farm, start_tool, lambda it: none, lambda it: it)
-    assert (tool.ends(), tool.output(), len(keys)) == (0, "1\n", 1)
-    assert re.fullmatch(f"desk: waiting for the desk at http://127.0.0.1:[0-9]+: {status}\n", tool.errors())
-    assert len(farm.look("/reservations")["reservations"]) == 1
-
-
-# ---- settings (tests/unit/test_settings.py has them without a server)
-
-
-def home_of(folder: str, farm: Farm) -> Dict[str, str]:
-    """The environment of a user with a file of settings, with a password."""
-    os.makedirs(os.path.join(folder, ".config", "farm"))
-    write(folder, "password", "open sesame\nnothing\n", 0o600)
-    text = f"[desk]\nserver = {farm.server}\nuser = bob\npassword_file = ~/password\n"
-    write(folder, ".config/farm/desk.ini", text)
-    return {"HOME": folder, "XDG_CONFIG_HOME": ""}
-
-
-def owner(farm: Farm, surroundings: Dict[str, str], *words: str) -> str:
-    """Who a reservation belongs to that is made so."""
-    words = (sys.executable, DESK, *words, "reserve", "--any")
-    ran = subprocess.run(words, env=surroundings, check=True, capture_output=True, text=True)
-    return str(farm.reservation(int(ran.stdout))["owner"])
-
-
-def test_server_and_user_come_from_options_the_environment_and_a_file(farm: Farm, folder: str) -> None:
-    own = home_of(folder, farm)
-    assert owner(farm, environment(**own)) == "bob"
-    assert owner(farm, environment(DESK_USER="cat", **own)) == "cat"
-    assert owner(farm, environment(DESK_USER="cat", **own), "--user", "dan") == "dan"
-    named = environment(HOME=folder, DESK_CONFIG=f"{folder}/.config/farm/desk.ini")
-    assert owner(farm, named) == "bob"
-
-
-def authorization(surroundings: Dict[str, str]) -> Optional[str]:
-    """The name and password that the client sends, at a door that doesn't open."""
-    door = socket.create_server(("127.0.0.1", 0))
-    door.settimeout(60)
-    words = [sys.executable, DESK, "--server", f"http://127.0.0.1:{door.getsockname()[1]}", "queue"]
-    ran = subprocess.Popen(words, env=surroundings, stdout=subprocess.PIPE, stderr=subprocess.PIPE)
-    client, _ = door.accept()
-    sent = client.recv(65536)
-    client.sendall(b"HTTP/1.1 401 Unauthorized\r\ncontent-length: 4\r\n\r\nhtml")
-    client.close()
-    _, errors = ran.communicate(timeout=60)
-    given = re.search(rb"(?i)\r\nauthorization: Basic (.*)\r\n", sent)
-    user = re.search(rb"(?i)\r\nx-user: (.*)\r\n", sent)
-    assert user is not None
-    told = b"asked as %s, %s a password" % (user[1], b"with" if given else b"without")
-    assert (ran.returncode, errors) == (3, b"desk: refused: 401 Unauthorized: " + told + b"\n")
-    return base64.b64decode(given[1]).decode() if given else None
-
-
-def test_a_password_is_sent_with_its_users_name(farm: Farm, folder: str) -> None:
-    own = home_of(folder, farm)
-    assert authorization(environment(**own)) == "bob:open sesame"
-    write(folder, ".netrc", "machine 127.0.0.1 login eve password secret\n", 0o600)
-    own["XDG_CONFIG_HOME"] = "/nonexistent"
-    assert authorization(environment(**own)) == "eve:secret"
-    assert authorization(environment(DESK_USER="bob", **own)) is None
+# ---- statuses
 
 
 @pytest.mark.parametrize("words", [
@@ -573,15 +362,6 @@ def test_bad_settings_are_told_in_a_line_without_a_password(farm: Farm, words: S
     assert (status, said, errors.count("\n"), "secret" in errors) == (4, "", 1, False)
 
 
-def test_a_password_isnt_sent_without_tls(farm: Farm, folder: str) -> None:
-    password = write(folder, "password", "secret\n", 0o600)
-    told = "desk: a password isn't sent to http://192.0.2.1, which has no TLS\n"
-    assert desk(farm, "--server", "http://192.0.2.1", "--password-file", password, "queue") == (4, "", told)
-
-
-# ---- statuses
-
-
 def test_what_is_refused_has_the_status_3_and_a_line(farm: Farm) -> None:
     assert desk(farm, "jobs", "999") == (3, "", "desk: job 999: refused: 20 no such job\n")
     assert desk(farm, "wait", "999") == (3, "", "desk: refused: 30 no such reservation\n")
@@ -595,23 +375,11 @@ def test_a_file_that_isnt_there_has_the_status_4(farm: Farm, folder: str) -> Non
 
 
 @pytest.mark.parametrize("words", [
-    [], ["boards", "--nowhere"], ["jobs", "0"], ["jobs", "1000000000"], ["jobs", "--text"], ["jobs", "1", "--mine"],
-    ["jobs", "1", "--last", "2"], ["log"], ["cancel", "x"], ["reserve", "--every", "0"], ["reserve", "--every", "61"],
+    "", "boards --nowhere", "jobs 0", "jobs 1000000000", "jobs --text", "jobs 1 --mine", "jobs 1 --last 2", "log", "cancel x",
+    "reserve --every 0", "reserve --every 61", "usage --since soon", "usage --since 2026-13-01", "usage --since 1y", "usage --by tag",
+    "health r1", "health r1 Fine", "tags r1", "tags r1 usb --none", "add-type x --check hours", "add-type x --every 3",
+    "add-type x --check none --every 3", "add-type x --check days --every 3", "add-type x --check jobs --every 0",
+    "add-type x --check jobs --every 10001",
 ])
-def test_bad_words_have_the_status_2(words: Sequence[str]) -> None:
-    assert desk("http://127.0.0.1:1", *words)[0] == 2
-
-
-def test_help_has_the_status_0() -> None:
-    assert desk("http://127.0.0.1:1", "--help")[0] == 0
-
-
-@pytest.mark.slow(15)
-def test_no_desk_is_told_at_first_and_in_the_end() -> None:
-    begun = time.monotonic()
-    server = f"http://127.0.0.1:{free_port()}"
-    status, said, errors = desk(server, "queue")
-    assert (status, said) == (4, "")
-    first, last = errors.splitlines()
-    assert first.startswith(f"desk: waiting for the desk at {server}: ") and last.startswith("desk: no answer from")
-    assert time.monotonic() - begun > 10, "it tries again for a quarter of a minute"
+def test_bad_words_have_the_status_2(words: str) -> None:
+    assert desk("http://127.0.0.1:1", *words.split())[0] == 2

@@ -1,20 +1,18 @@
 """An admin's commands, imports of lab files, completion."""
 from __future__ import annotations
 
-import http.server
 import json
 import os
 import re
-import select
 import subprocess
 import sys
-import threading
 import time
-from typing import Callable, List, Sequence, Type
+from typing import Callable, List
 
 import pytest
+from answering import Answering
 from completed import completed
-from desks import BOARDS, Ran, at_a_terminal, desk, prints, write
+from desks import BOARDS, Ran, at_a_terminal, desk, prints, read_until, rest_of, write
 from served import PATIENCE, TOP, Farm
 
 EXAMPLE = os.path.join(TOP, "examples", "lab.toml")
@@ -73,15 +71,10 @@ def test_at_a_terminal_it_asks_once_before_boards_are_retired(
 ) -> None:
     farm = make_farm(BOARDS)
     process, line = at_a_terminal(farm, "--user", "admin", "health", *words, "Retired")
-    said = b""
-    if answer:
-        while b"[y/N]" not in said:
-            assert select.select([line], [], [], PATIENCE)[0], said
-            said += os.read(line, 4096)
-        os.write(line, answer)
-    assert process.wait(timeout=PATIENCE) == status
-    os.close(line)
-    assert said.count(b"[y/N]") == bool(answer)
+    said = read_until(line, rb"\[y/N\]") if answer else b""
+    os.write(line, answer)
+    said += rest_of(line)
+    assert (process.wait(timeout=PATIENCE), said.count(b"[y/N]")) == (status, bool(answer))
     assert [farm.board(it)["health"] for it in ("b1", "b2")] == healths
 
 
@@ -94,22 +87,6 @@ def test_elsewhere_it_doesnt_ask(make_farm: Callable[..., Farm]) -> None:
 def test_the_health_of_an_odd_name_is_refused_by_the_desk(lab: Farm, name: str) -> None:
     status, _, errors = desk(lab, "health", name, "Good", user="admin")
     assert (status, errors.count("refused: ")) == (3, 1)
-
-
-@pytest.mark.parametrize("words", [
-    ["health", "r1"],
-    ["health", "r1", "Fine"],
-    ["tags", "r1"],
-    ["tags", "r1", "usb", "--none"],
-    ["add-type", "x", "--check", "hours"],
-    ["add-type", "x", "--every", "3"],
-    ["add-type", "x", "--check", "none", "--every", "3"],
-    ["add-type", "x", "--check", "days", "--every", "3"],
-    ["add-type", "x", "--check", "jobs", "--every", "0"],
-    ["add-type", "x", "--check", "jobs", "--every", "10001"],
-])
-def test_bad_words_of_an_admin(words: Sequence[str]) -> None:
-    assert desk("http://127.0.0.1:1", *words)[0] == 2
 
 
 # ---- imports (tests/unit/importers/test_lab_file.py has the faults of lab files, without a server)
@@ -162,11 +139,6 @@ def test_a_lab_file_of_toml_1_1_is_read_as_the_program_reads_it(lab: Farm, folde
         ["[types.ddd]", "[boards.b1]", 'type = "bbb"', 'tags = ["a b"]'], "",
         "bad lab file: line 2: board b1: 'a b' isn't a tag: a key, or key=value", ["rpi"],
     ),
-    (
-        ["[types.ddd]", "[types.x]", 'check = "hours"'], "",
-        "bad lab file: line 2: type x: there is no every", ["rpi"],
-    ),
-    (["types = 1"], "", "bad lab file: types isn't a table", ["rpi"]),
     (["#" * 1048576], "", "bad lab file: it has more than 1,048,576 bytes", ["rpi"]),
     # a table that a dotted key opens again, which the program refuses too
     (
@@ -245,13 +217,10 @@ def test_the_clients_version_is_the_packages(lab: Farm) -> None:
 
 
 @pytest.mark.parametrize("line, wanted, others", [
-    ("desk ", "queue health tags add-type add-board import with", ""),
-    ("desk --v", "--version", "queue"),
+    ("desk ", "queue health tags add-type add-board import with log history usage resubmit", ""),
     ("desk ext", "extend", "queue"),
     ("desk add-t", "add-type add-token", "tokens"),
-    ("desk ", "log history usage resubmit", ""),
     ("desk usage --by ", "owner board type", ""),
-    ("desk jobs --", "--mine --last --limit --text", "--all"),
     ("desk --json ad", "add-type add-board", "queue"),
     ("desk reserve --priority ", "low medium high", "hdmi"),
     ("desk add-type x --check h", "hours", "jobs"),
@@ -300,71 +269,36 @@ def test_other_shells_complete_too(make_farm: Callable[..., Farm], folder: str, 
     assert completed(folder, "desk boards name=b", shell, DESK_SERVER=farm.server) & {"name=b1", "b1"}
 
 
-class Stranger(http.server.BaseHTTPRequestHandler):
-    """A desk whose boards have tags that a shell would run, or take for names of files."""
-
-    tags = ["$(touch ran)", "`touch ran`", "a;touch ran", "*", "d?sk", "'", "two words", "\x1b[2J", "plain"]
-
-    def do_GET(self) -> None:
-        body = json.dumps({"boards": [{"name": "$(touch ran)", "type": "x", "tags": self.tags, "holder": "none"}]}).encode()
-        self.send_response(200)
-        self.send_header("content-length", str(len(body)))
-        self.end_headers()
-        self.wfile.write(body)
-
-    def log_message(self, *_: object) -> None:
-        pass
+TAGS = ["$(touch ran)", "`touch ran`", "a;touch ran", "*", "d?sk", "'", "two words", "\x1b[2J", "plain"]
 
 
 @pytest.mark.parametrize("shell", ["bash", "zsh", "fish"])
 def test_what_a_stranger_sends_is_nothing_to_a_shell(folder: str, shell: str) -> None:
     """Of what a desk shows only what is a name or a tag is offered, and a shell makes nothing else of it."""
-    with http.server.ThreadingHTTPServer(("127.0.0.1", 0), Stranger) as server:
-        threading.Thread(target=server.serve_forever, daemon=True).start()
-        address = f"http://127.0.0.1:{server.server_port}"
-        assert completed(folder, "desk reserve ", shell, DESK_SERVER=address) == {"plain"}
-        server.shutdown()
+    board = {"name": "$(touch ran)", "type": "x", "tags": TAGS, "holder": "none"}
+    with Answering(lambda _: (200, {"boards": [board]})) as stranger:
+        assert completed(folder, "desk reserve ", shell, DESK_SERVER=stranger.url) == {"plain"}
     assert os.listdir(folder) == ["desk"]
 
 
-class NoDesk(Stranger):
-    """Another program that answers in JSON."""
-
-    body = b'{"status":"up"}'
-
-    def do_GET(self) -> None:
-        self.rfile.read(int(self.headers.get("content-length", 0)))
-        self.send_response(200)
-        self.send_header("content-length", str(len(self.body)))
-        self.end_headers()
-        self.wfile.write(self.body)
-
-    do_POST = do_GET
+# What other programs answer in JSON: one at all, and one by a desk's names, with nothing else of a desk's.
+OTHERS = ({"status": "up"}, {
+    "boards": [7], "queue": [[]], "types": ["x"], "reservations": [None], "number": "7", "state": 7, "clock": "now",
+    "count": [], "jobs": {},
+})
 
 
-class Likeness(NoDesk):
-    """Another program, whose answers have a desk's names and nothing else of a desk's."""
-
-    body = json.dumps({
-        "boards": [7], "queue": [[]], "types": ["x"], "reservations": [None], "number": "7", "state": 7, "clock": "now",
-        "count": [], "jobs": {},
-    }).encode()
-
-
-@pytest.mark.parametrize("program", [NoDesk, Likeness])
+@pytest.mark.parametrize("said", OTHERS, ids=["another", "alike"])
 @pytest.mark.parametrize("words", [
     "boards", "queue", "jobs", "jobs 1", "types", "reservations", "reserve name=b1", "acquire 1", "cancel 1", "resubmit 1", "wait 1",
     "artifacts 1", "with hdmi -- true", "health b1 Good", "add-type bbb",
 ])
-def test_what_another_program_answers_is_told_in_a_line(words: str, program: Type[NoDesk]) -> None:
-    with http.server.ThreadingHTTPServer(("127.0.0.1", 0), program) as server:
-        threading.Thread(target=server.serve_forever, daemon=True).start()
-        address = f"http://127.0.0.1:{server.server_port}"
+def test_what_another_program_answers_is_told_in_a_line(words: str, said: object) -> None:
+    with Answering(lambda _: (200, said)) as program:
         ran = subprocess.run(
-            [sys.executable, os.path.join(TOP, "tools", "desk"), "--server", address, *words.split()],
+            [sys.executable, os.path.join(TOP, "tools", "desk"), "--server", program.url, *words.split()],
             stdout=subprocess.PIPE, stderr=subprocess.PIPE, text=True, check=False, timeout=300,
         )
-        server.shutdown()
     assert (ran.returncode, ran.stdout) == (125 if words.startswith("with") else 4, "")
-    told = f"{address}: the answer isn't a desk's"
+    told = f"{program.url}: the answer isn't a desk's"
     assert re.fullmatch(rf"desk: (no answer from the desk at )?{told}(: it lacks [a-z]+|: [a-z ]+ is .+)?\n", ran.stderr)

@@ -2,39 +2,33 @@
 narrow terminals. What the dispatcher tells of the present stands in a folder of the test's own."""
 from __future__ import annotations
 
-import contextlib
 import functools
-import http.server
 import json
 import os
 import pathlib
 import re
 import subprocess
 import sys
-import threading
 import time
-from typing import Any, Callable, Dict, List, Tuple
+from typing import Any, Callable, Dict, Iterator, List, Tuple
 
 import pytest
+from answering import Answering
 from desks import (
-    BOARDS, DESK, GROUP, JOB, around, at_a_terminal, at_ease, desk, number_of, passes, prints, waiting_tool, write,
+    DESK, GROUP, JOB, around, at_a_terminal, at_ease, desk, number_of, passes, prints, rest_of, waiting_tool, write,
 )
 from fizgruk import notes
 from ports import free_port
 from served import PATIENCE, Farm, Tool, wait_until
 
 MINUTE = 60
+NO_ROUTE = {"code": 52, "text": "no such route"}
 Row = Dict[str, Any]
 
 
 def has_said(tool: Tool, text: str) -> bool:
     """Whether a tool has told this as a line's end."""
     return f"{text}\n" in tool.errors()
-
-
-@pytest.fixture
-def farm(make_farm: Callable[..., Farm]) -> Farm:
-    return make_farm(BOARDS)
 
 
 def shows(folder: str, **lists: Any) -> Dict[str, str]:
@@ -73,11 +67,7 @@ def facts(said: str) -> Dict[str, str]:
 def at_terminal(farm: Farm, *words: str, width: int = 80, status: int = 0) -> List[str]:
     """The lines that the client shows at a terminal of this width."""
     process, line = at_a_terminal(farm, *words, width=width)
-    text = b""
-    with contextlib.suppress(OSError):
-        while chunk := os.read(line, 4096):
-            text += chunk
-    os.close(line)
+    text = rest_of(line)
     assert process.wait(timeout=PATIENCE) == status, text
     return at_ease(text.decode().replace("\r\n", "\n")).splitlines()
 
@@ -124,47 +114,11 @@ def test_an_open_job_says_its_name_and_how_long_it_runs_or_why_it_waits(farm: Fa
     assert " one " in line and line.endswith(f" {found['reason']}"), "in a pipe it is whole"
 
 
-def test_each_claim_of_the_queue_has_its_reason(farm: Farm, folder: str) -> None:
-    """A group of the dispatcher's is told without a call for it."""
-    farm.tell("ann", "/reservations", {"tags": ["serial"]})
-    farm.tell("ann", "/reservations", {"tags": ["serial"]})
-    passes(farm)
-    farm.tell("cat", "/reservations", {"tags": ["hdmi"]})
-    prints(farm, "4\n", "submit", "-", given=GROUP)
-    farm.tell("admin", "/boards/c1/health", {"health": "Bad"})
-    farm.tell("bob", "/reservations", {"tags": ["name=c1"]})
-    wants = [{"type": "bbb", "tags": []}, {"type": "bbb", "tags": []}]
-    for groups in ([], [{"group": 4, "name": "two", "submitted": None, "wants": wants}]):
-        status, said, errors = desk(farm, "queue", **shows(folder, groups=groups))
-        assert (status, errors) == (0, "")
-        for line, reason in zip(said.splitlines()[1:], (
-            "-    1 board fits, held by reservation 1 of ann",
-            "two  2 boards fit: 2 held (reservation 1 of ann, reservation 2 of ann)",
-            "-    1 board fits, Bad; none can come",
-        )):
-            assert line.endswith(f" {reason}")
-
-
 # ---- many jobs
 
 
-class Counted(http.server.BaseHTTPRequestHandler):
-    """A site of a farm whose boards are all held by jobs, and its dispatcher's files; it counts what it is asked."""
-
-    asked: List[str] = []
-    views: Dict[str, Row] = {}
-
-    def do_GET(self) -> None:
-        Counted.asked.append(self.path)
-        said = Counted.views.get(self.path)
-        body = json.dumps(said or {"code": 52, "text": "no such route"}).encode()
-        self.send_response(200 if said else 404)
-        self.send_header("content-length", str(len(body)))
-        self.end_headers()
-        self.wfile.write(body)
-
-    def log_message(self, *_: object) -> None:
-        pass
+LISTED = ["/boards", "/history.json", "/queue"]  # what holds boards, what ended, and what waits
+OF_WHAT_RUNS = ["/running.json", "/status", "/workers.json"]
 
 
 def full(now: int) -> Dict[str, Row]:
@@ -192,41 +146,54 @@ def full(now: int) -> Dict[str, Row]:
     }
 
 
+class Crowd(Answering):
+    """A site of a farm whose boards are all held by jobs, and its dispatcher's files."""
+
+    def __init__(self) -> None:
+        self.views = full(int(time.time()))
+        super().__init__(lambda path: (200, self.views[path]) if path in self.views else (404, NO_ROUTE))
+
+
 @pytest.fixture
-def crowd() -> Any:
-    """The address of such a site."""
-    Counted.views = full(int(time.time()))
-    server = http.server.ThreadingHTTPServer(("127.0.0.1", 0), Counted)
-    threading.Thread(target=server.serve_forever, daemon=True).start()
-    yield f"http://127.0.0.1:{server.server_port}"
-    server.shutdown()
+def crowd() -> Iterator[Crowd]:
+    with Crowd() as made:
+        yield made
 
 
-def asking(crowd: str, *words: str) -> Tuple[List[List[str]], str, List[str]]:
+def asking(crowd: Crowd, *words: str) -> Tuple[List[List[str]], str, List[str]]:
     """The lines that the client prints but for the head, what it tells, and what it asked for."""
-    Counted.asked.clear()
-    status, said, errors = desk(crowd, *words)
+    crowd.asked.clear()
+    status, said, errors = desk(crowd.url, *words)
     assert status == 0, errors
-    return [line.split() for line in said.splitlines()[1:]], errors, list(Counted.asked)
+    return [line.split() for line in said.splitlines()[1:]], errors, sorted(crowd.asked)
 
 
-def test_a_big_farms_jobs_are_asked_for_at_once_and_the_newest_are_shown(crowd: str) -> None:
+def test_a_big_farms_jobs_are_asked_for_at_once_and_the_newest_are_shown(crowd: Crowd) -> None:
     rows, errors, asked = asking(crowd, "jobs")
     assert [it[0] for it in rows] == [str(it) for it in range(2299, 2249, -1)]
     assert errors == "desk: more are open than these 50: --limit\n"
-    assert sorted(asked) == sorted(["/queue", "/boards", "/status", *(
-        f"/{it}.json" for it in ("running", "waiting", "workers", "history")
-    )]), "each once, whatever the farm's size"
+    assert asked == sorted([*LISTED, *OF_WHAT_RUNS, "/waiting.json"]), "each once, whatever the farm's size"
     assert rows[0][8:] == "256 boards fit: 256 held (job 1 of bob, job 2 of bob, job 3 of bob, job 4 of bob, 252 more)".split()
     rows, errors, asked = asking(crowd, "--user", "bob", "jobs", "--mine", "--limit", "300")
     assert [it[0] for it in rows] == [str(it) for it in range(256, 0, -1)] and errors == ""
     assert rows[0][1:5] == ["Running", "bob", "bbb", "b256"] and re.search(r" 0:0[1-5]:\d\d boot", " ".join(rows[0]))
-    assert [it for it in asked if it.startswith("/jobs/")] == [] and "/waiting.json" not in asked
+    assert asked == sorted([*LISTED, *OF_WHAT_RUNS]), "nothing of his waits"
 
 
-def test_without_the_dispatchers_word_as_many_jobs_are_asked_for_as_are_shown(crowd: str) -> None:
+def test_of_jobs_that_arent_open_nothing_more_is_asked(crowd: Crowd) -> None:
+    """What one waits for, is called, and runs on is asked where a row has that; the clock too, where a job is open."""
+    crowd.views["/queue"]["queue"], of_two = [], {**crowd.views["/queue"]["queue"][0], "boards": 2}
+    for it in crowd.views["/boards"]["boards"]:
+        it["holder"] = "none"
+    assert asking(crowd, "jobs") == ([], "", LISTED)
+    crowd.views["/queue"]["queue"] = [of_two]
+    assert asking(crowd, "jobs")[2].count("/status") == 1, "for who collects, and for the clock"
+    assert asking(crowd, "queue")[2].count("/status") == 1
+
+
+def test_without_the_dispatchers_word_as_many_jobs_are_asked_for_as_are_shown(crowd: Crowd) -> None:
     for name in ("/running.json", "/waiting.json"):
-        del Counted.views[name]
+        del crowd.views[name]
     rows, errors, asked = asking(crowd, "jobs", "--limit", "20")
     assert (len(rows), errors) == (20, "desk: more are open than these 20: --limit\n")
     of_jobs = [it for it in asked if it.startswith("/jobs/")]
@@ -299,6 +266,7 @@ def test_a_wrong_name_is_told_with_the_status_3(farm: Farm, words: List[str], to
 
 @pytest.mark.parametrize("words, names", [
     ("bbb", "b1 b2"), ("bbb hdmi", "b1"), ("ccc hdmi", ""), ("--free", "b1 c1"), ("bbb --free", "b1"), ("hdmi --free", "b1"),
+    ("serial hdmi", "b1"), ("ccc", "c1"), ("name=c1 hdmi", ""),
 ])
 def test_boards_are_chosen_by_type_tag_and_whether_they_are_free(farm: Farm, words: str, names: str) -> None:
     farm.tell("ann", "/reservations", {"tags": ["name=b2"]})
@@ -338,29 +306,7 @@ def test_tables_fit_the_terminal_and_are_whole_elsewhere(make_farm: Callable[...
     assert "\x1b" not in "".join(at_terminal(farm, "boards"))
 
 
-def test_an_empty_cell_is_a_dash(farm: Farm) -> None:
-    assert desk(farm, "boards")[1].splitlines()[-1].split()[-1] == "-"
-    prints(farm, "1\n", "submit", "-", given=JOB)
-    rows = [line.split() for line in desk(farm, "jobs", "1", "1")[1].splitlines()]
-    assert rows[0] == "NUMBER GROUP KIND STATE RESULT BOARD TYPE ROLE PRIORITY OWNER TAGS BEGAN TOOK NAME REASON".split()
-    assert rows[1][:14] == "1 1 ordinary Submitted - - bbb - 50 ann - - - one".split()
-
-
 # ---- a board's name in the place of a number
-
-
-def test_a_board_is_given_back_by_its_name(farm: Farm) -> None:
-    for _ in range(2):
-        farm.tell("ann", "/reservations", {"tags": ["serial"]})
-    passes(farm)
-    prints(farm, "b1\n", "acquire", "b1")
-    prints(farm, "", "extend", "b1")
-    status, said, errors = desk(farm, "release", "b1")
-    assert (status, said) == (0, "") and "reservation 1 keeps the board for a minute" in errors
-    assert (farm.reservation(1)["state"], farm.reservation(1)["board"]) == ("allocated", "b1")
-    prints(farm, "", "cancel-reservation", "b1")
-    prints(farm, "", "refresh", "b2")
-    assert farm.reservation(1)["state"] == "canceled" and farm.board("b1")["holder"] == "none"
 
 
 def test_a_board_that_one_doesnt_hold_isnt_given_back(farm: Farm) -> None:
@@ -500,13 +446,13 @@ def test_a_reservation_wants_a_tag_or_the_word_for_any(farm: Farm) -> None:
 # ---- sentences, and no traces
 
 
-def test_faults_are_told_in_sentences(farm: Farm, crowd: str) -> None:
+def test_faults_are_told_in_sentences(farm: Farm, crowd: Crowd) -> None:
     server = f"http://127.0.0.1:{free_port()}"
     errors = desk(server, "queue")[2].splitlines()
     assert errors == [f"desk: waiting for the desk at {server}: connection refused",
                       f"desk: no answer from the desk at {server}: connection refused"]
-    del Counted.views["/types"]
-    assert desk(crowd, "types") == (3, "", f"desk: refused: {crowd} has no /types\n")
+    del crowd.views["/types"]
+    assert desk(crowd.url, "types") == (3, "", f"desk: refused: {crowd.url} has no /types\n")
     assert desk(farm, "tokens")[2] == "desk: refused: tokens are a site's that has farm-door(8)\n"
 
 
@@ -552,13 +498,13 @@ def test_a_number_of_many_digits_in_a_job_file_is_no_trace(farm: Farm, text: str
     assert status in (0, 3) and "Traceback" not in errors and len(errors) < 1000
 
 
-def test_a_desk_whose_numbers_have_many_digits_is_no_desk(crowd: str) -> None:
+def test_a_desk_whose_numbers_have_many_digits_is_no_desk(crowd: Crowd) -> None:
     for path, name in (("/status", "clock"), ("/status", "count")):
-        Counted.views[path] = {**Counted.views[path], name: 10**400}
-    Counted.views["/boards"]["boards"][0]["last_check"] = 10**400
-    Counted.views["/running.json"]["jobs"][0]["began"] = 10**400
+        crowd.views[path] = {**crowd.views[path], name: 10**400}
+    crowd.views["/boards"]["boards"][0]["last_check"] = 10**400
+    crowd.views["/running.json"]["jobs"][0]["began"] = 10**400
     for words in (["boards"], ["boards", "b1"], ["queue"], ["jobs", "1"], ["wait", "300"]):
-        status, _, errors = desk(crowd, *words)
+        status, _, errors = desk(crowd.url, *words)
         assert status in (0, 4) and "Traceback" not in errors, words
 
 
@@ -568,13 +514,3 @@ def test_a_closed_input_is_told(farm: Farm) -> None:
         ran = subprocess.run(line, env=around(farm), capture_output=True, text=True, check=False)
         told = "desk: there is no input: it is closed\n" if status else ""
         assert (ran.returncode, at_ease(ran.stderr)) == (status, told)
-
-
-def test_another_hosts_password_that_others_may_read_is_no_refusal(farm: Farm, folder: str) -> None:
-    """That of the desk's own host is."""
-    more = {"HOME": folder, "XDG_CONFIG_HOME": ""}
-    file = write(folder, ".netrc", "machine other.example login eve password secret\n", 0o644)
-    assert desk(farm, "--json", "queue", **more)[:2] == (0, '{"queue":[]}\n')
-    write(folder, ".netrc", "machine 127.0.0.1 login ann password secret\n", 0o644)
-    told = f"desk: {file} holds a password of 127.0.0.1, and others may read it: chmod 600\n"
-    assert desk(farm, "queue", **more) == (4, "", told)

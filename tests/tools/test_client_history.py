@@ -2,26 +2,20 @@
 on this machine."""
 from __future__ import annotations
 
-import http.server
 import json
 import os
 import shutil
-import threading
 import time
-from typing import Any, Callable, Dict, List, Sequence
+from typing import Any, Dict, List, Sequence, Tuple
 
 import pytest
-from desks import BOARDS, GROUP, JOB, desk, passes, prints, waiting_tool, write
+from answering import Answering
+from desks import GROUP, JOB, desk, passes, prints, waiting_tool, write
 from served import Farm, wait_until
 
 NOW = int(time.time())
 HOUR, DAY = 3600, 86400
 Row = Dict[str, Any]
-
-
-@pytest.fixture
-def farm(make_farm: Callable[..., Farm]) -> Farm:
-    return make_farm(BOARDS)
 
 
 def job_line(
@@ -173,39 +167,19 @@ def test_why_there_is_no_log(farm: Farm, folder: str, words: Sequence[str]) -> N
     assert desk(farm, "log", "1", *words, **past) == (3, "", told)
 
 
-class Proxy(http.server.BaseHTTPRequestHandler):
-    """Serves a job that has ended by the fourth look, and its log; at first it reaches neither."""
-
-    protocol_version = "HTTP/1.1"
-    looks, logs = 0, 0
-
-    def do_GET(self) -> None:
-        if self.path == "/jobs/1":
-            Proxy.looks += 1
-            self.answer(200, {"state": "Running" if Proxy.looks < 4 else "Finished"})
-        elif self.path == "/logs/1":
-            Proxy.logs += 1
-            self.answer(502 if Proxy.logs in (1, 3) else 200, {"log": "all of it"})
-        else:
-            self.answer(404, {})
-
-    def answer(self, status: int, said: object) -> None:
-        body = json.dumps(said).encode()
-        self.send_response(status)
-        self.send_header("content-length", str(len(body)))
-        self.end_headers()
-        self.wfile.write(body)
-
-    def log_message(self, *_: object) -> None:
-        pass
-
-
 def test_a_log_is_followed_over_a_proxy_that_answers_502_each_byte_printed_once() -> None:
-    """The proxy doesn't reach what it serves for a moment, and takes no part of a log's bytes."""
-    server = http.server.ThreadingHTTPServer(("127.0.0.1", 0), Proxy)
-    threading.Thread(target=server.serve_forever, daemon=True).start()
-    found = desk(f"http://127.0.0.1:{server.server_port}", "log", "1", "--follow", "--every", "0.1")
-    server.shutdown()
+    """A job that has ended by the fourth look. The proxy doesn't reach what it serves for a moment, and takes no part of a
+    log's bytes."""
+    def says(path: str) -> Tuple[int, object]:
+        times = proxy.asked.count(path)
+        if path == "/jobs/1":
+            return 200, {"state": "Running" if times < 4 else "Finished"}
+        if path == "/logs/1":
+            return 502 if times in (1, 3) else 200, {"log": "all of it"}
+        return 404, {}
+
+    with Answering(says) as proxy:
+        found = desk(proxy.url, "log", "1", "--follow", "--every", "0.1")
     told = "desk: no answer from the desk, which is asked again: 502 Bad Gateway\n"
     assert found == (0, '{"log": "all of it"}', told)
 
@@ -259,35 +233,20 @@ def used(folder: str) -> str:
     )
 
 
-def test_usage_by_owner(farm: Farm, folder: str) -> None:
-    said = json.loads(desk(farm, "--history", used(folder), "usage", "--json")[1])
-    assert (said["by"], said["until"] - said["since"]) in (("owner", 30 * DAY), ("owner", 30 * DAY + 1))
-    rows = {it.pop("name"): it for it in said["usage"]}
-    # (the third began before the 30 days, of which it has half a day, less what has gone by meanwhile)
-    assert 3.0 < rows["zoe"].pop("hours") <= 15.0
-    assert rows == {
-        "zoe": {"jobs": 2, "complete": 0, "incomplete": 1, "infra": 1, "canceled": 0, "holds": 1, "held": 2.0,
-                "waited_median": None, "waited_ninth": None},
-        "ann": {"jobs": 11, "complete": 10, "incomplete": 0, "infra": 0, "canceled": 1, "hours": 3.0, "holds": 0,
-                "held": 0.0, "waited_median": 50, "waited_ninth": 90},
-    }
-
-
-def test_usage_by_board_and_by_type(farm: Farm, folder: str) -> None:
+def test_usage_by_board_by_type_and_as_json(farm: Farm, folder: str) -> None:
     past = used(folder)
     prints(farm, """\
 BOARD JOBS COMPLETE INCOMPLETE INFRA CANCELED HOURS HOLDS HELD WAITED  NINTH
 b2       2        0          1     0        1 4.0       1 2.0  -       -
 b1      11       10          0     0        1 2.0       0 0.0  0:00:50 0:01:30
 """, "--history", past, "usage", "--by", "board", "--since", "3d")
+    said = json.loads(desk(farm, "--history", past, "usage", "--json")[1])
+    assert said["by"] == "owner" and 0 <= said["until"] - said["since"] - 30 * DAY <= 1
+    ann = next(it for it in said["usage"] if it["name"] == "ann")
+    assert [ann[it] for it in ("jobs", "canceled", "waited_median", "waited_ninth")] == [11, 1, 50, 90]
     types = cells(desk(farm, "--history", past, "usage", "--by", "type", "--since", "2020-01-01")[1])
     assert [[it[0], it[1], it[6]] for it in types[1:]] == [["bbb", "13", "56.0"], ["ccc", "1", "24.0"]]
     assert len(cells(desk(farm, "--history", past, "usage", "--since", "1m")[1])) == 1
-
-
-@pytest.mark.parametrize("words", [["--since", "soon"], ["--since", "2026-13-01"], ["--since", "1y"], ["--by", "tag"]])
-def test_bad_words_of_usage(words: Sequence[str]) -> None:
-    assert desk("http://127.0.0.1:1", "usage", *words)[0] == 2
 
 
 def test_usage_of_a_file_that_was_put_aside(farm: Farm, folder: str) -> None:

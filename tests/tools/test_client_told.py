@@ -3,7 +3,6 @@ from __future__ import annotations
 
 import os
 import re
-import select
 import signal
 import tempfile
 import time
@@ -11,18 +10,14 @@ from typing import Callable, Optional, Sequence
 
 import pytest
 from desks import (
-    BOARDS, GROUP, JOB, Ran, at_a_terminal, at_ease, desk, number_of, passes, prints, tell_at, waiting_tool, waits, write,
+    GROUP, JOB, Ran, at_a_terminal, at_ease, desk, number_of, passes, prints, read_until, tell_at, waiting_tool,
+    waits, write,
 )
 from fizgruk import job_file
 from served import PATIENCE, Farm, Tool, read, wait_until
 
 SIGNALS = (signal.SIGINT, signal.SIGTERM, signal.SIGHUP, signal.SIGQUIT)
 EACH_SIGNAL = pytest.mark.parametrize("number", SIGNALS, ids=[it.name for it in SIGNALS])
-
-
-@pytest.fixture
-def farm(make_farm: Callable[..., Farm]) -> Farm:
-    return make_farm(BOARDS)
 
 
 # ---- the desk's clock (tests/unit/test_clocks.py has more of it, without a server)
@@ -117,14 +112,6 @@ def test_a_terminals_end_ends_what_waits(farm: Farm, words: Sequence[str]) -> No
     read_until(line, b"in the queue")
     press(line, None)
     assert (process.wait(timeout=PATIENCE), farm.look("/queue")["queue"]) == (129, [])
-
-
-def read_until(line: int, wanted: bytes) -> None:
-    """Reads what a client writes on its terminal until this is among it."""
-    said = b""
-    while wanted not in said:
-        assert select.select([line], [], [], PATIENCE)[0], f"{wanted!r} doesn't come, only {said!r}"
-        said += os.read(line, 4096)
 
 
 def press(line: int, key: Optional[bytes]) -> None:
@@ -250,37 +237,15 @@ def test_why_no_board_comes_that_has_a_name(farm: Farm, folder: str) -> None:
     assert tool.ends() == 0
 
 
-def test_why_none_of_several_boards_comes(farm: Farm, folder: str) -> None:
-    job = farm.submit("true", user="cat")
-    passes(farm)
-    farm.tell("admin", "/boards/b2/health", {"health": "Maintenance"})
-    tool = waiting_tool(farm, folder, "reserve", "serial", "--wait", "--every", "0.1")
-    says(tool, f"2 boards fit: 1 held (job {job} of cat), 1 in Maintenance")
-    farm.tell("cat", f"/jobs/{job}/cancel")
-    passes(farm)
-    assert tool.ends() == 0
-
-
 def test_what_goes_over_several_lines_of_a_terminal_is_erased_whole(farm: Farm) -> None:
     farm.tell("admin", "/boards/b2/health", {"health": "Maintenance"})
     process, line = at_a_terminal(farm, "reserve", "name=b2", "--wait", "--every", "0.2", width=40)
     # reservation 1 is waiting, place 1 of 1 in the queue: 1 board fits, in Maintenance; none can
     # come (0 s): more than 80 letters, up to 120
-    read_until(line, b" s)")
-    read_until(line, b"\r\x1b[2A\x1b[J")
+    read_until(line, rb" s\)")
+    read_until(line, rb"\r\x1b\[2A\x1b\[J")
     press(line, b"\x03")
     assert process.wait(timeout=PATIENCE) == 130
-
-
-def test_a_board_that_is_to_be_checked_first_is_told(make_farm: Callable[..., Farm], folder: str) -> None:
-    farm = make_farm()
-    farm.tell("admin", "/types", {"name": "rpi", "check": "jobs", "every": 20})
-    farm.tell("admin", "/boards", {"name": "r1", "type": "rpi"})
-    farm.tell("admin", "/boards/r1/health", {"health": "Unknown"})
-    tool = waiting_tool(farm, folder, "reserve", "--any", "--wait", "--every", "0.1")
-    says(tool, "1 board fits, Unknown until it is checked")
-    tool.send(signal.SIGTERM)
-    assert tool.ends() == 143
 
 
 def test_claims_that_no_boards_can_come_for_are_marked_in_the_queue_and_in_waits(farm: Farm, folder: str) -> None:

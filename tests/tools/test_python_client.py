@@ -19,11 +19,11 @@ from typing import Any, Callable, Dict, Iterator, List, Optional, Tuple, Type, c
 import pytest
 
 import fizgruk
-from fizgruk import holding, waiting
-from fizgruk.version import VERSION
+from desks import JOB
+from fizgruk import __version__, holding
 from nginx_site import Site
 from python_front import (  # noqa: F401
-    BOARDS, JOB, PATH, SOURCES, SRC, Front, Passer, client_of, farm_fixture, no_settings_fixture, rows, states,
+    PATH, SOURCES, SRC, Front, Passer, client_of, no_settings_fixture, rows, states,
 )
 from served import STARTED, TOP, Farm, environment, read, wait_until
 from wants import wants, wants_python_with
@@ -69,9 +69,9 @@ def test_pip_installs_it(folder: str) -> None:
     said(own, "-m", "pip", "install", "-q", "--no-build-isolation", "--no-index", copied)
     told = "import fizgruk; print(fizgruk.__version__, fizgruk.__path__[0])"
     version, place = said(own, "-c", told).split()
-    assert version == VERSION and place.startswith(to)
-    assert said(own, "-c", "import importlib.metadata as it; print(it.version('fizgruk'))") == f"{VERSION}\n"
-    assert said(f"{to}/bin/desk", "--version") == f"desk {VERSION}\n", "the command comes with it"
+    assert version == __version__ and place.startswith(to)
+    assert said(own, "-c", "import importlib.metadata as it; print(it.version('fizgruk'))") == f"{__version__}\n"
+    assert said(f"{to}/bin/desk", "--version") == f"desk {__version__}\n", "the command comes with it"
     files = {it for it in os.listdir(place) if it != "__pycache__"}
     assert files == {it for it in os.listdir(f"{SRC}/fizgruk") if it != "__pycache__"}
     assert "py.typed" in files
@@ -192,23 +192,6 @@ def test_group(farm: Farm) -> None:
         ann.group(9)
 
 
-def test_refusals(farm: Farm) -> None:
-    """What the desk refuses is raised with its code, and its status."""
-    ann = client_of(farm.server)
-    with pytest.raises(fizgruk.Refused) as refusal:
-        ann.reserve("vga")
-    assert (refusal.value.code, refusal.value.text, refusal.value.status) == (22, "no such boards", 409)
-    assert str(refusal.value) == "22 no such boards"
-    with pytest.raises(fizgruk.Refused, match="^3 forbidden: asked as ann$"):
-        ann.add_type("x")
-
-
-def test_silence() -> None:
-    """Where nobody answers that is raised, with the address."""
-    with pytest.raises(fizgruk.Unreachable, match="^http://127.0.0.1:1: "):
-        client_of("http://127.0.0.1:1", patience=0.5).status()
-
-
 def test_connection_is_kept(front: Front) -> None:
     """Many calls take one connection, and one more after it was closed."""
     ann = client_of(front.url)
@@ -219,30 +202,6 @@ def test_connection_is_kept(front: Front) -> None:
     for _ in range(3):
         ann.status()
     assert front.connections == 2
-
-
-def test_connection_that_was_closed(front: Front) -> None:
-    """A kept connection that the server closed costs no call, and a command isn't sent twice."""
-    hasty = client_of(front.url, patience=0)
-    hasty.status()
-    front.trouble("closed")
-    hasty.status()
-    hasty.cancel_reservation(hasty.reserve("hdmi"))
-    assert front.paths().count("POST /reservations") == 1
-
-
-def test_close(front: Front) -> None:
-    """After close(), and after a `with`, the next call opens a connection again."""
-    with client_of(front.url) as ann:
-        ann.status()
-    assert ann.status().next == 1
-    assert front.connections == 2
-
-
-def test_desk_that_closes(farm: Farm) -> None:
-    """The desk itself closes each connection."""
-    straight = client_of(farm.server)
-    assert straight.status() == straight.status()
 
 
 FORKS = """\
@@ -287,18 +246,6 @@ def test_key_of_ones_own(farm: Farm, front: Front) -> None:
     assert farm.look("/status")["jobs"] == 1
 
 
-def test_proxy_without_a_desk(front: Front) -> None:
-    """What a proxy says that reaches no desk is raised, once the patience is over."""
-    for patience in (1, 10, 100):  # (on a slow machine the first answer alone may take a second)
-        front.asked.clear()
-        front.trouble(*["502"] * 1000)
-        with pytest.raises(fizgruk.Unreachable, match=": 502 Bad Gateway$"):
-            client_of(front.url, patience=patience).status()
-        if len(front.asked) > 1:
-            break
-    assert len(front.asked) > 1
-
-
 @pytest.fixture
 def site(farm: Farm, folder: str) -> Site:
     """The site of examples/nginx.conf in front of that farm."""
@@ -323,14 +270,6 @@ def test_behind_nginx(site: Site, farm: Farm, monkeypatch: pytest.MonkeyPatch) -
             with ann.board("hdmi", every=0.1):
                 assert rows(farm)[-1]["owner"] == "ann"
     assert (states(farm), len(opened)) == (["canceled"] * 10, 1)
-
-
-def test_wrong_password(site: Site) -> None:
-    """Another's password is refused by nginx, which is told as that."""
-    other = client_of(site.server, password_file=os.path.join(site.folder, "dispatcher"), ca_file=site.certificate)
-    with pytest.raises(fizgruk.Refused, match="^401 Unauthorized: asked as ann, with a password$") as refusal:
-        other.status()
-    assert refusal.value.code == 401
 
 
 def test_certificate_that_nobody_knows(site: Site, monkeypatch: pytest.MonkeyPatch) -> None:
@@ -387,13 +326,6 @@ def test_wait_that_is_interrupted(farm: Farm) -> None:
     assert states(farm) == ["canceled"]
 
 
-def test_board_that_is_refused(farm: Farm) -> None:
-    """Nothing is reserved where the desk refuses."""
-    with pytest.raises(fizgruk.Refused):
-        client_of(farm.server).board("vga").__enter__()
-    assert not rows(farm)
-
-
 def test_board_is_held_once(farm: Farm) -> None:
     """Each `with` wants a call of board() of its own."""
     with Passer(farm):
@@ -405,23 +337,6 @@ def test_board_is_held_once(farm: Farm) -> None:
     assert states(farm) == ["canceled"]
 
 
-def test_waiting_board_is_refreshed(farm: Farm, monkeypatch: pytest.MonkeyPatch) -> None:
-    """A reservation that waits is refreshed, and so lives on: its deadline moves on by the desk's clock."""
-    monkeypatch.setattr(waiting, "REFRESH", 0.1)
-    farm.tell("admin", "/boards/b1/health", {"health": "Maintenance"})
-    found: List[str] = []
-    ann = client_of(farm.server)
-    thread = threading.Thread(target=lambda: found.append(held_once(ann)), daemon=True)
-    thread.start()
-    first = wait_until("it waits", lambda: rows(farm))[0]["deadline"]
-    wait_until("it is refreshed", lambda: bool(rows(farm)[0]["deadline"] > first))
-    assert (states(farm), found) == (["waiting"], [])
-    farm.tell("admin", "/boards/b1/health", {"health": "Good"})
-    with Passer(farm):
-        thread.join(300)
-    assert found == ["b1"]
-
-
 @pytest.mark.parametrize("path", ["/reservations", "/acquire", "/cancel"])
 def test_lost_answers_of_a_hold(path: str, farm: Farm, front: Front) -> None:
     """No board is left where answers are lost on the way to it, or on the way back."""
@@ -429,38 +344,6 @@ def test_lost_answers_of_a_hold(path: str, farm: Farm, front: Front) -> None:
     with Passer(farm), client_of(front.url).board("hdmi", every=0.1) as board:
         assert board.name == "b1"
     assert states(farm) == ["canceled"]
-
-
-def test_number_that_is_lost(farm: Farm, front: Front) -> None:
-    """A reservation whose number never came is canceled all the same."""
-    front.trouble("lost", path="/reservations")
-    with pytest.raises(fizgruk.Unreachable):
-        client_of(front.url, patience=0).board("hdmi").__enter__()
-    assert states(farm) == ["canceled"]
-
-
-def test_board_that_cant_be_given_back(farm: Farm, front: Front, monkeypatch: pytest.MonkeyPatch) -> None:
-    """It is told, with what to type."""
-    monkeypatch.setattr(holding, "GIVES_UP", 0.5)
-    with Passer(farm):
-        left = client_of(front.url).board("hdmi", every=0.1)
-        left.__enter__()
-    front.trouble(*["502"] * 100)
-    with pytest.raises(fizgruk.NotGivenBack, match="desk cancel-reservation 1$"):
-        left.__exit__(None, None, None)
-    assert states(farm) == ["acquired"]
-
-
-def test_reservation_that_ended(farm: Farm) -> None:
-    """A reservation that is canceled by another hand while it waits is told as ended."""
-    farm.tell("admin", "/boards/b1/health", {"health": "Bad"})
-    ann = client_of(farm.server)
-
-    def cancel(_: str) -> None:
-        ann.cancel_reservation(1)
-
-    with pytest.raises(fizgruk.ReservationEnded, match="^reservation 1 is canceled$"):
-        ann.board("hdmi", every=0.1, tell=cancel).__enter__()
 
 
 def test_desk_that_is_killed(farm: Farm) -> None:
@@ -627,31 +510,6 @@ def script_of(farm: Farm, folder: str, word: str) -> Script:
         process = subprocess.Popen(words, stdout=said, stderr=subprocess.DEVNULL, env=env)
     STARTED.append(process)
     return process, file
-
-
-def test_interrupt_while_it_waits(farm: Farm, folder: str) -> None:
-    """Ctrl-C while a board is waited for cancels the reservation."""
-    farm.tell("admin", "/boards/b1/health", {"health": "Maintenance"})
-    process, _ = script_of(farm, folder, "holds")
-    wait_until("it waits", lambda: bool(farm.look("/queue")["queue"]))
-    process.send_signal(signal.SIGINT)
-    assert process.wait(300) == -signal.SIGINT
-    assert states(farm) == ["canceled"]
-
-
-def test_interrupts_while_the_desk_is_away(farm: Farm, folder: str) -> None:
-    """Ctrl-C gives the board back, however often it comes, once the desk is there again."""
-    with Passer(farm):
-        process, file = script_of(farm, folder, "holds")
-        wait_until("its number", lambda: read(file).strip())
-        farm.kill()
-        for _ in range(20):
-            process.send_signal(signal.SIGINT)
-            time.sleep(0.05)
-        assert process.poll() is None
-        farm.start()
-        assert process.wait(300) == -signal.SIGINT
-    assert states(farm) == ["canceled"]
 
 
 def test_child_that_ends(farm: Farm, folder: str) -> None:

@@ -8,15 +8,14 @@ import signal
 import subprocess
 import sys
 import time
-from typing import Callable, Dict, Optional
+from typing import Callable, Dict
 
 import pytest
 
-from python_front import BOARDS, PATH, Passer, rows, states
+from python_front import PATH, Passer, rows, states
 from served import STARTED, TOOLS, TOP, Farm, environment, read, wait_until
 from wants import wants_modules
 
-MakeFarm = Callable[..., Farm]
 HOLDS = """\
 def demand_held(board, client):
     rows = [it for it in client.reservations() if it.number == board.reservation]
@@ -50,16 +49,6 @@ def test_one(board):
         time.sleep(300)
     except Exception:
         pass
-"""
-SPANS = """import os, time
-def note(word, board):
-    with open(os.environ["SPANS"], "a") as spans:
-        print(time.monotonic(), word, board.name, os.getpid(), file=spans, flush=True)
-def test_one(board):
-    note("takes", board)
-    time.sleep(0.5)
-def test_two(board):
-    note("leaves", board)
 """
 
 
@@ -102,12 +91,6 @@ class Session:
 
 
 Start = Callable[..., Session]
-
-
-@pytest.fixture
-def farm(make_farm: MakeFarm) -> Farm:
-    """A farm of three boards, of which b1 alone has hdmi."""
-    return make_farm(BOARDS)
 
 
 @pytest.fixture
@@ -190,26 +173,6 @@ def test_signal_while_it_waits(number: signal.Signals, farm: Farm, start: Start)
     assert states(farm) == ["canceled"]
 
 
-def test_desk_that_is_killed(farm: Farm, start: Start) -> None:
-    """A session gives its board back to a desk that was killed while it held it."""
-    text = PASSES.replace("def test_two(board, farm_client):\n", """\
-def test_two(board, farm_client):
-    import os, time
-    print("holds", file=open("holds", "w"))
-    while not os.path.exists("goes on"):
-        time.sleep(0.05)
-""")
-    with Passer(farm):
-        session = start(text, "--farm", "hdmi")
-        session.holds()
-        farm.kill()
-        farm.start()
-        with open(os.path.join(session.folder, "goes on"), "wb"):
-            pass
-        session.ends(0, "2 passed")
-    assert states(farm) == ["canceled"]
-
-
 def test_signals_while_the_desk_is_away(farm: Farm, start: Start) -> None:
     """It goes on until its board is given back, whatever signals come."""
     with Passer(farm):
@@ -274,23 +237,6 @@ def test_board_that_is_lost_at_the_end(farm: Farm, start: Start) -> None:
         session.holds()
         farm.tell("admin", "/reservations/1/cancel")
         session.ends(1, "board b1 is lost: reservation 1 is canceled\n")
-
-
-@pytest.mark.slow(8)
-def test_sessions_at_once(farm: Farm, start: Start, folder: str) -> None:
-    """Six sessions at once share two boards, and never one at a time."""
-    spans = os.path.join(folder, "spans")
-    with Passer(farm):
-        for it in [start(SPANS, "--farm", "serial", SPANS=spans) for _ in range(6)]:
-            it.ends(0, "2 passed")
-    holder: Dict[str, Optional[str]] = {}
-    lines = sorted((line.split() for line in read(spans).splitlines()), key=lambda it: float(it[0]))
-    for _, word, board, process in lines:
-        assert holder.get(board) == (None if word == "takes" else process), lines
-        holder[board] = process if word == "takes" else None
-    assert len({it[3] for it in lines}) == 6
-    assert set(holder) == {"b1", "b2"}
-    assert states(farm) == ["canceled"] * 6
 
 
 def test_shell_example(farm: Farm, folder: str) -> None:

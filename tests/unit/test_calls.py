@@ -153,9 +153,12 @@ def test_a_call_without_a_key_is_sent_once(line: Line) -> None:
     assert line.slept == []
 
 
-def test_patience_ends(line: Line) -> None:
-    line.answers = [ConnectionResetError("reset")] * 100
-    with pytest.raises(Unreachable, match=f"^{SERVER}: reset$"):
+@pytest.mark.parametrize("answer, told", [
+    (ConnectionResetError("reset"), "reset"), (Answer(502, b"<html>", reason="Bad Gateway"), "502 Bad Gateway"),
+])
+def test_patience_ends(line: Line, answer: Any, told: str) -> None:
+    line.answers = [answer] * 100
+    with pytest.raises(Unreachable, match=f"^{SERVER}: {told}$"):
         desk_of(patience=20).look("/boards")
     assert line.slept == pytest.approx([0.2, 0.4, 0.8, 1.6, 3.2, 5, 5])
 
@@ -316,11 +319,6 @@ def test_a_log_that_isnt_served_is_told_from_a_history_that_isnt() -> None:
     past = history.Past(Served(**{"7": Refused(404, 0, "Not Found")}))
     with pytest.raises(NoLog):
         list(past.log(7, 0))
-
-
-def test_the_newest_lines_are_those_that_are_served() -> None:
-    past = history.Past(Served(history_json={"jobs": [{"job": 3}], "boards": []}))
-    assert past.newest() == [{"job": 3}]
 
 
 @pytest.mark.parametrize("healths", [0, 5000])

@@ -8,7 +8,7 @@ from typing import Any, Dict, List, cast
 import pytest
 from fake_desk import FakeDesk
 from farm_dispatch import main as dispatch
-from fizgruk import calls, clocks
+from fizgruk import calls, limits
 from fizgruk.desk.waiting import FarmClock
 from fizgruk.errors import Unreachable
 
@@ -102,7 +102,7 @@ def test_a_new_farm_had_no_pass_yet(desk: Desk) -> None:
     (3 * 86400, "the farm's clock is 3 days ahead of this machine's: so"), (-86400, ""),
 ])
 def test_a_clock_that_is_ahead(desk: Desk, seconds: int, told: str) -> None:
-    assert clocks.ahead({"clock": desk.now + seconds}, "so") == told
+    assert limits.clock_ahead({"clock": desk.now + seconds}, "so") == told
 
 
 def test_it_looks_every_five_seconds(desk: Desk) -> None:

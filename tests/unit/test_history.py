@@ -7,7 +7,7 @@ from typing import Any, Dict, List, Optional
 
 import pytest
 from fizgruk import history
-from fizgruk.desk import past_jobs, views
+from fizgruk.desk import past_jobs
 
 NOW = 1_800_000_000
 HOUR = 3600
@@ -22,83 +22,62 @@ def hold(owner: str, began: int, ended: int, board: str = "b1") -> Dict[str, Any
     return {"kind": "hold", "owner": owner, "board": board, "type": "bbb", "began": began, "ended": ended}
 
 
-def used(
-    monkeypatch: pytest.MonkeyPatch, rows: List[Dict[str, Any]], by: str = "owner", since: int = 0,
-    holds: Optional[List[Dict[str, Any]]] = None,
-) -> List[Any]:
+def used(rows: List[Dict[str, Any]], by: str = "owner", since: int = 0) -> List[Any]:
     """The rows of the usage since a moment."""
-    shown: List[List[Any]] = []
-
-    class Past:
-        @staticmethod
-        def rows() -> List[Dict[str, Any]]:
-            return rows
-
-        @staticmethod
-        def holds() -> Optional[List[Dict[str, Any]]]:
-            return holds
-
-    monkeypatch.setattr(history, "past_of", lambda desk: Past)
-    monkeypatch.setattr(views, "show", lambda options, said, found, columns: shown.append(found))
-    past_jobs.show_usage(None, argparse.Namespace(by=by, since=since))  # type: ignore[arg-type]
-    return shown[0]
+    return history.uses_of(rows, since, by)
 
 
-def test_hours_count_each_board_from_the_moment_on(monkeypatch: pytest.MonkeyPatch) -> None:
+def test_hours_count_each_board_from_the_moment_on() -> None:
     rows = [
         job("ann", 0, 10 * HOUR, boards=["b1", "b2"]),  # six hours of it, on two boards
         job("bob", 5 * HOUR, 9 * HOUR, outcome="Infra"),
         job("cat", 0, 4 * HOUR - 1),  # ended before
         {"kind": "health", "board": "b1"},
     ]
-    found = used(monkeypatch, rows, since=4 * HOUR)
+    found = used(rows, since=4 * HOUR)
     assert [(it["name"], it["hours"], it["jobs"], it["complete"], it["infra"]) for it in found] == [
         ("ann", 12.0, 1, 1, 0), ("bob", 4.0, 1, 0, 1),
     ]
 
 
-def test_a_job_counts_once_for_each_of_its_boards(monkeypatch: pytest.MonkeyPatch) -> None:
+def test_a_job_counts_once_for_each_of_its_boards() -> None:
     rows = [job("ann", 0, HOUR, boards=["b1", "b2"]), job("bob", 0, HOUR, boards=["b2"])]
-    found = used(monkeypatch, rows, by="board")
+    found = used(rows, by="board")
     assert [(it["name"], it["hours"], it["jobs"]) for it in found] == [("b2", 2.0, 2), ("b1", 1.0, 1)]
 
 
-def test_holds_of_people_count_beside_jobs_from_the_moment_on(
-    monkeypatch: pytest.MonkeyPatch, capsys: pytest.CaptureFixture[str]
-) -> None:
+def test_holds_of_people_count_beside_jobs_from_the_moment_on() -> None:
     jobs = [job("ann", 5 * HOUR, 6 * HOUR)]
     holds = [
         hold("bob", 0, 7 * HOUR), hold("bob", 8 * HOUR, 9 * HOUR, "b2"), hold("ann", 5 * HOUR, 6 * HOUR),
         hold("cat", 0, 4 * HOUR - 1), hold("bob", 9 * HOUR, 8 * HOUR),
     ]
-    found = used(monkeypatch, jobs, since=4 * HOUR, holds=holds)
+    found = used(jobs + holds, since=4 * HOUR)
     assert [(it["name"], it["jobs"], it["hours"], it["holds"], it["held"]) for it in found] == [
         ("bob", 0, 0.0, 3, 4.0), ("ann", 1, 1.0, 1, 1.0),
     ]
-    boards = used(monkeypatch, jobs, by="board", since=4 * HOUR, holds=holds)
+    boards = used(jobs + holds, by="board", since=4 * HOUR)
     assert [(it["name"], it["holds"], it["held"]) for it in boards] == [("b1", 3, 4.0), ("b2", 1, 1.0)]
-    assert [it["holds"] for it in used(monkeypatch, jobs, by="type", holds=holds)] == [5]
-    assert capsys.readouterr().err == ""
-    assert [it["holds"] for it in used(monkeypatch, jobs)] == [0]
-    assert capsys.readouterr().err == "desk: holds of people aren't counted: farm-watch keeps none here\n"
+    assert [it["holds"] for it in used(jobs + holds, by="type")] == [5]
+    assert [it["holds"] for it in used(jobs)] == [0]
 
 
-def test_types_are_summed_and_equals_stand_by_name(monkeypatch: pytest.MonkeyPatch) -> None:
+def test_types_are_summed_and_equals_stand_by_name() -> None:
     rows = [job("ann", 0, HOUR, type=it) for it in ("c", "b", "a", "c")]
-    found = used(monkeypatch, rows, by="type")
+    found = used(rows, by="type")
     assert [(it["name"], it["hours"]) for it in found] == [("c", 2.0), ("a", 1.0), ("b", 1.0)]
 
 
-def test_a_clock_that_was_set_back_makes_nothing_below_0(monkeypatch: pytest.MonkeyPatch) -> None:
-    (found,) = used(monkeypatch, [job("ann", 100, 50, submitted=200)])
+def test_a_clock_that_was_set_back_makes_nothing_below_0() -> None:
+    (found,) = used([job("ann", 100, 50, submitted=200)])
     assert (found["hours"], found["waited_median"]) == (0.0, 0)
 
 
-def test_who_was_submitted_nobody_knows_when_counts_in_no_wait(monkeypatch: pytest.MonkeyPatch) -> None:
+def test_who_was_submitted_nobody_knows_when_counts_in_no_wait() -> None:
     rows = [job("ann", 100, 200, submitted=it) for it in (None, 70, 90)]
-    (found,) = used(monkeypatch, rows)
+    (found,) = used(rows)
     assert (found["jobs"], found["waited_median"], found["waited_ninth"]) == (3, 10, 30)
-    (found,) = used(monkeypatch, rows[:1])
+    (found,) = used(rows[:1])
     assert (found["waited_median"], past_jobs.waited(found["waited_median"])) == (None, "-")
 
 

@@ -10,6 +10,7 @@ from fake_desk import FakeDesk
 from fizgruk import holding
 from fizgruk.desk import holding as desk_holding
 from fizgruk.errors import Code, NotGivenBack, Refused, ReservationEnded, Unreachable
+from hand_clock import NOW, Clock
 
 AWAY, NO, FAULT = Unreachable("away"), Refused(401, 0, "no"), Refused(503, Code.STORE_FAULT, "store fault")
 EXPIRED, OVER, NONE = (
@@ -18,24 +19,21 @@ EXPIRED, OVER, NONE = (
 CANCEL = "/reservations/7/cancel"
 
 
-class Clock:
+class Slept(Clock):
     """A clock that goes on by what is slept alone."""
 
     def __init__(self) -> None:
-        self.now = 0.0
+        super().__init__()
         self.slept: List[float] = []
-
-    def monotonic(self) -> float:
-        return self.now
 
     def sleep(self, seconds: float) -> None:
         self.slept.append(seconds)
-        self.now += seconds
+        self.at += seconds
 
 
 @pytest.fixture(autouse=True)
-def clock(monkeypatch: pytest.MonkeyPatch) -> Clock:
-    made = Clock()
+def clock(monkeypatch: pytest.MonkeyPatch) -> Slept:
+    made = Slept()
     monkeypatch.setattr(holding, "time", made)
     return made
 
@@ -56,7 +54,7 @@ def hold_of(desk: Any) -> holding.Hold:
 # ---- a reservation
 
 
-def test_it_is_given_back_under_one_key_once_the_desk_answers(clock: Clock) -> None:
+def test_it_is_given_back_under_one_key_once_the_desk_answers(clock: Slept) -> None:
     desk = FakeDesk(*[AWAY] * 5)
     assert desk_holding.is_given_back(reservation_of(desk))
     assert [path for path, _ in desk.told] == [CANCEL] * 6 and len({key for _, key in desk.told}) == 1
@@ -69,13 +67,13 @@ def test_it_is_given_back_under_one_key_once_the_desk_answers(clock: Clock) -> N
     (EXPIRED, "", 0), (OVER, "", 0), (NONE, "", 0),
 ])
 def test_what_is_left_is_told_and_what_ended_isnt(
-    capsys: pytest.CaptureFixture[str], clock: Clock, fault: Exception, told: str, seconds: float
+    capsys: pytest.CaptureFixture[str], clock: Slept, fault: Exception, told: str, seconds: float
 ) -> None:
     """It is tried for a minute, but not where the desk refuses."""
     desk = FakeDesk(*[fault] * 1000)
     assert desk_holding.is_given_back(reservation_of(desk)) is (told == "")
     assert capsys.readouterr().err == told
-    assert clock.now == pytest.approx(seconds, abs=1) and len({key for _, key in desk.told}) == 1
+    assert clock.at - NOW == pytest.approx(seconds, abs=1) and len({key for _, key in desk.told}) == 1
 
 
 def test_one_that_ended_is_lost_where_it_had_a_board() -> None:
@@ -129,7 +127,7 @@ def test_a_board_that_comes_too_late_is_given_back(
     assert [path for path, _ in desk.told][2:] == [CANCEL] and not holding.OPEN
 
 
-def test_it_is_given_back_again_and_again_and_ctrl_c_comes_out_at_the_end(clock: Clock) -> None:
+def test_it_is_given_back_again_and_again_and_ctrl_c_comes_out_at_the_end(clock: Slept) -> None:
     desk: Any = FakeDesk(AWAY, AWAY, KeyboardInterrupt(), AWAY)  # type: ignore[arg-type]
     troubles: List[str] = []
     desk.tell_trouble = troubles.append

@@ -1,4 +1,4 @@
-"""Which rule a job file breaks; test_client_told.py has what the desk itself refuses."""
+"""Which rule a job file breaks, beside those of test_client_told.py, which the desk itself refuses."""
 from __future__ import annotations
 
 import pytest
@@ -27,31 +27,20 @@ def test_a_job_file(text: str) -> None:
 
 @pytest.mark.parametrize("text, why", [
     (f"{ONE}{'#' * (65537 - len(ONE))}", "it has more than 65,536 bytes"),
-    (KIND, "there is no job_name, or it is empty"),
     (f"job_name = ''\n{KIND}", "there is no job_name, or it is empty"),
     (f"job_name = 3\n{KIND}", "job_name isn't a text"),
-    (HEAD, "it has neither device_type nor roles"),
     (f"{ONE}priority = -1\n", f"priority -1 {MIDDLE}"),
-    (f"{ONE}priority = 101\n", f"priority 101 {MIDDLE}"),
     (f"{ONE}priority = 1.0\n", f"priority 1.0 {MIDDLE}"),
     (f"{ONE}priority = 'LOW'\n", f"priority 'LOW' {MIDDLE}"),
     (f"{ONE}priority = true\n", "priority is neither a whole number nor a text"),
-    (f"{ONE}[roles.a]\n{KIND}count = 1\n", "it has both device_type and roles"),
-    (f"{HEAD}tags = []\n[roles.a]\n{KIND}count = 1\n", "tags stand beside roles, and belong into each role"),
     (f"{HEAD}roles = 3\n", "roles isn't a table"),
     (f"{HEAD}roles.a = 3\n", "role a: it isn't a table"),
     (f"{HEAD}[roles.'a b']\n{KIND}count = 1\n", "role a b: the role's name 'a b' isn't a name"),
-    (f"{HEAD}[roles.a]\ncount = 1\n", "role a: there is no device_type"),
-    (ROLE, "role a: there is no count"),
     (f"{ROLE}count = 0\n", "role a: count is 0, and is 1 to 4"),
-    (f"{ROLE}count = 5\n", "role a: count is 5, and is 1 to 4"),
     (f"{ROLE}count = 1.0\n", "role a: count isn't a whole number"),
     (f"{ROLE}count = 1\ntags = 'x'\n", "role a: tags isn't an array of texts"),
-    (f"{ROLE}count = 3\n[roles.b]\n{KIND}count = 2\n", "its roles want 5 boards, and 1 to 4 are given"),
-    (f"{HEAD}[roles]\n", "its roles want 0 boards, and 1 to 4 are given"),
     # the roles in the order of their names, whatever the order of the file
     (f"{HEAD}[roles.b]\n{KIND}\n[roles.a]\n{KIND}", "role a: there is no count"),
-    ("job_name = ", "no TOML: "),
 ])
 def test_the_rule_that_a_file_breaks(text: str, why: str) -> None:
     fault = job_file.fault_of(text.encode())

@@ -5,7 +5,7 @@ import pathlib
 
 import pytest
 from fizgruk import submissions
-from fizgruk.submissions import Look, Submissions
+from fizgruk.submissions import NumberLook, Submissions
 
 NOW = 1_800_000_000
 
@@ -89,7 +89,7 @@ def test_an_earlier_copy_of_the_farm_gives_numbers_again(place: str, clock: Cloc
 def test_a_line_that_is_none_is_passed_over(place: str, clock: Clock) -> None:
     text = "5 100 0\nfive 100 0\n7 110 100\n6 120 110\n8 130\n9 -1 0\n10 130 120 1\n11 140 130\n12 150 14"
     pathlib.Path(place, "numbers").write_text(text)
-    assert Submissions(place).looks == [Look(5, 100, 0), Look(7, 110, 100), Look(11, 140, 130)]
+    assert Submissions(place).looks == [NumberLook(5, 100, 0), NumberLook(7, 110, 100), NumberLook(11, 140, 130)]
 
 
 def test_a_file_that_cant_be_written_is_done_without(tmp_path: pathlib.Path, clock: Clock) -> None:

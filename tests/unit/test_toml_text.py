@@ -1,4 +1,4 @@
-"""The readers of TOML: the small one beside Python's own, what 1.1 has beyond 1.0, and lines by their keys."""
+"""The reader of TOML: beside Python's own, what 1.1 has beyond 1.0, and lines by their keys."""
 from __future__ import annotations
 
 import os
@@ -8,7 +8,6 @@ from typing import Any, Callable, Dict, List, Optional, Union
 
 import pytest
 from fizgruk import toml_text
-from fizgruk._tools import lab_text
 from served import TOP
 
 EXAMPLES = [os.path.join(TOP, "examples", f"{it}.toml") for it in ("lab", "boot", "multinode")]
@@ -70,7 +69,7 @@ NEWER: List[Any] = [
     ("a=2026-02-30T10:30Z", None),
     ("a=24:00", None),
     ('a="\\ud800"', None),
-    # no table is opened again, by none of the readers
+    # no table is opened again
     ("[a.b]\nx=1\n[a]\nb.c=2\n", None),
     ("[a]\nb.c=1\n[a.b]\n", None),
     ("a=1\na=2", None),
@@ -86,7 +85,7 @@ def read(reader: Callable[[str], Dict[str, Any]], text: str) -> Union[Dict[str, 
 
 @pytest.mark.skipif(sys.version_info < (3, 11), reason="this Python has no reader of TOML")
 @pytest.mark.parametrize("text", TEXTS)
-def test_the_small_reader_reads_as_pythons_own_does(text: str) -> None:
+def test_it_reads_as_pythons_own_reader_does(text: str) -> None:
     import tomllib
 
     assert read(toml_text.loads, text) == read(tomllib.loads, text)
@@ -94,7 +93,7 @@ def test_the_small_reader_reads_as_pythons_own_does(text: str) -> None:
 
 @pytest.mark.skipif(sys.version_info < (3, 11), reason="this Python has no reader of TOML")
 @pytest.mark.parametrize("file", EXAMPLES)
-def test_the_small_reader_reads_the_examples_as_pythons_own_does(file: str) -> None:
+def test_it_reads_the_examples_as_pythons_own_reader_does(file: str) -> None:
     import tomllib
 
     with open(file, encoding="utf-8") as opened:
@@ -112,17 +111,16 @@ def test_what_is_newer_than_pythons_own_reader(text: str, wanted: Optional[Dict[
         assert found == wanted
 
 
-# Reads the text at its input by each reader, in as much memory as such a text may take.
+# Reads the text at its input, in as much memory as such a text may take.
 READS = """
 import resource, sys
 from fizgruk import toml_text
 text = sys.stdin.read()
 resource.setrlimit(resource.RLIMIT_AS, (300_000_000, 300_000_000))
-for read in (toml_text.tree_of, toml_text.loads):
-    try:
-        print("read", len(read(text)))
-    except (ValueError, toml_text.NotToml) as fault:
-        print(fault)
+try:
+    print("read", len(toml_text.tree_of(text)))
+except toml_text.NotToml as fault:
+    print(fault)
 """
 
 
@@ -135,13 +133,13 @@ def test_a_key_of_more_parts_than_the_desk_takes_is_refused_at_once(form: str) -
         env={**os.environ, "PYTHONPATH": os.path.join(TOP, "python/src")},
     )
     fault = f"a key has more than 80 parts (at line {1 + text.count(chr(10))})"
-    assert (ran.returncode, ran.stdout[:300]) == (0, f"no TOML: {fault}\n{fault}\n")
+    assert (ran.returncode, ran.stdout[:300]) == (0, f"no TOML: {fault}\n")
 
 
-@pytest.mark.parametrize("reader", [toml_text.loads, toml_text.tree_of])
-def test_a_line_of_many_dots_is_read(reader: Callable[[str], Dict[str, Any]]) -> None:
-    assert reader(f"x = '{'.' * 1000}' # {'.' * 1000}\n{'a.' * 2}a = 1") == {"x": "." * 1000, "a": {"a": {"a": 1}}}
-    assert list(reader("a." * 79 + "a = 1")) == ["a"]
+def test_a_line_of_many_dots_is_read() -> None:
+    text = f"x = '{'.' * 1000}' # {'.' * 1000}\n{'a.' * 2}a = 1"
+    assert toml_text.tree_of(text) == {"x": "." * 1000, "a": {"a": {"a": 1}}}
+    assert list(toml_text.tree_of("a." * 79 + "a = 1")) == ["a"]
 
 
 def test_what_stands_deep_is_found_by_what_is_above() -> None:
@@ -151,7 +149,7 @@ def test_what_stands_deep_is_found_by_what_is_above() -> None:
 
 
 @pytest.mark.parametrize("text, line", [("a=1\nb==2\n", 2), ("\n\n[a\n", 3), ("a=1\n[b]\nc=1\nc=2", 4)])
-def test_the_small_reader_names_the_line_of_a_fault(text: str, line: int) -> None:
+def test_it_names_the_line_of_a_fault(text: str, line: int) -> None:
     with pytest.raises(ValueError, match=rf"\(at line {line}\)$"):
         toml_text.loads(text)
 
@@ -160,15 +158,6 @@ def test_the_small_reader_names_the_line_of_a_fault(text: str, line: int) -> Non
 def test_what_stands_in_a_file_is_found_by_its_line(path: str, line: int) -> None:
     text = "x = 1\n[a.b]\nc = [\n1,\n]\n[a]\nd.e = 3\n\nf = '''\n\n'''\n"
     assert toml_text.line_of(text, path.split(".")) == line
-
-
-def test_a_lab_file_is_read_without_pythons_own_reader(monkeypatch: pytest.MonkeyPatch) -> None:
-    with open(EXAMPLES[0], encoding="utf-8") as file:
-        text = file.read()
-    wanted = lab_text.additions_of(text)
-    monkeypatch.setattr(toml_text, "READERS", [toml_text.loads])
-    assert lab_text.additions_of(text) == wanted
-    assert toml_text.line_of(text, ["types", "rpi4b"]) == 9
 
 
 @pytest.mark.parametrize("text, line", [("= no TOML", 1), ("[types]\n= no TOML\n", 2), ("a = [\n1,\n", 1)])

@@ -2,9 +2,10 @@
 from __future__ import annotations
 
 import time
-from typing import Any, Dict, List, Optional, Type, cast
+from typing import Any, Dict, List, Type, cast
 
 import pytest
+from fake_desk import FakeDesk
 from fizgruk import calls, waiting
 from fizgruk.desk import waiting as desk_waiting
 from fizgruk.errors import Refused, ReservationEnded, TimedOut, Unreachable
@@ -13,18 +14,17 @@ LEASE = 60  # seconds for which a reservation lives that isn't refreshed
 EXPIRED = Refused(409, 31, "expired")
 
 
-class Desk:
-    """A desk of one reservation, 7, which has its board after some seconds; `faults` come in place of answers."""
-
-    timeout = 30.0
-    tell_trouble = staticmethod(lambda trouble: None)
+class Desk(FakeDesk):
+    """A desk of one reservation, 7, which has its board after some seconds; `faults` come in place of answers to its
+    refreshes."""
 
     def __init__(self, monkeypatch: pytest.MonkeyPatch) -> None:
+        super().__init__(types=[], jobs={1: {"owner": "bob"}}, **{"workers.json": {}, "running.json": {}})
         self.now = 1000.0
         self.comes = 100.0  # after so many seconds
+        self.holder = "job 1"  # until then
         self.state = "waiting"
         self.queue: List[Dict[str, Any]] = []  # what waits besides
-        self.faults: List[Optional[Exception]] = []
         self.refreshes: List[float] = []
         monkeypatch.setattr(time, "time", lambda: self.now)
         monkeypatch.setattr(time, "monotonic", lambda: self.now)
@@ -33,30 +33,20 @@ class Desk:
     def sleep(self, seconds: float) -> None:
         self.now += seconds
 
-    def of_patience(self, _: float) -> "Desk":
-        return self
-
-    def fails(self) -> None:
-        fault = self.faults.pop(0) if self.faults else None
-        if fault:
-            raise fault
-
     def look(self, path: str) -> Dict[str, Any]:
         has_board = self.now >= 1000 + self.comes
-        holder = "reservation 7" if has_board else "job 1"
-        queue: List[Dict[str, Any]] = [] if has_board or self.state != "waiting" else [{"kind": "reservation", "number": 7}]
-        row = {"number": 7, "state": self.state, "tags": [], "owner": "ann"}
-        board = {"name": "b1", "type": "bbb", "tags": [], "health": "Good", "holder": holder}
-        views: Dict[str, Dict[str, Any]] = {
-            "/status": {"clock": int(self.now), "count": int(self.now)}, "/queue": {"queue": queue + self.queue},
-            "/boards": {"boards": [board]}, "/reservations": {"reservations": [row]}, "/jobs/1": {"owner": "bob"},
-            "/types": {"types": []}, "/workers.json": {}, "/running.json": {},
-        }
-        return views[path]
+        own = [{"kind": "reservation", "number": 7}] if not has_board and self.state == "waiting" else []
+        holder = "reservation 7" if has_board else self.holder
+        self.views.update(
+            status={"clock": int(self.now), "count": int(self.now)}, queue=own + self.queue,
+            boards=[{"name": "b1", "type": "bbb", "tags": [], "health": "Good", "holder": holder}],
+            reservations=[{"number": 7, "state": self.state, "tags": [], "owner": "ann"}],
+        )
+        return super().look(path)
 
-    def nudge(self, path: str) -> Dict[str, Any]:
+    def nudge(self, path: str) -> Dict[str, Any]:  # type: ignore[override]
         assert path == "/reservations/7/refresh"
-        self.fails()
+        super().nudge(path)
         self.refreshes.append(self.now - 1000)
         return {"number": 7}
 
@@ -77,6 +67,14 @@ def test_a_reservation_that_waits_is_refreshed_long_before_its_lease_ends(desk: 
     moments = [0.0, *desk.refreshes, desk.now - 1000]
     assert max(later - former for former, later in zip(moments, moments[1:])) <= LEASE * 2 / 3
     assert len(desk.refreshes) <= 5, "each refresh moves the desk's clock for all"
+
+
+def test_while_a_free_board_fits_it_is_told_that_no_pass_comes(desk: Desk, capsys: pytest.CaptureFixture[str]) -> None:
+    """Also though others move the desk's clock."""
+    for desk.holder, count in (("job 1", 0), ("none", 1)):
+        desk.now = 1000.0
+        assert wait(desk)["name"] == "b1"
+        assert capsys.readouterr().err.count("desk: no pass for 36 seconds: is farm-dispatch running?\n") == count
 
 
 def test_a_board_that_comes_between_two_views_is_its_own(

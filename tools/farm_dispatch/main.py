@@ -14,7 +14,6 @@ from fizgruk import calls, limits
 from fizgruk._tools import asking, disk, parsers, service
 from fizgruk._tools.service import FAULT, Teller
 from fizgruk.artifacts import MOST_FILES
-from fizgruk.clocks import NO_END, ahead
 from fizgruk.errors import BadSettings
 
 MINUTE, HOUR = 60, 3600
@@ -117,7 +116,7 @@ class Clocks:
         something."""
         if time.monotonic() < self.due:
             return ""
-        found = ahead(self.desk.look("/status"), NO_END)
+        found = limits.clock_ahead(self.desk.look("/status"), limits.NO_END)
         self.due = time.monotonic() + (HOUR if found else MINUTE)
         return found
 

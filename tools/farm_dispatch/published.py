@@ -16,10 +16,9 @@ from typing import Any, Callable, Dict, List, Optional, Set, Tuple
 from farm_dispatch.record import LOGS, Record
 from fizgruk import artifacts, calls, job_file, notes, records
 from fizgruk._tools import disk
-from fizgruk.bounds import MOST_WANTS
 from fizgruk.errors import Unreachable
 from fizgruk.submissions import Submissions
-from fizgruk.words import BadFile
+from fizgruk.words import MOST_WANTS, BadFile
 
 LONGEST_NAME = 200
 NAMES = re.compile(r"(new-|old-)?([0-9]+)(?:-[0-9a-f]+|(\.new))?")  # of logs, and of artifacts

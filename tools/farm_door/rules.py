@@ -6,8 +6,7 @@ from typing import Any, Callable, Dict, FrozenSet, Iterable, List, NamedTuple, T
 
 from fizgruk import job_file, toml_text
 from fizgruk._tools import disk
-from fizgruk.bounds import HIGHEST_PRIORITY, MOST_WANTS
-from fizgruk.words import NAMES, BadFile
+from fizgruk.words import HIGHEST_PRIORITY, MOST_WANTS, NAMES, BadFile
 
 LONGEST = 1_048_576
 # Each limit, and the most that it can be.

@@ -3,7 +3,7 @@ import argparse
 from typing import Dict, Optional, Sequence
 
 from farm_import import lab_file, next_lab, stopped, turn
-from fizgruk import calls, clocks, toml_text
+from fizgruk import calls, limits, toml_text
 from fizgruk._tools import asking, lab_text, parsers, service
 from fizgruk._tools.service import FAULT, Teller
 from fizgruk.errors import Refused, Unreachable
@@ -144,7 +144,7 @@ def lab_of(desk: calls.Desk, own_file: Optional[str]) -> lab_file.LabFile:
 
 def warn_of_clock(desk: calls.Looker) -> None:
     """Says where the farm's clock is ahead of this machine's: a farm's clock never falls back."""
-    ahead = clocks.ahead(desk.look("/status"), "begin the next farm")
+    ahead = limits.clock_ahead(desk.look("/status"), "begin the next farm")
     if ahead:
         tell(ahead)
 

@@ -8,7 +8,7 @@ from farm_import import lab_file
 from farm_import.lab_file import LabFile, Unreadable, basic
 from fizgruk import job_file, limits
 from fizgruk._tools import parsers
-from fizgruk.bounds import HIGHEST_PRIORITY, LONGEST_JOB_FILE, MOST_WANTS, NAME
+from fizgruk.words import HIGHEST_PRIORITY, LONGEST_JOB_FILE, MOST_WANTS, NAME
 
 PROGRAM = "farm-from-lava"
 ABOUT = """\

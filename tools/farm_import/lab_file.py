@@ -7,7 +7,7 @@ import sys
 from typing import Any, Callable, Dict, Iterable, List, Optional, TextIO, Tuple, Union
 
 from fizgruk._tools import disk, lab_text, parsers, service
-from fizgruk.bounds import MOST_TAGS, NAME, TAG_KEY, TAG_VALUE
+from fizgruk.words import MOST_TAGS, NAME, TAG_KEY, TAG_VALUE
 
 CARRIED, NOT_CARRIED = 0, 1
 LEFT_OUT = "The lab file is written, and standard error says what was left out, a line each."

@@ -6,8 +6,7 @@ from typing import Any, Dict, List, NamedTuple, Tuple
 from farm_import import lab_file
 from fizgruk import calls, toml_text
 from fizgruk._tools import lab_text, tables
-from fizgruk.bounds import HEALTHS, LONGEST_LAB_FILE
-from fizgruk.words import BadFile
+from fizgruk.words import HEALTHS, LONGEST_LAB_FILE, BadFile
 
 FIRST_HEALTH = "Maintenance"  # that a farm gives a new board
 # What a desk shows of a type and of a board: what the next farm is given, and what is of the farm that is there.

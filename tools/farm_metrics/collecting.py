@@ -11,8 +11,8 @@ from prometheus_client.registry import Collector
 
 from fizgruk import calls, present
 from fizgruk._tools import disk, passes, service
-from fizgruk.bounds import HEALTHS, MOST_BOARDS, MOST_JOBS, MOST_RESERVATIONS, MOST_TYPES
 from fizgruk.errors import Refused, Unreachable
+from fizgruk.words import HEALTHS, MOST_BOARDS, MOST_JOBS, MOST_RESERVATIONS, MOST_TYPES
 
 STATES = ("Idle", "Reserved", "Running")
 KINDS = ("group", "reservation")

@@ -20,9 +20,8 @@ from typing import Any, Callable, Dict, List, Optional, Sequence
 
 from farm_watch.rules import SENDMAIL, Mail, Rules, Webhook
 from farm_watch.store import Delivery, Event, Store, wait_after
-from fizgruk import job_file, limits
+from fizgruk import __version__, job_file, limits
 from fizgruk._tools import tables
-from fizgruk.version import VERSION
 
 LONGEST_TITLE = 60
 ENDED = tables.of("number", "result", "board", "type", "role")
@@ -253,7 +252,7 @@ async def _status_of(
         head = [
             f"POST {urllib.parse.urlunsplit(('', '', address.path or '/', address.query, ''))} HTTP/1.1",
             f"host: {address.netloc.rpartition('@')[2]}", "content-type: application/json", f"content-length: {len(body)}",
-            f"user-agent: farm-watch/{VERSION}", f"idempotency-key: {ident}", "connection: close", "", "",
+            f"user-agent: farm-watch/{__version__}", f"idempotency-key: {ident}", "connection: close", "", "",
         ]
         line.write("\r\n".join(head).encode("ascii") + body)
         await line.drain()

@@ -8,7 +8,7 @@
 import importlib
 from typing import TYPE_CHECKING
 
-from fizgruk.version import VERSION as __version__
+__version__ = "2.0"  # that of the Debian packages, in packaging/debian/changelog
 
 if TYPE_CHECKING:
     from fizgruk.artifacts import Artifact

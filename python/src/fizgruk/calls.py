@@ -15,9 +15,9 @@ import urllib.parse
 from typing import Any, Callable, Dict, Iterable, Iterator, List, NamedTuple, Optional, Protocol, Tuple, Type, Union
 
 from fizgruk import models, records
-from fizgruk.bounds import MOST_WANTS
 from fizgruk.errors import Code, Refused, Unreachable, sentence_of
 from fizgruk.settings import Settings, address_of
+from fizgruk.words import MOST_WANTS
 
 NOT_LET_IN, NOT_FOUND, TOO_LARGE, NOTHING_BEYOND, TOO_MANY = 401, 404, 413, 416, 429
 # Statuses after which nobody knows whether a command was done: those of a proxy that reached no

@@ -9,7 +9,7 @@ from typing import Callable, Dict, Iterator, List, Literal, Optional, Sequence, 
 from fizgruk import calls, history, job_file, models, notes, settings, waiting
 from fizgruk.artifacts import Artifact
 from fizgruk.calls import Body, Desk, Row, fresh_key, part
-from fizgruk.errors import BadJobFile, Code, FizgrukError, Refused
+from fizgruk.errors import Code, FizgrukError, Refused
 from fizgruk.history import Past
 from fizgruk.holding import Hold, Priority
 from fizgruk.waiting import Tell, Wait
@@ -133,13 +133,7 @@ class Client:
         """Submits the text of a job file. Gives the number of its group. A refusal says which rule
         the text breaks, and where."""
         sent = text.encode() if isinstance(text, str) else text
-        fault = job_file.limit_fault_of(sent)
-        if fault:
-            raise BadJobFile(fault)
-        try:
-            return self._number("/jobs", sent, key)
-        except Refused as refusal:
-            raise job_file.why_refused(self._desk, refusal, sent)
+        return int(job_file.submitted(self._desk, sent, key or fresh_key())["number"])
 
     def resubmit(self, number: int, *, key: Optional[str] = None) -> int:
         """Submits a job's text once more. Gives the number of the new group."""

@@ -1,6 +1,7 @@
 """A reservation from its asking to its end: a board that is reserved, waited for, acquired, and given back whatever
 happens, in a `with`; and a thread that looks at the hold meanwhile, and interrupts the block where its board is lost."""
 import atexit
+import contextlib
 import logging
 import os
 import signal
@@ -160,12 +161,10 @@ class HoldWatch:
     def text(self) -> str:
         """That the board is lost, and how, as far as the desk says it."""
         how = "has ended"
-        try:
+        with contextlib.suppress(FizgrukError):
             rows = calls.rows_of(self._desk, "reservations")
             states = [it["state"] for it in rows if it["number"] == self._number]
             how = f"is {states[0]}" if states else "is unknown"
-        except FizgrukError:
-            pass
         return f"board {self._board} is lost: reservation {self._number} {how}"
 
 

@@ -2,10 +2,9 @@
 from typing import Any, Dict, List, Optional
 
 from fizgruk import calls, limits, toml_text, wants, words
-from fizgruk.bounds import HIGHEST_PRIORITY, LONGEST_JOB_FILE, MOST_WANTS
-from fizgruk.errors import Code, Refused, Unreachable
+from fizgruk.errors import BadJobFile, Code, Refused, Unreachable
 from fizgruk.wants import Want
-from fizgruk.words import BadFile, at
+from fizgruk.words import HIGHEST_PRIORITY, LONGEST_JOB_FILE, MOST_WANTS, BadFile, at
 
 PRIORITIES = ("low", "medium", "high")
 # What the desk refuses for a rule that the file breaks.
@@ -50,6 +49,20 @@ def limit_fault_of(data: bytes) -> Optional[str]:
     except toml_text.NotToml:
         pass  # the desk refuses it
     return None
+
+
+def submitted(desk: calls.Desk, data: bytes, key: str) -> calls.Row:
+    """What the desk answers where it takes a job file. Raises BadJobFile where nothing is submitted, and a refusal with what
+    is known of why."""
+    fault = limit_fault_of(data)
+    if fault:
+        raise BadJobFile(fault)
+    try:
+        said = desk.tell("/jobs", data, key)
+    except Refused as refusal:
+        raise why_refused(desk, refusal, data)
+    calls.number_of(desk, said)
+    return said
 
 
 def wants_of(data: bytes) -> List[Want]:

@@ -1,9 +1,10 @@
-"""How long a job may run: `[timeouts] job` of its text, written as LAVA writes it, or the
-dispatcher's default, and never longer than the dispatcher's most."""
+"""Times and sizes, as they are written and told; how long a job may run: `[timeouts] job` of its text, written as LAVA
+writes it, or the dispatcher's default, and never longer than the dispatcher's most; and how far a farm's clock is ahead."""
 import dataclasses
 import re
 import reprlib
-from typing import List, Optional, Tuple
+import time
+from typing import Any, Dict, List, Optional, Tuple
 
 from fizgruk import toml_text
 
@@ -14,6 +15,8 @@ LONGEST = 1e9
 SIZES = {"kB": 1000, "MB": 1000**2, "GB": 1000**3, "TB": 1000**4}
 SIZE = re.compile(r"([0-9]+(?:\.[0-9]+)?) *(kB|MB|GB|TB)?")
 LARGEST = 10**15
+AHEAD = 60  # seconds by which a farm's clock is ahead that aren't told yet
+NO_END = "leases won't end until then"
 
 
 class BadTime(ValueError):
@@ -103,6 +106,15 @@ def words_of(seconds: float) -> str:
     if first is None:
         return f"{seconds:g} seconds"
     return " ".join(it for it in parts[first : first + 2] if it)
+
+
+def clock_ahead(status: Dict[str, Any], meaning: str) -> str:
+    """That a farm's clock, which each command moves and which never falls back, is by its status ahead of this machine's,
+    and what that means; nothing where it isn't by more than a minute."""
+    seconds = status["clock"] - time.time()
+    if seconds <= AHEAD:
+        return ""
+    return f"the farm's clock is {words_of(seconds)} ahead of this machine's: {meaning}"
 
 
 def limit_of(text: str, default: float, most: float) -> Limit:

@@ -16,7 +16,7 @@ Note = Dict[str, str]
 
 
 @dataclasses.dataclass(frozen=True)
-class Notes:
+class BoardNotes:
     """Each board's notes by their keys, and what is wrong with the lab's file, if something is: then
     these are what it said before."""
 
@@ -82,7 +82,7 @@ def _note_of(row: Dict[str, Any]) -> Note:
     return {key: row[key].strip() for key in KEYS if row.get(key, "").strip()}
 
 
-def told(said: object) -> Notes:
+def told(said: object) -> BoardNotes:
     """What notes.json says, as far as it is that."""
     said = said if isinstance(said, dict) else {}
     boards = said.get("boards")
@@ -91,9 +91,9 @@ def told(said: object) -> Notes:
         if isinstance(row, dict):
             note = {key: row[key][:LONGEST] for key in KEYS if isinstance(row.get(key), str)}
             found[str(name)] = note
-    return Notes(found, str(said.get("fault") or "")[:LONGEST])
+    return BoardNotes(found, str(said.get("fault") or "")[:LONGEST])
 
 
-def notes_of(desk: calls.Looker) -> Notes:
+def notes_of(desk: calls.Looker) -> BoardNotes:
     """The notes that the dispatcher shows; none where there are none."""
     return told(present.said_in(desk, FILE))

@@ -12,7 +12,7 @@ import os
 import re
 import stat
 import urllib.parse
-from typing import Any, Callable, Dict, List, Mapping, Optional, Sequence, Tuple
+from typing import Any, Callable, Dict, List, Mapping, NamedTuple, Optional, Sequence, Tuple
 
 from fizgruk.errors import BadSettings, sentence_of
 from fizgruk.words import NAMES, nearest
@@ -80,8 +80,12 @@ def values_of(given: Given, section: str, bad_words: BadWords) -> Dict[str, Opti
     (SECTION_SERVER), and files last. `bad_words` tells of a setting that there isn't."""
     words = SECTIONS[section]
     around = _environment_of(section, words, bad_words)
-    files = _files_read(given.get("config") or around.get("config"))
-    said = _said_in(files, section, words, bad_words)
+    parts = _parts_of_files(given.get("config") or around.get("config"))
+    for it in parts:
+        if it.name not in SECTIONS and it.lab is None:
+            known = [*(f"[{name}]" for name in SECTIONS), LAB_FORM]
+            bad_words(f"{it.file}: [{it.name}] is no section: {meant(f'[{it.name}]', known)}")
+    said = _said_in([it for it in parts if it.name == section], words, bad_words)
     if section == "desk":
         if given.get("lab") and given.get("server"):
             bad_words("a lab and a server don't go together: a lab has its own")
@@ -89,43 +93,28 @@ def values_of(given: Given, section: str, bad_words: BadWords) -> Dict[str, Opti
         if lab:
             if given.get("lab"):
                 around = {}  # what it names may be another lab's
-            said = {**_of_lab(files, lab, bad_words), "lab": lab}
+            said = {**_of_lab(parts, lab, bad_words), "lab": lab}
     return {word: given.get(word) or around.get(word) or said.get(word) for word in words}
 
 
 def labs_of(given: Given) -> List[str]:
     """The labs that the files of settings have a section for, in their order."""
     around = _environment_of("desk", SECTIONS["desk"], refuse)
-    files = _files_read(given.get("config") or around.get("config"))
-    return list(dict.fromkeys(lab for lab, *_ in _labs_in(files)))
+    parts = _parts_of_files(given.get("config") or around.get("config"))
+    return list(dict.fromkeys(it.lab for it in parts if it.lab is not None))
 
 
-def _of_lab(files: "Files", lab: str, bad_words: BadWords) -> Dict[str, str]:
-    """What the section of a lab says."""
-    sections = _labs_in(files)
-    known = [it[0] for it in sections]
-    if lab not in known:
+def _of_lab(parts: "List[Part]", lab: str, bad_words: BadWords) -> Dict[str, str]:
+    """What the sections of a lab say."""
+    own = [it for it in parts if it.lab == lab]
+    if not own:
+        known = [it.lab for it in parts if it.lab is not None]
         which = meant(lab, known) if known else f"there is no section {LAB_FORM}"
         raise BadSettings(f"the settings have no lab {lab}: {which}")
-    found: Dict[str, str] = {}
-    for known_lab, file, read, name in sections:
-        if known_lab == lab:
-            found.update(_words_of(file, read, name, OF_LAB, bad_words))
+    found = _said_in(own, OF_LAB, bad_words)
     if "server" not in found:
         raise BadSettings(f"[lab {lab}] has no server")
     return found
-
-
-def _lab_in(name: str) -> Optional[str]:
-    """The lab that a section is of, if one."""
-    match = LAB.fullmatch(name)
-    return match[1] if match and NAMES.fullmatch(match[1]) else None
-
-
-def _labs_in(files: "Files") -> List[Tuple[str, str, configparser.ConfigParser, str]]:
-    """The labs' sections: of which lab each is, and where it stands."""
-    found = ((_lab_in(name), file, read, name) for file, read in files for name in read.sections())
-    return [(lab, file, read, name) for lab, file, read, name in found if lab is not None]
 
 
 def _environment_of(section: str, words: Sequence[str], bad_words: BadWords) -> Dict[str, str]:
@@ -141,15 +130,20 @@ def _environment_of(section: str, words: Sequence[str], bad_words: BadWords) -> 
     return found
 
 
-Files = List[Tuple[str, configparser.ConfigParser]]
+class Part(NamedTuple):
+    """A section of a file of settings, and which lab's it is, if one's."""
+
+    file: str
+    name: str
+    lab: Optional[str]
+    said: Dict[str, str]
 
 
-def _files_read(named: Optional[str]) -> Files:
-    """The named file, or the system's and the user's, of which the later goes first."""
+def _parts_of_files(named: Optional[str]) -> List[Part]:
+    """The sections of the named file, or of the system's and the user's, of which the later goes first."""
     own = os.environ.get("XDG_CONFIG_HOME") or os.path.expanduser("~/.config")
-    files = [named] if named else [SYSTEM_FILE, os.path.join(own, "farm", "desk.ini")]
-    found: Files = []
-    for file in files:
+    found: List[Part] = []
+    for file in [named] if named else [SYSTEM_FILE, os.path.join(own, "farm", "desk.ini")]:
         read = configparser.ConfigParser(interpolation=None)
         try:
             done = read.read(file, encoding="utf-8")
@@ -157,31 +151,20 @@ def _files_read(named: Optional[str]) -> Files:
             raise BadSettings(f"settings: {' '.join(str(fault).split())}") from fault
         if named and not done:
             raise BadSettings(f"{named} can't be read")
-        found.append((file, read))
-    return found
-
-
-def _said_in(files: Files, section: str, words: Sequence[str], bad_words: BadWords) -> Dict[str, str]:
-    """What the files say in a section."""
-    found: Dict[str, str] = {}
-    for file, read in files:
         for name in read.sections():
-            if name not in SECTIONS and _lab_in(name) is None:
-                known = [*(f"[{it}]" for it in SECTIONS), LAB_FORM]
-                bad_words(f"{file}: [{name}] is no section: {meant(f'[{name}]', known)}")
-        if read.has_section(section):
-            found.update(_words_of(file, read, section, words, bad_words))
+            lab = LAB.fullmatch(name)
+            found.append(Part(file, name, lab[1] if lab and NAMES.fullmatch(lab[1]) else None, dict(read[name])))
     return found
 
 
-def _words_of(
-    file: str, read: configparser.ConfigParser, name: str, words: Sequence[str], bad_words: BadWords
-) -> Dict[str, str]:
-    """The settings of one file's section."""
-    found = dict(read[name])
-    for word in found:
-        if word not in words:
-            bad_words(f"{file}: {word} in [{name}] is no setting: {meant(word, words)}")
+def _said_in(parts: List[Part], words: Sequence[str], bad_words: BadWords) -> Dict[str, str]:
+    """What sections say together, which may have these settings."""
+    found: Dict[str, str] = {}
+    for it in parts:
+        for word in it.said:
+            if word not in words:
+                bad_words(f"{it.file}: {word} in [{it.name}] is no setting: {meant(word, words)}")
+        found.update(it.said)
     return found
 
 

@@ -14,7 +14,7 @@ MOST = 20_000  # looks that are kept: as many as find a new number
 SURE = 60  # seconds between two looks, at most: else it isn't known when a number was given
 
 
-class Look(NamedTuple):
+class NumberLook(NamedTuple):
     """A look at the desk that found new numbers: all below `next` were given by then, and after
     the moment `since` those that the look before didn't find; 0 where nobody knows."""
 
@@ -23,7 +23,7 @@ class Look(NamedTuple):
     since: int
 
 
-Looks = List[Look]  # the oldest first
+Looks = List[NumberLook]  # the oldest first
 
 
 class Submissions:
@@ -31,7 +31,7 @@ class Submissions:
 
     def __init__(self, place: str):
         self.file = os.path.join(place, FILE)
-        self.looks: List[Look] = looks_in(self.file)
+        self.looks: List[NumberLook] = looks_in(self.file)
         self.since = 0
         self._trim()
 
@@ -44,7 +44,7 @@ class Submissions:
             self.looks, self.since = [it for it in self.looks if it.next <= following], 0
             self._write()
         if not self.looks or following > self.looks[-1].next:
-            self.looks.append(Look(following, now, self.since))
+            self.looks.append(NumberLook(following, now, self.since))
             self._append(self.looks[-1])
             self._trim()
         self.since = now
@@ -63,7 +63,7 @@ class Submissions:
             self.looks = self.looks[-MOST // 2 :]
             self._write()
 
-    def _append(self, look: Look) -> None:
+    def _append(self, look: NumberLook) -> None:
         with contextlib.suppress(OSError), open(self.file, "a", encoding="ascii") as file:
             file.write(_line_of(look))  # (else it is known until the next restart)
 
@@ -81,7 +81,7 @@ def moment_in(looks: Looks, number: int) -> Optional[int]:
     return look.at if look.since and look.at - look.since <= SURE else None
 
 
-def _line_of(look: Look) -> str:
+def _line_of(look: NumberLook) -> str:
     return f"{look.next} {look.at} {look.since}\n"
 
 
@@ -100,7 +100,7 @@ def looks_of(lines: Iterable[str]) -> Looks:
     for line in lines:
         words = line.split()
         if line.endswith("\n") and len(words) == 3 and all(it.isdigit() for it in words):
-            look = Look(*map(int, words))
+            look = NumberLook(*map(int, words))
             if not looks or look.next > looks[-1].next:
                 looks.append(look)
     return looks

@@ -1,11 +1,9 @@
-"""TOML texts, read by Python's own reader where there is one, which reads TOML 1.0; what it doesn't
-read, by the small one here, so that 1.1 is read as the desk reads it. That gives moments as Moment,
-since no file of the desk's has one that counts."""
+"""TOML texts, read as the desk reads them, by version 1.1, which Python's own reader doesn't (3.9 has none), with where
+each key stands. A moment is given as Moment, since no file of the desk's has one that counts."""
 import contextlib
 import datetime
 import functools
 import re
-import sys
 from typing import Any, Callable, Dict, List, Match, NamedTuple, Optional, Pattern, Sequence, Set, Tuple, Union
 
 from fizgruk.words import BadFile
@@ -265,13 +263,6 @@ class Reader:
         return chr(code)
 
 
-READERS: List[Callable[[str], Dict[str, Any]]] = [loads]
-if sys.version_info >= (3, 11):
-    import tomllib
-
-    READERS.insert(0, tomllib.loads)
-
-
 class NotToml(BadFile):
     """A text isn't TOML."""
 
@@ -285,16 +276,11 @@ def text_of(data: bytes) -> str:
 
 
 def tree_of(text: str) -> Dict[str, Any]:
-    """The tables of a text. What it lacks is told by the first reader."""
-    faults = []
-    # (Python's own takes a time that grows with the square of a key's parts; each line but few has less dots)
-    has_many = any(it.count(".") >= MOST_PARTS for it in text.split("\n"))
-    for read in READERS[-1:] if has_many else READERS:
-        try:
-            return read(text)
-        except (ValueError, RecursionError) as fault:
-            faults.append(fault)
-    raise NotToml(f"no TOML: {faults[0]}")
+    """The tables of a text."""
+    try:
+        return loads(text)
+    except (ValueError, RecursionError) as fault:
+        raise NotToml(f"no TOML: {fault}") from fault
 
 
 def line_of(text: str, path: Sequence[str]) -> int:
@@ -318,7 +304,7 @@ def told_at(text: str, path: Sequence[str]) -> str:
 
 @functools.lru_cache(maxsize=1)
 def _read(text: str) -> Reader:
-    """The small reader, which knows places, after a text."""
+    """The reader, which knows places, after a text."""
     reader = Reader(text)
     with contextlib.suppress(ValueError, RecursionError):
         reader.document()

@@ -254,6 +254,7 @@ class Claims:
     def __init__(self, desk: calls.Looker):
         self.desk = calls.Remembered(desk)
         self.now = present.Present(self.desk)
+        self.status: Row = {}  # where it was looked at
 
     @functools.cached_property
     def lab(self) -> Lab:
@@ -289,8 +290,9 @@ class Claims:
     def reasons(self, queue: List[Row]) -> Dict[int, str]:
         """Why claims wait, by their numbers, and that one collects boards."""
         # (one of a single board collects none; a desk of the first edition has no collector)
-        is_many = any(it["boards"] > 1 for it in queue)
-        collector = self.desk.look("/status").get("collector", 0) if is_many else 0
+        if any(it["boards"] > 1 for it in queue):
+            self.status = self.desk.look("/status")
+        collector = self.status.get("collector", 0)
         until = time.monotonic() + LONGEST_ASKED
         reasons = {}
         for place, claim in enumerate(queue):

@@ -1,5 +1,6 @@
 """The ways to a board that one holds: its console, its power, its network, by ssh(1) to the lab's
 farm-access."""
+import contextlib
 import os
 import re
 import shlex
@@ -144,7 +145,8 @@ class Console:
             self._reader.join(ENDS_WITHIN)
         for stream in (self._process.stdin, self._process.stdout, self._process.stderr):
             if stream:
-                _let_go(stream)
+                with contextlib.suppress(OSError):  # (what was typed last isn't taken any more)
+                    stream.close()
         self._process = None
 
     def send(self, text: Union[str, bytes]) -> None:
@@ -243,10 +245,3 @@ def _ran(words: Sequence[str], timeout: Optional[float]) -> "subprocess.Complete
         raise TimedOut(f"{words[-1]}: not within {timeout:g} s") from late
     except OSError as fault:
         raise NoWay(f"{words[0]}: {fault}") from fault
-
-
-def _let_go(stream: IO[bytes]) -> None:
-    try:
-        stream.close()
-    except OSError:
-        pass  # what was typed last isn't taken any more

@@ -1,9 +1,15 @@
-"""The words of job and lab files, and whether a text is one: the same rules as the desk's."""
+"""The limits of a farm (docs/MACHINE.md), and the words of job and lab files, and whether a text is one: the same rules
+as the desk's."""
 import contextlib
 import re
 from typing import Any, Dict, Iterable, Iterator, List, Optional, Tuple
 
-from fizgruk.bounds import MOST_TAGS, NAME, TAG_KEY, TAG_VALUE
+HEALTHS = ("Good", "Bad", "Unknown", "Maintenance", "Retired")
+NAME, TAG_KEY, TAG_VALUE = 48, 32, 64
+MOST_TAGS, MOST_TYPES, MOST_BOARDS, MOST_OF_A_TYPE = 16, 64, 256, 64
+MOST_JOBS, MOST_RESERVATIONS = 100_000, 100_000
+HIGHEST_PRIORITY, MOST_WANTS, LONGEST_EVERY = 100, 4, 10000
+LONGEST_JOB_FILE, LONGEST_LAB_FILE = 65536, 1048576
 
 LETTER = "[A-Za-z0-9_.-]"
 NAMES = re.compile(f"{LETTER}{{1,{NAME}}}")

@@ -4,7 +4,7 @@ from __future__ import annotations
 import argparse
 import signal
 import types
-from typing import Any, List, Optional, Tuple
+from typing import Any, List, Optional
 
 import pytest
 from fake_desk import FakeDesk
@@ -85,11 +85,3 @@ def test_what_a_terminals_keys_send_the_command_has_already(
     watch: Any = types.SimpleNamespace(lost="")
     holding.wait_for_end(child, watch)
     assert sent == ([number] if is_sent else [])
-
-
-@pytest.mark.parametrize("command, fault", [
-    ("true", (0, "")), ("/not/there", (127, "no such command")), ("no-such-command", (127, "no such command")),
-    ("/usr/", (126, "it can't be run")),
-])
-def test_a_command_that_cant_be_run_is_told_as_a_shell_does(command: str, fault: Tuple[int, str]) -> None:
-    assert holding.fault_of(command) == fault

@@ -5,13 +5,13 @@ import argparse
 import json
 import sys
 import types
-from typing import Any, Callable, Dict, List
+from typing import Any, Callable, Dict
 
 import pytest
 from fake_desk import FakeDesk
-from fizgruk import history, waiting, wants
+from fizgruk import history
 from fizgruk.desk import holding, orders, past_jobs, waiting as desk_waiting
-from fizgruk.errors import Code, Refused
+from fizgruk.errors import Refused
 
 NO = Refused(401, 0, "no")
 NO_FILES: Dict[str, Any] = {f"{it}.json": {} for it in ("running", "waiting", "workers")}
@@ -43,22 +43,6 @@ def test_a_refusal_that_isnt_the_states_is_told_as_it_is(command: Callable[..., 
         called(command, FakeDesk(NO, jobs=NO), **options)
 
 
-@pytest.mark.parametrize("state, result, told", [
-    ("Finished", "Infra", "job 7 is Finished (Infra)"), ("Canceling", "", "job 7 is Canceling"),
-])
-def test_a_cancel_that_comes_too_late_says_what_became_of_the_job(state: str, result: str, told: str) -> None:
-    desk = FakeDesk(Refused(409, Code.WRONG_JOB_STATE, "wrong state"), jobs={"state": state, "result": result})
-    with pytest.raises(Refused, match=f"wrong state: {told.replace('(', '.').replace(')', '.')}$"):
-        called(orders.cancel_jobs, desk)
-
-
-def test_a_change_that_comes_too_late_says_what_became_of_the_reservation() -> None:
-    rows = {"reservations": [{"number": 7, "state": "expired"}]}
-    desk = FakeDesk(Refused(409, Code.WRONG_RESERVATION_STATE, "wrong state"), reservations=rows)
-    with pytest.raises(Refused, match="wrong state: reservation 7 is expired$"):
-        called(orders.change_reservation, desk, action="release")
-
-
 def test_a_desk_that_doesnt_let_it_in_shows_no_jobs(monkeypatch: pytest.MonkeyPatch) -> None:
     def fails(*_: object) -> None:
         raise NO
@@ -72,16 +56,3 @@ def test_a_desk_that_doesnt_let_it_in_shows_no_jobs(monkeypatch: pytest.MonkeyPa
 def test_how_wide_a_line_is_where_there_is_no_terminal(monkeypatch: pytest.MonkeyPatch) -> None:
     monkeypatch.setattr(sys, "stderr", types.SimpleNamespace(fileno=lambda: -1))
     assert desk_waiting.columns() == desk_waiting.WIDTH
-
-
-@pytest.mark.parametrize("state, queue, told", [
-    ("Running", [], "Running"), ("Submitted", [], "Submitted"),
-    ("Scheduling", [{"kind": "group", "number": 7}], "Scheduling, place 1 of 1 in the queue"),
-])
-def test_a_wait_says_where_a_job_stands(monkeypatch: pytest.MonkeyPatch, state: str, queue: List[Any], told: str) -> None:
-    desk: Any = FakeDesk(queue={"queue": queue}, boards={"boards": []}, types={"types": []}, **NO_FILES)
-    desk.of_patience = lambda seconds: desk
-    monkeypatch.setattr(waiting.Wait, "reason", lambda wait, lab, wanted: "")
-    monkeypatch.setattr(wants, "want_of_job", lambda view: None)
-    wait = waiting.Wait(desk, "", None, 2.0, print)
-    assert waiting.state_and_place(wait, [{"state": state, "number": 7, "group": 7}]) == told

@@ -1,7 +1,7 @@
 """What the client shows of jobs, by a desk and by rows that the test sets."""
 from __future__ import annotations
 
-from typing import Any, Dict, List, Optional, Sequence
+from typing import Any, Dict, Sequence
 
 import pytest
 from fake_desk import FakeDesk
@@ -34,11 +34,6 @@ def claims() -> wants.Claims:
         },
     )
     return wants.Claims(desk)
-
-
-@pytest.mark.parametrize("owner, numbers", [(None, [9, 6, 5]), ("ann", [9, 5]), ("bob", [6]), ("eve", [])])
-def test_open_jobs_are_the_newest_first_and_those_of_an_owner(owner: Optional[str], numbers: List[int]) -> None:
-    assert [it["number"] for it in past_jobs.open_jobs(claims(), owner)] == numbers
 
 
 def test_an_open_job_is_shown_as_the_dispatcher_tells_it() -> None:

@@ -2,8 +2,7 @@
 from typing import Any, Dict, List, NamedTuple, Sequence, Tuple
 
 from fizgruk import toml_text, words
-from fizgruk.bounds import LONGEST_EVERY, MOST_BOARDS, MOST_OF_A_TYPE, MOST_TYPES
-from fizgruk.words import BadFile
+from fizgruk.words import LONGEST_EVERY, MOST_BOARDS, MOST_OF_A_TYPE, MOST_TYPES, BadFile
 
 CHECKS = ("none", "hours", "jobs")
 # The keys of a lab file's tables, and what is said of another that isn't misspelt.

@@ -11,7 +11,7 @@ import sys
 import textwrap
 from typing import Any, Callable, List, NoReturn, Optional, Sequence, Tuple
 
-from fizgruk.version import VERSION
+from fizgruk import __version__
 from fizgruk.words import nearest
 
 NARROWEST, WIDEST = 40, 100
@@ -108,7 +108,7 @@ class Parser(argparse.ArgumentParser):
 def parser_of(program: str, about: str, statuses: Statuses) -> Parser:
     """The parser of a tool."""
     parser = Parser(about, statuses, prog=program)
-    version = f"{program} {VERSION}"
+    version = f"{program} {__version__}"
     parser.add_argument("--version", action="version", version=version, help="Show the version.")
     return parser
 

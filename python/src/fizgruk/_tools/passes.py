@@ -1,5 +1,6 @@
 """How many passes the dispatcher asked for, and when it asked for the last: passes.json in its
 folder, which it writes and farm-metrics reads."""
+import contextlib
 import dataclasses
 import json
 import os
@@ -34,10 +35,8 @@ class Counter:
         """Counts a pass. Where there is no room for the file the next one writes both."""
         self.count += 1
         said = {"count": self.count, "at": round(time.time(), 3)}
-        try:
+        with contextlib.suppress(OSError):
             disk.write_whole(self.file, f"{json.dumps(said)}\n")
-        except OSError:
-            pass
 
 
 def passes_in(file: str) -> Passes:

@@ -1,5 +1,6 @@
 """What each tool does in one way: a signal that ends it is raised where it comes, a fault has an exit status, and what is
 in the way of one that serves is told once and doesn't end it."""
+import contextlib
 import signal
 import sys
 import time
@@ -26,10 +27,8 @@ class Teller:
         self.last = ""
 
     def __call__(self, text: str) -> None:
-        try:
+        with contextlib.suppress(OSError):  # (nobody is there to be told)
             print(f"{self.program}: {text}", file=sys.stderr, flush=True)
-        except OSError:
-            pass  # nobody is there to be told
 
     def told(self, status: int, text: str) -> int:
         """Tells a text. Returns the exit status that goes with it."""

@@ -8,10 +8,9 @@ from typing import Any, Dict, List, Set, Tuple
 from fizgruk import calls, notes, settings, toml_text
 from fizgruk._tools import disk
 from fizgruk._tools.lab_text import Addition, additions_of, warnings_of
-from fizgruk.bounds import HEALTHS, LONGEST_LAB_FILE
 from fizgruk.desk import ENDED, REFUSED, tell, views
 from fizgruk.errors import Code, Refused
-from fizgruk.words import BadFile
+from fizgruk.words import HEALTHS, LONGEST_LAB_FILE, BadFile
 
 RETIRED = "Retired"
 

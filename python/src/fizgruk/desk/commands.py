@@ -6,9 +6,9 @@ from typing import Any, Callable, Dict, Union
 from fizgruk._tools import asking, parsers
 from fizgruk._tools.lab_text import CHECKS
 from fizgruk._tools.parsers import Parser, one_of
-from fizgruk.bounds import HEALTHS, LONGEST_EVERY
 from fizgruk.desk import access, admin, audit, holding, orders, past_jobs, views
 from fizgruk.history import BY
+from fizgruk.words import HEALTHS, LONGEST_EVERY
 
 Part = Callable[[Parser], None]  # adds an option or an argument
 NUMBER = parsers.whole(1, 10**9 - 1)
@@ -180,7 +180,8 @@ why, as 'queue' does. With numbers it \
 shows those of them that there are, and tells the others: their name, when they began, and how long they took and \
 why they ended so, or how long they may run, or where in the queue they stand and why they wait; the counts of \
 their 'junit.xml', with the first tests that failed below. One job has a line for each of these. What the \
-dispatcher doesn't tell of open jobs is asked of the desk, a call a job; so is each of them with --json.""",
+dispatcher doesn't tell of open jobs is asked of the desk, a call a job; so is each of them with --json. Where no job \
+is open the clock isn't looked at.""",
             flag("--text", "Print the texts that were submitted."), MINE,
             option("--limit", "N", f"How many of those that are open, at most (default {views.LAST}).", type=NUMBER),
             last("How many of those that ended"),

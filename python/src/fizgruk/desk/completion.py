@@ -14,9 +14,9 @@ from typing import Callable, Dict, Iterable, List, Sequence, Set
 
 from fizgruk import calls, history, settings, wants, words
 from fizgruk._tools import parsers, tables
-from fizgruk.bounds import HEALTHS
 from fizgruk.desk import orders, past_jobs, views
 from fizgruk.errors import FizgrukError
+from fizgruk.words import HEALTHS
 
 LONGEST = "3"  # seconds for which a call may hold up the shell, where no setting says it
 WORD = re.compile(f"[0-9]+|{words.NAMES.pattern}(/{words.NAMES.pattern})*|{words.TAGS.pattern}")

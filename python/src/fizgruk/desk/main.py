@@ -9,7 +9,7 @@ from fizgruk._tools import asking, service, terminal
 from fizgruk.desk import ENDED, FAULT, REFUSED, Lacking, completion, holding, tell, views, waiting
 from fizgruk.desk.commands import parser_of
 from fizgruk.errors import (
-    BadSettings, NoArtifact, NoLog, NoText, Refused, ReservationEnded, Unreachable, sentence_of,
+    BadJobFile, BadSettings, NoArtifact, NoLog, NoText, Refused, ReservationEnded, Unreachable, sentence_of,
 )
 
 PATIENCE = 15
@@ -64,6 +64,8 @@ def status_of(options: argparse.Namespace) -> int:
         return tell.told(REFUSED, f"refused: {refusal}")
     except (Lacking, NoArtifact, NoLog, NoText) as lack:
         return tell.told(REFUSED, str(lack))
+    except BadJobFile as fault:
+        return tell.told(REFUSED, f"nothing is submitted: {fault}")
     except ReservationEnded as end:
         return tell.told(ENDED, str(end))
     except Unreachable as fault:

@@ -27,17 +27,10 @@ def resubmit_job(desk: calls.Desk, options: argparse.Namespace) -> int:
 
 def submit_text(desk: calls.Desk, options: argparse.Namespace, text: bytes, key: Optional[str] = None) -> int:
     """Submits a job file, prints its number, and waits for its end where that is asked for."""
-    fault = job_file.limit_fault_of(text)
-    if fault:
-        return tell.told(REFUSED, f"nothing is submitted: {fault}")
     waits = options.wait or options.follow
     if waits:
         options.clock.look()
-    try:
-        said = desk.tell("/jobs", text, key or calls.fresh_key())
-    except Refused as refusal:
-        raise job_file.why_refused(desk, refusal, text)
-    calls.number_of(desk, said)
+    said = job_file.submitted(desk, text, key or calls.fresh_key())
     options.clock.note_own()
     views.answer(options, said, said["number"])
     return await_end(desk, options, said["number"]) if waits else 0

@@ -51,6 +51,7 @@ def list_jobs(desk: calls.Desk, options: argparse.Namespace) -> int:
     else:
         rows = [row_of_open(it) for it in with_reasons(claims, now[:most])] + [row_of_ended(it) for it in ended]
         views.show(options, {}, rows, COLUMNS)
+    options.clock.note_shown(claims.status, not now)
     if len(now) > most:
         tell(f"more are open than these {most}: --limit")
     return 0

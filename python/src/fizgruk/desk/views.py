@@ -173,6 +173,7 @@ def show_queue(desk: calls.Desk, options: argparse.Namespace) -> int:
     reasons = claims.reasons(found)
     rows = [{**row_of(claims, it, moments), "reason": reasons.get(it["number"], "")} for it in found]
     show(options, said, rows, tables.QUEUE)
+    options.clock.note_shown(claims.status, False)
     if next(fitting, None):
         tell(f"more wait than these {most}: --limit")
     return 0

@@ -1,10 +1,12 @@
 """A wait of the command's: its progress on standard error, and the farm's clock meanwhile."""
+import contextlib
+import math
 import os
 import sys
 import time
 from typing import Any, Callable, Dict, Optional, Set
 
-from fizgruk import calls, clocks, limits, waiting
+from fizgruk import calls, limits, waiting
 from fizgruk._tools import service, terminal
 from fizgruk.desk import tell
 from fizgruk.errors import Refused, Unreachable
@@ -47,6 +49,14 @@ class FarmClock:
         elif self.met is None:
             self.met = time.monotonic()
 
+    def note_shown(self, status: Dict[str, Any], is_idle: bool) -> None:
+        """Notes a status that was looked at for what is shown; that nothing there waits for a pass is noted too, and then
+        nobody asks whether one comes."""
+        if status:
+            self.see(status)
+        elif is_idle:
+            self.due = math.inf
+
     def look(self, teller: Callable[[str], None] = tell) -> None:
         """Looks, where it is time to, and tells what it sees; a desk that gives no answer tells
         that elsewhere. Raises NoDesks where what answers is no desk."""
@@ -54,12 +64,16 @@ class FarmClock:
             return
         self.due = time.monotonic() + EVERY
         try:
-            status = self.desk.look("/status")
+            self.see(self.desk.look("/status"), teller)
         except calls.NoDesks:
             raise
         except (Unreachable, Refused):
             return
-        ahead, quiet = clocks.ahead(status, clocks.NO_END), self._quiet(status)
+
+    def see(self, status: Dict[str, Any], teller: Callable[[str], None] = tell) -> None:
+        """Tells what a status says, which isn't looked at again so soon."""
+        self.due = time.monotonic() + EVERY
+        ahead, quiet = limits.clock_ahead(status, limits.NO_END), self._quiet(status)
         for about, text in (("ahead", ahead), ("quiet", quiet)):
             if text and about not in self.told:
                 self.told.add(about)
@@ -109,11 +123,9 @@ class Progress:
 
     def end(self) -> None:
         """Clears what a terminal shows."""
-        try:
+        with contextlib.suppress(OSError):  # (the terminal is gone)
             terminal.write_own(sys.stderr, self._erased())
             sys.stderr.flush()
-        except OSError:
-            pass  # the terminal is gone
 
     def _erased(self) -> str:
         """What erases the rows that a terminal shows of it."""
