@@ -88,6 +88,16 @@ def test_an_admin_at_a_free_board_is_out_once_somebody_has_it(lab: Lab, held: Ca
     assert line.wait(OUT) == LOST
 
 
+def test_an_admin_at_a_free_board_isnt_tidied_away(lab: Lab) -> None:
+    """As where the guard asked for it as nobody was there."""
+    line = lab.begin("eve", "b1", "sleep", "--as-admin")
+    lab.running("b1", "sleep")
+    assert lab.try_words(["farm-access", "tidy", "b1"]).status == 0
+    lab.running("b1", "sleep")
+    assert line.poll() is None
+    line.kill()
+
+
 def test_a_key_of_two_people_and_one_taken_away_are_nobody_s(lab: Lab, held: Callable[..., int]) -> None:
     """Also over a connection that was made before."""
     held()

@@ -98,6 +98,14 @@ def test_nothing_is_made_of_nothing(place: Place) -> None:
     assert not (place.place / "artifacts").exists()
 
 
+def test_sixteen_folders_arent_too_deep(place: Place) -> None:
+    folder = "/".join("d" * 16)
+    (place.out / folder).mkdir(parents=True)
+    (place.out / folder / "x").write_text("said", encoding="utf-8")
+    place.keeps()
+    assert place.kept() == {f"{folder}/x": "said"}
+
+
 def make_socket(file: pathlib.Path) -> None:
     before = os.getcwd()
     with socket.socket(socket.AF_UNIX) as made:

@@ -247,10 +247,16 @@ class WayUse:
         """Takes the board, and begins a unit there, which has nothing of the board before the desk was asked again."""
         party = Party(way) if self.job else Party(way, self.person, sites.mark_of(sites.key_of(self.auth)))
         with holds.taken(self.lookout, self.board, self.hold, self.between) as look:
-            self.unit = holds.begin(self.board, holds.slice_of(self.board, self.hold), rights, party)
-            told, opened = gives()
-            look()
-            self.unit.hand(json.dumps(told).encode(), [*self.fds, *opened])
+            try:
+                self.unit = holds.begin(self.board, holds.slice_of(self.board, self.hold), rights, party)
+                told, opened = gives()
+                look()
+                self.unit.hand(json.dumps(told).encode(), [*self.fds, *opened])
+            except OSError:
+                look()  # (where the hold has ended, or the key is away, the guard ends the unit before it has begun)
+                if not self.job:
+                    self.person_now()
+                raise
         for it in (*self.fds, *opened):
             os.close(it)
 
@@ -301,8 +307,9 @@ class WayUse:
             raise BadWay("root says: BOARD tidy")
         with holds.locked(board.name):
             seen = asked_again(self.lookout.boards)[board.name]
-            if holds.last_of(board.name) != holds.UNKNOWN:
-                holds.clean(seen, seen.hold, self.between)
+            last = holds.last_of(board.name)
+            if last != holds.UNKNOWN:  # (an admin may have come to the board since, which is free)
+                holds.clean(seen, last if seen.is_held_by(last) else seen.hold, self.between)
         return 0
 
 

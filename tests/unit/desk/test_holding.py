@@ -2,7 +2,9 @@
 from __future__ import annotations
 
 import argparse
+import os
 import signal
+import subprocess
 import types
 from typing import Any, List, Optional
 
@@ -51,6 +53,16 @@ def test_a_board_is_given_back_whatever_comes(
     held = Held(monkeypatch)
     assert held.runs(comes, number) == status
     assert len(held.back) == back
+
+
+def test_a_process_that_has_the_number_of_one_that_ended_is_left_alone() -> None:
+    child = subprocess.Popen(["sleep", "60"])
+    try:
+        own = (child.pid, holding.living_now()[child.pid].began)
+        assert holding.living_of(child, {(os.getpid(), "0"), own}) == {own}
+    finally:
+        child.kill()
+        child.wait()
 
 
 @pytest.mark.parametrize("number, back", [(7, 1), (None, 0)])

@@ -23,6 +23,8 @@ FAULTS = [
     (f"{MAIL}[hold]\nend = '3s'\n", "line 6: [hold] end: '3s' isn't within 1 minute to 365 days"),
     (f"{MAIL}[hold]\nend = '4h'\nremind = '5h'\n",
      "line 7: [hold] remind: it isn't less than end"),
+    (f"{MAIL}[hold]\nend = '4h'\nremind = '240 minutes'\n",
+     "line 7: [hold] remind: it isn't less than end"),
     (f"{MAIL}[job]\nended = 'yes'\n",
      "line 6: [job] ended: 'yes' is none of these: true, false or a list of \"Complete\", "
      "\"Incomplete\", \"Infra\", \"Canceled\""),

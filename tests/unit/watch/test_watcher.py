@@ -588,6 +588,23 @@ def test_a_hold_that_ended_while_nobody_looked_counts_until_it_was_seen_last(lab
     assert began + 240 <= row["ended"] <= began + 300
 
 
+def test_a_hold_that_began_before_anybody_looked_counts_from_when_the_desk_says(lab: Lab) -> None:
+    number = lab.desk.holds("b1", NOW - 600, "bob")
+    lab.watches(remind=HOUR)
+    frees(lab, "b1")
+    lab.looks(5)
+    assert lines(lab) == [hold_of(number, NOW - 600, NOW + 5, "bob")]
+
+
+def test_a_hold_ends_no_sooner_than_it_began(lab: Lab) -> None:
+    """The last look that is kept may be older than its begin."""
+    number, began = held(lab)
+    frees(lab, "b1")
+    lab.clock.at += 5 * HOUR
+    lab.watches()
+    assert lines(lab) == [hold_of(number, began, began)]
+
+
 def test_a_hold_that_farm_watch_ends_says_so(lab: Lab) -> None:
     lab.watches(end=HOUR)
     number = lab.desk.holds("b1", NOW, "bob")
