@@ -298,6 +298,19 @@ for place in /tmp /var/tmp; do own=$place/systemd-private-x-$(basename $it)-x; m
         lab.machine.run("systemctl", "restart", "farm-dispatch")
 
 
+def test_a_jobs_folder_is_gone_soon_after_it(lab: MachineLab) -> None:
+    lab.ran("umask 777; mkdir closed; touch shut; mkdir -m 755 out; ln -s / out/link")
+    gone = "[ -z \"$(find /var/lib/private/farm-job -name 'farm-job-*')\" ] && echo gone"
+    lab.machine.wait("no job's folder is left", "sh", "-c", gone)
+
+
+def test_a_job_doesnt_reach_systemds_socket_of_notes(lab: MachineLab) -> None:
+    """Of which systemd reads all that comes before it starts or ends anything; names and the journal are there."""
+    connect = "import socket; socket.socket(socket.AF_UNIX, socket.SOCK_DGRAM).connect('/run/systemd/notify')"
+    said = lab.ran(f'python3 -c "{connect}" 2>&1 | tail -n 1; getent passwd $(id -u) | cut -d : -f 6; logger said && echo logged')
+    assert said == "PermissionError: [Errno 13] Permission denied\n/\nlogged\n"
+
+
 def test_a_canceled_job_is_told_to_end(lab: MachineLab) -> None:
     number = lab.submit("trap 'echo told; exit 0' TERM; echo began; while :; do sleep 0.1; done")
     lab.said(number, "began")
