@@ -2,6 +2,7 @@
 its own, which neither reaches the desk's port nor the files and processes of the dispatcher and of other jobs."""
 from __future__ import annotations
 
+import errno
 import json
 import os
 import re
@@ -305,10 +306,14 @@ def test_a_jobs_folder_is_gone_soon_after_it(lab: MachineLab) -> None:
 
 
 def test_a_job_doesnt_reach_systemds_socket_of_notes(lab: MachineLab) -> None:
-    """Of which systemd reads all that comes before it starts or ends anything; names and the journal are there."""
-    connect = "import socket; socket.socket(socket.AF_UNIX, socket.SOCK_DGRAM).connect('/run/systemd/notify')"
-    said = lab.ran(f'python3 -c "{connect}" 2>&1 | tail -n 1; getent passwd $(id -u) | cut -d : -f 6; logger said && echo logged')
-    assert said == "PermissionError: [Errno 13] Permission denied\n/\nlogged\n"
+    """Nor its other ones, of which it reads what comes in the place of starting and ending units; names and the journal are
+    there."""
+    said = lab.ran("""python3 -c "
+import socket
+for name, kind in (('notify', socket.SOCK_DGRAM), ('io.system.ManagedOOM', socket.SOCK_STREAM), ('private', socket.SOCK_STREAM)):
+    print(socket.socket(socket.AF_UNIX, kind).connect_ex('/run/systemd/' + name))"
+getent passwd $(id -u) | cut -d : -f 6; logger said && echo logged""")
+    assert said.split() == [str(errno.EACCES)] * 3 + ["/", "logged"]
 
 
 def test_a_canceled_job_is_told_to_end(lab: MachineLab) -> None:
