@@ -3,7 +3,7 @@ from __future__ import annotations
 
 import os
 import pathlib
-from typing import Callable
+from typing import Callable, List
 
 import pytest
 from farm_dispatch.workers import Away, Call, Worker, look_of
@@ -25,7 +25,8 @@ def make_worker_fixture(tmp_path: pathlib.Path, monkeypatch: pytest.MonkeyPatch)
 @pytest.mark.parametrize("script", ["yes 'refused' | head -c 100000000 >&2; exit 3", "echo 'refused' >&2; exit 255"])
 def test_what_a_worker_says_to_stderr_fills_no_disk(make_worker: MakeWorker, script: str, monkeypatch: pytest.MonkeyPatch) -> None:
     """And its last line is told, of what isn't too long."""
-    sizes, was = [], Call.close
+    sizes: List[int] = []
+    was = Call.close
 
     def close(call: Call) -> None:
         sizes.append(os.fstat(call.errors.fileno()).st_size)
