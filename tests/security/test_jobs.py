@@ -2,6 +2,7 @@
 its own, which neither reaches the desk's port nor the files and processes of the dispatcher and of other jobs."""
 from __future__ import annotations
 
+import errno
 import json
 import os
 import re
@@ -296,6 +297,23 @@ for place in /tmp /var/tmp; do own=$place/systemd-private-x-$(basename $it)-x; m
     lab.said(number, "began")
     lab.machine.run("sh", "-c", fills, user="ann")
     assert lab.finished(number) == "Complete", lab.log(number)
+
+
+def test_a_jobs_folder_is_gone_soon_after_it(lab: MachineLab) -> None:
+    lab.ran("umask 777; mkdir closed; touch shut; mkdir -m 755 out; ln -s / out/link")
+    gone = "[ -z \"$(find /var/lib/private/farm-job -name 'farm-job-*')\" ] && echo gone"
+    lab.machine.wait("no job's folder is left", "sh", "-c", gone)
+
+
+def test_a_job_doesnt_reach_systemds_socket_of_notes(lab: MachineLab) -> None:
+    """Nor its other ones, of which it reads what comes in the place of starting and ending units; names and the journal are
+    there."""
+    said = lab.ran("""python3 -c "
+import socket
+for name, kind in (('notify', socket.SOCK_DGRAM), ('io.system.ManagedOOM', socket.SOCK_STREAM), ('private', socket.SOCK_STREAM)):
+    print(socket.socket(socket.AF_UNIX, kind).connect_ex('/run/systemd/' + name))"
+getent passwd $(id -u) | cut -d : -f 6; logger said && echo logged""")
+    assert said.split() == [str(errno.EACCES)] * 3 + ["/", "logged"]
 
 
 def test_a_job_that_an_admin_ends_by_its_unit_is_infra(lab: MachineLab) -> None:

@@ -48,8 +48,9 @@ def boots(lab: MachineLab, way: str, job: str) -> None:
     assert lab.finished(number, 500) == "Complete", lab.log(number)
     assert "the board is up" in lab.log(number)
     lab.machine.wait("it is settled", "sh", "-c", f"[ ! -e {PLACE}/open/{number} ] && echo settled")
-    places = ("/var/lib/private/farm-job", "/var/lib/farm-worker/log", "/run/farm-jobs/in")
-    assert lab.machine.run("find", *places, "-mindepth", "1").stdout == "", "nothing of its account's is left"
+    places = "/var/lib/private/farm-job /var/lib/farm-worker/log /run/farm-jobs/in"
+    none = f'[ -z "$(find {places} -mindepth 1 ! -name .gone)" ] && echo none'
+    lab.machine.wait("nothing of its account's is left", "sh", "-c", none)
     owners = lab.machine.run("find", PLACE, "-printf", "%u\n").stdout.split()
     assert set(owners) == {"farm-dispatch"}
 

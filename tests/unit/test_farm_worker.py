@@ -1,13 +1,16 @@
 """farm-worker's words over folders of a test's own, with a systemctl and a systemd-run that note what they are asked."""
 from __future__ import annotations
 
+import contextlib
 import os
 import pathlib
+import signal
 import subprocess
 import time
-from typing import List
+from typing import Iterator, List
 
 import pytest
+from served import wait_until
 
 SCRIPT = pathlib.Path(__file__).resolve().parents[2] / "tools" / "farm-worker"
 UNIT = "farm-job-x-1-aa"
@@ -156,3 +159,41 @@ def test_a_look_of_which_a_part_is_killed_is_no_answer(worker: Worker) -> None:
     assert worker.call("look x").stdout.endswith(b"\nend\n")
     worker._put("bin/grep", "kill -KILL $$\n")
     assert not worker.call("look x").stdout.endswith(b"\nend\n")
+
+
+@contextlib.contextmanager
+def watched(worker: Worker) -> Iterator[None]:
+    """farm-worker.service runs, and is killed with all that it began."""
+    with subprocess.Popen(["sh", str(worker.script), "watch"], start_new_session=True) as watch:
+        try:
+            yield
+        finally:
+            os.killpg(watch.pid, signal.SIGKILL)
+
+
+def test_a_folder_that_takes_long_to_remove_holds_nothing_up(worker: Worker) -> None:
+    """One removal runs at a time, however often the unit is forgotten, and one that was cut short goes on."""
+    folder, removals = worker.place / "lib" / "private" / "farm-job" / "farm-job-x-2-bb", worker.place / "removals"
+    (folder / "out").mkdir(parents=True)
+    worker._put("bin/rm", f"""case $2 in */private/farm-job/*) [ ! -e "$2" ] || {{ echo "$2" >> {removals}; exec sleep 300; }} ;; esac
+exec /bin/rm "$@"
+""")
+    with watched(worker):
+        assert worker.call(f"forget {folder.name}").stdout == b"ok\n" and not folder.exists()
+        wait_until("its removal", removals.exists)
+        assert worker.call(f"forget {folder.name}").stdout == worker.begin(FILES).stdout == b"ok\n"
+        time.sleep(7)
+        assert len(removals.read_text().splitlines()) == 1
+    (worker.place / "bin" / "rm").unlink()
+    with watched(worker):
+        wait_until("it is gone", lambda: not list(folder.parent.glob(".gone/*")))
+
+
+def test_what_systemd_has_no_time_to_end_the_kernel_ends(worker: Worker) -> None:
+    group = worker.place / "cgroup" / "unified" / "farm.slice" / "farm-job.slice" / f"{UNIT}.service"
+    group.mkdir(parents=True)
+    (group / "cgroup.events").write_text("populated 1\n")
+    (worker.place / "loaded").touch()
+    assert worker.call(f"close {UNIT}").stdout == b"ok\n" and not (group / "cgroup.kill").exists()
+    worker._put("bin/systemctl", "exec sleep 300\n")
+    assert worker.call(f"close {UNIT}").stdout == b"ok\n" and (group / "cgroup.kill").read_text() == "1\n"

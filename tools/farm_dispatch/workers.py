@@ -24,9 +24,12 @@ LONGEST = 17_000_000  # bytes of an answer that is kept in memory: a list has 16
 PART = 262_144  # bytes that are read at once
 END = b"end\0"  # of a list
 SCRIPT = os.path.join(os.path.dirname(os.path.realpath(__file__)), "..", "farm-worker")
-LONGEST_ROW = 400  # characters of what a look says in one
+LONGEST_ROW = 400  # characters of what a look says in one, and bytes of how a begin went
 LOG_PART = 8_000_000  # bytes that one call gives of a log, at most
+MOST_ROWS = 600_000  # that are read of a look: farm-worker's own have 30 bytes at least
+# (What a worker says to stderr goes into a file: who writes more there is ended, ssh or the master that it left.)
 SSH = (
+    "prlimit", "--fsize=1000000", "--core=0",
     "ssh", "-T", "-o", "BatchMode=yes", "-o", "ConnectTimeout=5", "-o", "ServerAliveInterval=3",
     "-o", "ServerAliveCountMax=3", "-o", "ControlMaster=auto", "-o", "ControlPersist=60",
 )
@@ -157,7 +160,8 @@ class Worker:
         """Begins a unit in a life, by words of it, its kind, its limit of time, grace, and its limits of log and folder."""
         sent = [it.encode() for it in files.values()]
         sizes = " ".join(str(len(it)) for it in sent)
-        return " ".join(self._start(f"begin {unit} {words} {sizes}", b"".join(sent)).whole().decode(errors="replace").split())
+        said = self._start(f"begin {unit} {words} {sizes}", b"".join(sent)).whole()[:LONGEST_ROW]
+        return " ".join(said.decode(errors="replace").split())
 
     def close(self, unit: str) -> None:
         if self._start(f"close {unit}").whole().strip() != b"ok":
@@ -190,9 +194,9 @@ class Worker:
 
 def look_of(said: str) -> Look:
     """A look at a worker, by its answer. Raises Away where that isn't whole."""
-    rows = [it[:LONGEST_ROW].split(" ") for it in said.splitlines()]
-    if not rows or rows[0][0] != "life" or len(rows[0]) != 2 or rows[-1] != ["end"]:
-        raise Away("its answer was cut" if rows else "it gives no answer")
+    rows = [it[:LONGEST_ROW].split(" ") for it in said.split("\n", MOST_ROWS)]
+    if rows[0][0] != "life" or len(rows[0]) != 2 or rows[-2:] != [["end"], [""]]:
+        raise Away("its answer was cut" if said else "it gives no answer")
     of: Dict[str, List[List[str]]] = {}
     for row in rows:
         of.setdefault(row[0], []).append(row[1:])
