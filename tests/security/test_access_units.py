@@ -243,7 +243,8 @@ def test_idle_connections_keep_nobody_out_who_comes_from_elsewhere(lab: Lab) -> 
     lab.reserve("ann", "b2")
     idle = lab.begun("/usr/bin/python3", "-c", program)
     assert idle.stdout and idle.stdout.readline() == b"there\n"
-    assert lab.session("ann", "b2", "say", "x", options=["-b", "127.0.0.2"]).output == b"x\n"
+    lab.machine.run("ip", "address", "add", "192.0.2.7/32", "dev", "lo")
+    assert lab.session("ann", "b2", "say", "x", options=["-b", "192.0.2.7"]).output == b"x\n"
     lab.machine.run("pkill", "-f", "range[(]420")
     idle.wait(60)
 
