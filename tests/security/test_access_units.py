@@ -356,3 +356,12 @@ def test_a_maintainer_script_follows_no_link(machine: Machine, package: str, scr
     script_words = ["env", "DEBIAN_FRONTEND=noninteractive", "DPKG_MAINTSCRIPT_PACKAGE=" + package, "sh", "/srv/script", *words.split()]
     ran: "subprocess.CompletedProcess[str]" = machine.run(*script_words, check=False)
     assert machine.run(*look).stdout == before, ran
+
+
+def test_who_may_reach_the_boards_addresses_is_said_without_a_desk_too(lab: Lab) -> None:
+    lab.machine.run("systemctl", "stop", "farm")
+    try:
+        lab.machine.run("systemctl", "restart", "farm-access-guard")
+        assert "reject" in lab.machine.run("nft", "list", "table", "inet", "farm").stdout
+    finally:
+        lab.machine.run("systemctl", "start", "farm")

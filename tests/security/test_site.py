@@ -188,6 +188,14 @@ def test_what_is_refused_by_the_site_alone_fills_no_log(site: Site) -> None:
     assert grown[0] < 400 and grown[1] == 0 and 0 < grown[2] < 100 and grown[3] < 250
 
 
+def test_what_is_asked_with_a_password_has_a_short_line(farm: Farm, make_site: Callable[..., Site]) -> None:
+    site = make_site(farm, ("asked.log asked", "asked.log farm_asked"))
+    before = len(site.logged("asked.log"))
+    long = '%22"' * 400
+    assert site.got(f"/queue?{long}", "-H", f"referer: {long}", "-A", long)[0] == 200
+    assert len(site.logged("asked.log")) - before < 900
+
+
 def test_a_foreign_name_that_leads_to_the_site_is_a_foreign_origin(farm: Farm, site: Site) -> None:
     """As where a page's name is led to the site's address: host and origin are the same then."""
     for fields in (

@@ -42,7 +42,7 @@ class Door:
         write(folder, "door.toml", rules, 0o644)
         text = read(os.path.join(TOP, "examples", "nginx-door.conf")).replace("/run/farm-door/socket", self.socket)
         text = text.replace("/var/log/farm/audit.log", f"{folder}/audit.log")
-        text = text.replace("/var/log/nginx/access.log combined", f"{folder}/asked.log asked")
+        text = text.replace("/var/log/nginx/access.log farm_asked", f"{folder}/asked.log asked")
         changes = [*changes, (HOOK, f"include {folder}/nginx-door.conf;")]
         if login:
             text = text.replace("set $farm_name $remote_user;", f"set $farm_name {login};")

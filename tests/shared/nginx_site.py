@@ -90,7 +90,7 @@ class Site:
             ("/var/cache/farm-views", f"{self.folder}/views"),
             ("/var/lib/farm-dispatch", f"{self.folder}/dispatch"),
             ("/var/lib/farm-watch", f"{self.folder}/watch"),
-            ("/var/log/nginx/access.log combined", f"{self.folder}/asked.log asked"),
+            ("/var/log/nginx/access.log farm_asked", f"{self.folder}/asked.log asked"),
             ("/var/log/nginx/farm-guesses.log", f"{self.folder}/guesses.log"),
             ("/var/log/farm/audit.log", f"{self.folder}/audit.log"),
             HEADS,

@@ -362,6 +362,13 @@ def test_a_copy_to_look_at_overwrites_nothing(make_farm: Made, folder: str, take
     assert (os.listdir(folder), read(f"{folder}/{taken}")) == ([taken], "kept")
 
 
+def test_a_copy_to_look_at_lies_where_nobody_else_writes(make_farm: Made, folder: str) -> None:
+    """A journal beside it, which anybody may put there, names a file that SQLite's shell removes."""
+    os.chmod(folder, 0o1777)
+    status, said, told = backup(make_farm(), "--now", "--to", f"{folder}/now.db")
+    assert (status, said, os.listdir(folder)) == (4, "", []) and told.startswith(f"farm-backup: {folder}: others may write there")
+
+
 # ---- a farm that grows fast
 
 

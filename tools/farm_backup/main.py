@@ -187,6 +187,10 @@ def copy_to(farm: FarmFile, options: argparse.Namespace) -> int:
         if os.path.lexists(name):
             raise copying.NoCopy(f"{name} is there: a copy overwrites nothing")
     folder = os.path.dirname(os.path.realpath(options.to))
+    about = os.stat(folder)
+    if about.st_uid not in (0, os.geteuid()) or about.st_mode & 0o022:
+        # (SQLite's shell does what a log or journal says that lies beside a file, to which this belongs or not)
+        raise copying.NoCopy(f"{folder}: others may write there, and what they put beside a copy would be taken for its own")
     with copying.new_copy(farm, folder, teller_of(options)) as copy:
         copy.put_in_one()
         os.link(copy.db, options.to)  # (which fails where a file came meanwhile)

@@ -20,7 +20,7 @@ LOST = 6  # a status of farm-access(8)
 # A board's own keys change with what runs on it, and farm-access says which board it is.
 FOR_BOARDS = (
     "StrictHostKeyChecking=no", "UserKnownHostsFile=/dev/null", "GlobalKnownHostsFile=/dev/null",
-    "LogLevel=ERROR",
+    "LogLevel=ERROR", "ForwardAgent=no",
 )
 Sought = Union[str, Pattern[str]]
 
