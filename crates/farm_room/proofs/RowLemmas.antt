@@ -1,6 +1,6 @@
 -- Who stays in a row, who is cut from its front, and how many bytes wait aside for it.
 use Rattle.std.proofs.Common.{◌≡◌, ℕ, ◌+◌, ◌-◌, ◌^◌, ◌<◌, List, [], ◌∷◌, ◌++◌, length, take, drop, map, min, All, refl, sym, ap, subst, ◌∙◌}
-use Rattle.std.proofs.Common.{append_assoc, length-append, arith, Bool, true, false, if◌then◌else◌, append-nil}
+use Rattle.std.proofs.Common.{append_assoc, arith, Bool, true, false, if◌then◌else◌, append-nil}
 use Rattle.std.proofs.KnownBytes.{Appends-trans}
 use Rattle.std.proofs.lemmas.List.{same_from_push, take-append-drop, map-append}
 use Rattle.std.proofs.lemmas.List.Sums.{sum_by-append}
@@ -8,7 +8,7 @@ use Rattle.std.proofs.lemmas.List.Elements.{All-push}
 use Rattle.std.specs.Io.KnownBytes.{Appends}
 use Rattle.std.specs.Prelude.{Option}
 use Rattle.std.specs.declared.time.Duration.{Duration}
-use Rattle.farm_room.specs.Waiting.{held, held_by, SendsSome, CutsOldest, Fits, HasTimedOut, IsOverdue, Stay}
+use Rattle.farm_room.specs.Waiting.{held, held_by, SendsSome, Fits, HasTimedOut, IsOverdue, Stay}
 use Rattle.farm_room.specs.declared.connection.Connection.{Connection}
 
 -- ---- what is sent
@@ -27,15 +27,6 @@ abbrev pub IsCutting : List Connection → List Connection → Type 0
 IsCutting old new = (cut : List Connection) × (old ≡ cut ++ new)
     × ((before : List Connection) (last : Connection) → cut ≡ before ++ last ∷ [] → Fits (last ∷ new) → ⊥)
 
-pub begins : (row : List Connection) → IsCutting row row
-begins row = (
-  [],
-  refl,
-  λ before last none fits.
-      let long : 0 ≡ length before + 1 = ap length none ∙ length-append before (last ∷ []) in
-      absurd (omega (arith, long)),
-)
-
 -- nobody is left who is too much
 pub some_row : (row : List Connection) → (Fits row → ⊥) → 0 < length row
 some_row [] much = absurd (much (record { few = omega arith; small = omega arith }))
@@ -51,18 +42,11 @@ cuts_one old (first ∷ rest) new is much it = (
       much (subst Fits (ap (λ x. x ∷ new) (sym one) ∙ ap (λ l. first ∷ l) is) fits),
 )
 
-pub cuts_oldest : (old new : List Connection) → Fits new → IsCutting old new → CutsOldest old new
-cuts_oldest old new fits it = record { cut = it.0; parts = it.1; fits = fits; needed = it.2 }
-
 -- ---- whose time is over
 
 -- some were cut from the front, whose time was over
 abbrev pub AreOverdue : Option Duration → List Connection → List Connection → Type 0
 AreOverdue now old new = (cut : List Connection) × (old ≡ cut ++ new) × All (λ one. HasTimedOut now one.since) cut
-
-pub some_cut : (now : Option Duration) (row : List Connection) → IsOverdue now row → 0 < length row
-some_cut now [] is = absurd is
-some_cut now (first ∷ rest) is = omega arith
 
 pub overdue_one : (now : Option Duration) (old row new : List Connection) → new ≡ drop 1 row → IsOverdue now row → AreOverdue now old row → AreOverdue now old new
 overdue_one now old [] new is cut it = absurd cut
