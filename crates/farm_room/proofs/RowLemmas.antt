@@ -1,14 +1,15 @@
 -- Who stays in a row, who is cut from its front, and how many bytes wait aside for it.
 use Rattle.std.proofs.Common.{◌≡◌, ℕ, ◌+◌, ◌-◌, ◌^◌, ◌<◌, List, [], ◌∷◌, ◌++◌, length, take, drop, map, min, All, refl, sym, ap, subst, ◌∙◌}
-use Rattle.std.proofs.Common.{append_assoc, length-append, arith, Bool, true, false, if◌then◌else◌, append-nil}
+use Rattle.std.proofs.Common.{◌⊎◌, inl, inr, append_assoc, length-append, arith, Bool, true, false, if◌then◌else◌, append-nil}
 use Rattle.std.proofs.KnownBytes.{Appends-trans}
 use Rattle.std.proofs.lemmas.List.{same_from_push, take-append-drop, map-append}
 use Rattle.std.proofs.lemmas.List.Sums.{sum_by-append}
-use Rattle.std.proofs.lemmas.List.Elements.{All-push}
+use Rattle.std.proofs.lemmas.List.Elements.{All-push, Contains-append_cases, Contains-append_left, Contains-append_right, Contains-push_cases}
 use Rattle.std.specs.Io.KnownBytes.{Appends}
-use Rattle.std.specs.Prelude.{Option}
+use Rattle.std.specs.Option.{option_to_list}
+use Rattle.std.specs.Prelude.{Contains, insert, Option, Some, None}
 use Rattle.std.specs.declared.time.Duration.{Duration}
-use Rattle.farm_room.specs.Waiting.{held, held_by, SendsSome, CutsOldest, Fits, HasTimedOut, IsOverdue, Stay}
+use Rattle.farm_room.specs.Waiting.{held, held_by, AllStay, SendsSome, CutsOldest, Fits, HasTimedOut, IsOverdue, Stay}
 use Rattle.farm_room.specs.declared.connection.Connection.{Connection}
 
 -- ---- what is sent
@@ -89,3 +90,31 @@ stay_same old new same = ([], same ∙ sym (append-nil old))
 pub stay_push : (pushed : Bool) (old row new : List Connection) (one : Connection) → row ≡ old → new ≡ (if pushed then row ++ one ∷ [] else row) → Stay old new
 stay_push true old row new one same is = (one ∷ [], is ∙ ap (λ l. l ++ one ∷ []) same)
 stay_push false old row new one same is = stay_same old new (is ∙ same)
+
+pub stay_then : (old mid new : List Connection) → Stay old mid → Stay mid new → Stay old new
+stay_then old mid new one two = (one.0 ++ two.0, two.1 ∙ ap (λ l. l ++ two.0) one.1 ∙ append_assoc old one.0 two.0)
+
+pub all_of : (old new : List Connection) → Stay old new → AllStay old new
+all_of old new stay one is = subst (λ l. Contains l one) (sym stay.1) (Contains-append_left old stay.0 one is)
+
+pub all_insert : (row new : List Connection) (place : ℕ) (one : Connection) → new ≡ insert row place one → AllStay row new
+all_insert row new place one is other at =
+    let parts = subst (λ l. Contains l other) (sym (take-append-drop place row)) at in
+    subst (λ l. Contains l other) (sym is) (elim (Contains-append_cases (take place row) (drop place row) other parts) [
+      | inl before ↦ Contains-append_left (take place row) (one ∷ drop place row) other before
+      | inr behind ↦ Contains-append_right (take place row) (one ∷ drop place row) other (Contains-append_right (one ∷ []) (drop place row) other behind)
+    ])
+
+contains_one : (first one : Connection) → Contains (first ∷ []) one → first ≡ one
+contains_one first one at = elim (Contains-push_cases [] first one at) [
+  | inl none ↦ absurd (omega (arith, none.1))
+  | inr same ↦ same
+]
+
+-- the first is taken
+pub taken_first : (old new : List Connection) (first : Option Connection) → old ≡ option_to_list first ++ new → (one : Connection) → Contains old one → Contains new one ⊎ (first ≡ Some one)
+taken_first old new None is one at = inl (subst (λ l. Contains l one) is at)
+taken_first old new (Some first) is one at = elim (Contains-append_cases (first ∷ []) new one (subst (λ l. Contains l one) is at)) [
+  | inl before ↦ inr (ap Some (contains_one first one before))
+  | inr behind ↦ inl behind
+]
