@@ -7,10 +7,12 @@ use Rattle.std.proofs.lemmas.List.Sums.{sum_by-append}
 use Rattle.std.proofs.lemmas.List.Elements.{All-push, Contains-append_cases, Contains-append_left, Contains-append_right, Contains-push_cases}
 use Rattle.std.specs.Io.KnownBytes.{Appends}
 use Rattle.std.specs.Option.{option_to_list}
-use Rattle.std.specs.Prelude.{Contains, insert, Option, Some, None}
+use Rattle.std.specs.Prelude.{Contains, insert, Option, Some, None, Result, Ok, Err, OnOk, OnErr}
+use Rattle.std.specs.VecDeque.{deque_items}
 use Rattle.std.specs.declared.time.Duration.{Duration}
-use Rattle.farm_room.specs.Waiting.{held, held_by, AllStay, SendsSome, CutsOldest, Fits, HasTimedOut, IsOverdue, Stay}
+use Rattle.farm_room.specs.Waiting.{held, held_by, AllStay, LosesNobody, PutsAside, SendsSome, CutsOldest, Fits, HasTimedOut, IsOverdue, Stay}
 use Rattle.farm_room.specs.declared.connection.Connection.{Connection}
+use Rattle.farm_room.specs.declared.connections.Connections.{Connections}
 
 -- ---- what is sent
 
@@ -118,3 +120,34 @@ taken_first old new (Some first) is one at = elim (Contains-append_cases (first 
   | inl before ↦ inr (ap Some (contains_one first one before))
   | inr behind ↦ inl behind
 ]
+
+pub all_stay : (old new : List Connection) → new ≡ old → AllStay old new
+all_stay old new same one is = subst (λ l. Contains l one) (sym same) is
+
+pub all_inserted : {A E : Type 0} (result : Result A E) (row new : List Connection) (place : ℕ) (one : Connection) → OnOk result (new ≡ insert row place one) → OnErr result (new ≡ row) → AllStay row new
+all_inserted (Ok it) row new place one put same = all_insert row new place one put
+all_inserted (Err error) row new place one put same = all_stay row new same
+
+pub puts_aside : (old mid new : List Connection) (one : Connection) → mid ≡ old → CutsOldest mid new ⊎ CutsOldest (mid ++ one ∷ []) new → PutsAside old new
+puts_aside old mid new one same cuts = subst (λ row. PutsAside row new) same (elim cuts [
+  | inl before ↦ inr (inl before)
+  | inr with ↦ inr (inr (one, with))
+])
+
+-- ---- nobody is lost, one step after another
+
+loses_then : (old mid new : Connections) → LosesNobody old mid → LosesNobody mid new → LosesNobody old new
+loses_then old mid new one two few = two (subst (λ n. n < 2 ^ 64) (sym (one few)) few) ∙ one few
+
+abbrev pub StayAccepted : Connections → Connections → Type 0
+StayAccepted old new = LosesNobody old new × Stay (deque_items old.ready) (deque_items new.ready)
+
+pub accepted_then : (old mid step new : Connections) → new ≡ step → StayAccepted old mid → LosesNobody mid step → Stay (deque_items mid.ready) (deque_items step.ready) → StayAccepted old new
+accepted_then old mid step new is before all ready =
+    subst (λ it. StayAccepted old it) (sym is) (loses_then old mid step before.0 all, stay_then _ _ _ before.1 ready)
+
+abbrev pub AllWait : Connections → Connections → Type 0
+AllWait old new = LosesNobody old new × AllStay (deque_items old.ready) (deque_items new.ready)
+
+pub waits_then : (old mid new : Connections) → AllWait old mid → AllWait mid new → AllWait old new
+waits_then old mid new one two = (loses_then old mid new one.0 two.0, λ it at. two.1 it (one.1 it at))
