@@ -7,4 +7,4 @@ use Rattle.farm_room.proofs.connections.take_in_more.Goals as goal
 pub returns-clause-ready : goal.returns-clause-ready
 returns-clause-ready c =
     all_inserted c.insert.result (deque_items c.args.ready.now) (deque_items c.insert.new.self) c.partition_point-place.result c.in-Some-remove.connection c.insert.ensures.items
-    (on_err_weaker c.insert.result (λ same. same.items) c.insert.ensures.unchanged)
+    (on_err_weaker c.insert.result (λ same. same.0) c.insert.ensures.unchanged)
