@@ -1,15 +1,18 @@
 -- Who stays in a row, who is cut from its front, and how many bytes wait aside for it.
 use Rattle.std.proofs.Common.{◌≡◌, ℕ, ◌+◌, ◌-◌, ◌^◌, ◌<◌, List, [], ◌∷◌, ◌++◌, length, take, drop, map, min, All, refl, sym, ap, subst, ◌∙◌}
-use Rattle.std.proofs.Common.{append_assoc, arith, Bool, true, false, if◌then◌else◌, append-nil}
+use Rattle.std.proofs.Common.{◌⊎◌, inl, inr, append_assoc, arith, Bool, true, false, if◌then◌else◌, append-nil}
 use Rattle.std.proofs.KnownBytes.{Appends-trans}
 use Rattle.std.proofs.lemmas.List.{same_from_push, take-append-drop, map-append}
 use Rattle.std.proofs.lemmas.List.Sums.{sum_by-append}
-use Rattle.std.proofs.lemmas.List.Elements.{All-push}
+use Rattle.std.proofs.lemmas.List.Elements.{All-push, Contains-append_cases, Contains-append_left, Contains-append_right, Contains-push_cases}
 use Rattle.std.specs.Io.KnownBytes.{Appends}
-use Rattle.std.specs.Prelude.{Option}
+use Rattle.std.specs.Option.{option_to_list}
+use Rattle.std.specs.Prelude.{Contains, insert, Option, Some, None, Result, Ok, Err, OnOk, OnErr}
+use Rattle.std.specs.VecDeque.{deque_items}
 use Rattle.std.specs.declared.time.Duration.{Duration}
-use Rattle.farm_room.specs.Waiting.{held, held_by, SendsSome, Fits, HasTimedOut, IsOverdue, Stay}
+use Rattle.farm_room.specs.Waiting.{held, held_by, AllStay, LosesNobody, PutsAside, SendsSome, CutsOldest, Fits, HasTimedOut, IsOverdue, Stay}
 use Rattle.farm_room.specs.declared.connection.Connection.{Connection}
+use Rattle.farm_room.specs.declared.connections.Connections.{Connections}
 
 -- ---- what is sent
 
@@ -73,3 +76,62 @@ stay_same old new same = ([], same ∙ sym (append-nil old))
 pub stay_push : (pushed : Bool) (old row new : List Connection) (one : Connection) → row ≡ old → new ≡ (if pushed then row ++ one ∷ [] else row) → Stay old new
 stay_push true old row new one same is = (one ∷ [], is ∙ ap (λ l. l ++ one ∷ []) same)
 stay_push false old row new one same is = stay_same old new (is ∙ same)
+
+pub stay_then : (old mid new : List Connection) → Stay old mid → Stay mid new → Stay old new
+stay_then old mid new one two = (one.0 ++ two.0, two.1 ∙ ap (λ l. l ++ two.0) one.1 ∙ append_assoc old one.0 two.0)
+
+pub all_of : (old new : List Connection) → Stay old new → AllStay old new
+all_of old new stay one is = subst (λ l. Contains l one) (sym stay.1) (Contains-append_left old stay.0 one is)
+
+pub all_insert : (row new : List Connection) (place : ℕ) (one : Connection) → new ≡ insert row place one → AllStay row new
+all_insert row new place one is other at =
+    let parts = subst (λ l. Contains l other) (sym (take-append-drop place row)) at in
+    subst (λ l. Contains l other) (sym is) (elim (Contains-append_cases (take place row) (drop place row) other parts) [
+      | inl before ↦ Contains-append_left (take place row) (one ∷ drop place row) other before
+      | inr behind ↦ Contains-append_right (take place row) (one ∷ drop place row) other (Contains-append_right (one ∷ []) (drop place row) other behind)
+    ])
+
+contains_one : (first one : Connection) → Contains (first ∷ []) one → first ≡ one
+contains_one first one at = elim (Contains-push_cases [] first one at) [
+  | inl none ↦ absurd (omega (arith, none.1))
+  | inr same ↦ same
+]
+
+-- the first is taken
+pub taken_first : (old new : List Connection) (first : Option Connection) → old ≡ option_to_list first ++ new → (one : Connection) → Contains old one → Contains new one ⊎ (first ≡ Some one)
+taken_first old new None is one at = inl (subst (λ l. Contains l one) is at)
+taken_first old new (Some first) is one at = elim (Contains-append_cases (first ∷ []) new one (subst (λ l. Contains l one) is at)) [
+  | inl before ↦ inr (ap Some (contains_one first one before))
+  | inr behind ↦ inl behind
+]
+
+pub all_stay : (old new : List Connection) → new ≡ old → AllStay old new
+all_stay old new same one is = subst (λ l. Contains l one) (sym same) is
+
+pub all_inserted : {A E : Type 0} (result : Result A E) (row new : List Connection) (place : ℕ) (one : Connection) → OnOk result (new ≡ insert row place one) → OnErr result (new ≡ row) → AllStay row new
+all_inserted (Ok it) row new place one put same = all_insert row new place one put
+all_inserted (Err error) row new place one put same = all_stay row new same
+
+pub puts_aside : (old mid new : List Connection) (one : Connection) → mid ≡ old → CutsOldest mid new ⊎ CutsOldest (mid ++ one ∷ []) new → PutsAside old new
+puts_aside old mid new one same cuts = subst (λ row. PutsAside row new) same (elim cuts [
+  | inl before ↦ inr (inl before)
+  | inr with ↦ inr (inr (one, with))
+])
+
+-- ---- nobody is lost, one step after another
+
+loses_then : (old mid new : Connections) → LosesNobody old mid → LosesNobody mid new → LosesNobody old new
+loses_then old mid new one two few = two (subst (λ n. n < 2 ^ 64) (sym (one few)) few) ∙ one few
+
+abbrev pub StayAccepted : Connections → Connections → Type 0
+StayAccepted old new = LosesNobody old new × Stay (deque_items old.ready) (deque_items new.ready)
+
+pub accepted_then : (old mid step new : Connections) → new ≡ step → StayAccepted old mid → LosesNobody mid step → Stay (deque_items mid.ready) (deque_items step.ready) → StayAccepted old new
+accepted_then old mid step new is before all ready =
+    subst (λ it. StayAccepted old it) (sym is) (loses_then old mid step before.0 all, stay_then _ _ _ before.1 ready)
+
+abbrev pub AllWait : Connections → Connections → Type 0
+AllWait old new = LosesNobody old new × AllStay (deque_items old.ready) (deque_items new.ready)
+
+pub waits_then : (old mid new : Connections) → AllWait old mid → AllWait mid new → AllWait old new
+waits_then old mid new one two = (loses_then old mid new one.0 two.0, λ it at. two.1 it (one.1 it at))
