@@ -4,10 +4,9 @@ use Rattle.std.proofs.Common.{◌⊎◌, inl, inr, append_assoc, arith, Bool, tr
 use Rattle.std.proofs.KnownBytes.{Appends-trans}
 use Rattle.std.proofs.lemmas.List.{same_from_push, take-append-drop, map-append}
 use Rattle.std.proofs.lemmas.List.Sums.{sum_by-append}
-use Rattle.std.proofs.lemmas.List.Elements.{All-push, Contains-append_cases, Contains-append_left, Contains-append_right, Contains-push_cases}
+use Rattle.std.proofs.lemmas.List.Elements.{All-push, Contains-append_cases, Contains-append_left, Contains-append_right}
 use Rattle.std.specs.Io.KnownBytes.{Appends}
-use Rattle.std.specs.Option.{option_to_list}
-use Rattle.std.specs.Prelude.{Contains, insert, Option, Some, None, Result, Ok, Err, OnOk, OnErr}
+use Rattle.std.specs.Prelude.{Contains, insert, Option, Result, Ok, Err, OnOk, OnErr}
 use Rattle.std.specs.VecDeque.{deque_items}
 use Rattle.std.specs.declared.time.Duration.{Duration}
 use Rattle.farm_room.specs.Waiting.{held, held_by, AllStay, LosesNobody, PutsAside, SendsSome, CutsOldest, Fits, HasTimedOut, IsOverdue, Stay}
@@ -90,20 +89,6 @@ all_insert row new place one is other at =
       | inl before ↦ Contains-append_left (take place row) (one ∷ drop place row) other before
       | inr behind ↦ Contains-append_right (take place row) (one ∷ drop place row) other (Contains-append_right (one ∷ []) (drop place row) other behind)
     ])
-
-contains_one : (first one : Connection) → Contains (first ∷ []) one → first ≡ one
-contains_one first one at = elim (Contains-push_cases [] first one at) [
-  | inl none ↦ absurd (omega (arith, none.1))
-  | inr same ↦ same
-]
-
--- the first is taken
-pub taken_first : (old new : List Connection) (first : Option Connection) → old ≡ option_to_list first ++ new → (one : Connection) → Contains old one → Contains new one ⊎ (first ≡ Some one)
-taken_first old new None is one at = inl (subst (λ l. Contains l one) is at)
-taken_first old new (Some first) is one at = elim (Contains-append_cases (first ∷ []) new one (subst (λ l. Contains l one) is at)) [
-  | inl before ↦ inr (ap Some (contains_one first one before))
-  | inr behind ↦ inl behind
-]
 
 pub all_stay : (old new : List Connection) → new ≡ old → AllStay old new
 all_stay old new same one is = subst (λ l. Contains l one) (sym same) is
