@@ -1,13 +1,12 @@
 -- What is known of the bytes that came stays known once more came, and what a look finds by it.
-use Rattle.std.proofs.Common.{◌≡◌, ℕ, ◌+◌, ◌<◌, ◌≤◌, List, [], ◌++◌, length, take, drop, arith, sym, ap, subst, ◌∙◌, length-append}
+use Rattle.std.proofs.Common.{◌≡◌, ℕ, ◌+◌, ◌<◌, ◌≤◌, List, [], ◌++◌, length, take, arith, sym, subst, ◌∙◌, length-append}
 use Rattle.std.proofs.Common.{refl, Ok, Err, IfOk, IsErr, inl, inr, append-nil}
 use Rattle.std.proofs.KnownBytes.{Consumes-kept, Consumes-nil}
 use Rattle.std.proofs.Math.Logic.{∥∥₁_elim}
 use Rattle.std.proofs.Props.{props}
 use Rattle.std.proofs.lemmas.Grind.{merely}
-use Rattle.std.proofs.lemmas.List.{take-append-le, drop-drop, length-drop, length-take-le}
+use Rattle.std.proofs.lemmas.List.{take-append-le}
 use Rattle.std.proofs.Math.ListN.{get_or-append}
-use Rattle.std.proofs.Math.Seq.{drop-append_seam}
 use Rattle.std.specs.Io.{ReadsAtMost}
 use Rattle.std.specs.Io.KnownBytes.{Consumes, ReadConsumes}
 use Rattle.std.specs.Prelude.{Bool, true, false, if◌then◌else◌, Option, Some, None, Result}
@@ -35,20 +34,6 @@ begins_of_more bytes more whole it = record {
 pub known_of_more : (bytes more : List ℕ) (seen : ℕ) (whole : Option ℕ) → IsKnown bytes seen whole → IsKnown (bytes ++ more) seen whole
 known_of_more bytes more seen None it = (omega (arith, it.0, length-append bytes more), open_of_more bytes more seen it.0 it.1)
 known_of_more bytes more seen (Some whole) it = begins_of_more bytes more whole it
-
--- ---- what was read is the front of what was left
-
-pub left_after : (bytes rest used : List ℕ) (at n : ℕ) → length used ≡ n → drop at bytes ≡ used ++ rest → rest ≡ drop (at + n) bytes
-left_after bytes rest used at n len is =
-    sym (drop-append_seam used rest) ∙ ap (drop (length used)) (sym is) ∙ drop-drop (length used) at bytes ∙ ap (λ k. drop (at + k) bytes) len
-
-pub within_after : (bytes rest used : List ℕ) (at n : ℕ) → at ≤ length bytes → length used ≡ n → drop at bytes ≡ used ++ rest → at + n ≤ length bytes
-within_after bytes rest used at n within len is =
-    omega (arith, within, len, length-drop at bytes, ap length is, length-append used rest)
-
-pub reads_on : (bytes rest buf : List ℕ) (at n : ℕ) → n ≤ length buf → Consumes (Some (drop at bytes)) (Some rest) (take n buf) → Consumes (Some (drop at bytes)) (Some (drop (at + n) bytes)) (take n buf)
-reads_on bytes rest buf at n few is =
-    is ∙ ap (λ l. take n buf ++ l) (left_after bytes rest (take n buf) at n (length-take-le n buf few) is)
 
 pub grown : (ok : Bool) (old came new : List ℕ) (seen : ℕ) (whole : Option ℕ) → new ≡ (if ok then old ++ came else old) → IsKnown old seen whole → IsKnown new seen whole
 grown true old came new seen whole is it = subst (λ l. IsKnown l seen whole) (sym is) (known_of_more old came seen whole it)

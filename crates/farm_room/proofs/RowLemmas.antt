@@ -1,15 +1,17 @@
 -- Who stays in a row, who is cut from its front, and how many bytes wait aside for it.
 use Rattle.std.proofs.Common.{◌≡◌, ℕ, ◌+◌, ◌-◌, ◌^◌, ◌<◌, List, [], ◌∷◌, ◌++◌, length, take, drop, map, min, All, refl, sym, ap, subst, ◌∙◌}
-use Rattle.std.proofs.Common.{append_assoc, length-append, arith, Bool, true, false, if◌then◌else◌, append-nil}
+use Rattle.std.proofs.Common.{◌⊎◌, inl, inr, append_assoc, arith, Bool, true, false, if◌then◌else◌, append-nil}
 use Rattle.std.proofs.KnownBytes.{Appends-trans}
 use Rattle.std.proofs.lemmas.List.{same_from_push, take-append-drop, map-append}
 use Rattle.std.proofs.lemmas.List.Sums.{sum_by-append}
-use Rattle.std.proofs.lemmas.List.Elements.{All-push}
+use Rattle.std.proofs.lemmas.List.Elements.{All-push, Contains-append_cases, Contains-append_left, Contains-append_right}
 use Rattle.std.specs.Io.KnownBytes.{Appends}
-use Rattle.std.specs.Prelude.{Option}
+use Rattle.std.specs.Prelude.{Contains, insert, Option, Result, Ok, Err, OnOk, OnErr}
+use Rattle.std.specs.VecDeque.{deque_items}
 use Rattle.std.specs.declared.time.Duration.{Duration}
-use Rattle.farm_room.specs.Waiting.{held, held_by, SendsSome, CutsOldest, Fits, HasTimedOut, IsOverdue, Stay}
+use Rattle.farm_room.specs.Waiting.{held, held_by, AllStay, LosesNobody, PutsAside, SendsSome, CutsOldest, Fits, HasTimedOut, IsOverdue, Stay}
 use Rattle.farm_room.specs.declared.connection.Connection.{Connection}
+use Rattle.farm_room.specs.declared.connections.Connections.{Connections}
 
 -- ---- what is sent
 
@@ -27,15 +29,6 @@ abbrev pub IsCutting : List Connection → List Connection → Type 0
 IsCutting old new = (cut : List Connection) × (old ≡ cut ++ new)
     × ((before : List Connection) (last : Connection) → cut ≡ before ++ last ∷ [] → Fits (last ∷ new) → ⊥)
 
-pub begins : (row : List Connection) → IsCutting row row
-begins row = (
-  [],
-  refl,
-  λ before last none fits.
-      let long : 0 ≡ length before + 1 = ap length none ∙ length-append before (last ∷ []) in
-      absurd (omega (arith, long)),
-)
-
 -- nobody is left who is too much
 pub some_row : (row : List Connection) → (Fits row → ⊥) → 0 < length row
 some_row [] much = absurd (much (record { few = omega arith; small = omega arith }))
@@ -51,18 +44,11 @@ cuts_one old (first ∷ rest) new is much it = (
       much (subst Fits (ap (λ x. x ∷ new) (sym one) ∙ ap (λ l. first ∷ l) is) fits),
 )
 
-pub cuts_oldest : (old new : List Connection) → Fits new → IsCutting old new → CutsOldest old new
-cuts_oldest old new fits it = record { cut = it.0; parts = it.1; fits = fits; needed = it.2 }
-
 -- ---- whose time is over
 
 -- some were cut from the front, whose time was over
 abbrev pub AreOverdue : Option Duration → List Connection → List Connection → Type 0
 AreOverdue now old new = (cut : List Connection) × (old ≡ cut ++ new) × All (λ one. HasTimedOut now one.since) cut
-
-pub some_cut : (now : Option Duration) (row : List Connection) → IsOverdue now row → 0 < length row
-some_cut now [] is = absurd is
-some_cut now (first ∷ rest) is = omega arith
 
 pub overdue_one : (now : Option Duration) (old row new : List Connection) → new ≡ drop 1 row → IsOverdue now row → AreOverdue now old row → AreOverdue now old new
 overdue_one now old [] new is cut it = absurd cut
@@ -89,3 +75,48 @@ stay_same old new same = ([], same ∙ sym (append-nil old))
 pub stay_push : (pushed : Bool) (old row new : List Connection) (one : Connection) → row ≡ old → new ≡ (if pushed then row ++ one ∷ [] else row) → Stay old new
 stay_push true old row new one same is = (one ∷ [], is ∙ ap (λ l. l ++ one ∷ []) same)
 stay_push false old row new one same is = stay_same old new (is ∙ same)
+
+pub stay_then : (old mid new : List Connection) → Stay old mid → Stay mid new → Stay old new
+stay_then old mid new one two = (one.0 ++ two.0, two.1 ∙ ap (λ l. l ++ two.0) one.1 ∙ append_assoc old one.0 two.0)
+
+pub all_of : (old new : List Connection) → Stay old new → AllStay old new
+all_of old new stay one is = subst (λ l. Contains l one) (sym stay.1) (Contains-append_left old stay.0 one is)
+
+pub all_insert : (row new : List Connection) (place : ℕ) (one : Connection) → new ≡ insert row place one → AllStay row new
+all_insert row new place one is other at =
+    let parts = subst (λ l. Contains l other) (sym (take-append-drop place row)) at in
+    subst (λ l. Contains l other) (sym is) (elim (Contains-append_cases (take place row) (drop place row) other parts) [
+      | inl before ↦ Contains-append_left (take place row) (one ∷ drop place row) other before
+      | inr behind ↦ Contains-append_right (take place row) (one ∷ drop place row) other (Contains-append_right (one ∷ []) (drop place row) other behind)
+    ])
+
+pub all_stay : (old new : List Connection) → new ≡ old → AllStay old new
+all_stay old new same one is = subst (λ l. Contains l one) (sym same) is
+
+pub all_inserted : {A E : Type 0} (result : Result A E) (row new : List Connection) (place : ℕ) (one : Connection) → OnOk result (new ≡ insert row place one) → OnErr result (new ≡ row) → AllStay row new
+all_inserted (Ok it) row new place one put same = all_insert row new place one put
+all_inserted (Err error) row new place one put same = all_stay row new same
+
+pub puts_aside : (old mid new : List Connection) (one : Connection) → mid ≡ old → CutsOldest mid new ⊎ CutsOldest (mid ++ one ∷ []) new → PutsAside old new
+puts_aside old mid new one same cuts = subst (λ row. PutsAside row new) same (elim cuts [
+  | inl before ↦ inr (inl before)
+  | inr with ↦ inr (inr (one, with))
+])
+
+-- ---- nobody is lost, one step after another
+
+loses_then : (old mid new : Connections) → LosesNobody old mid → LosesNobody mid new → LosesNobody old new
+loses_then old mid new one two few = two (subst (λ n. n < 2 ^ 64) (sym (one few)) few) ∙ one few
+
+abbrev pub StayAccepted : Connections → Connections → Type 0
+StayAccepted old new = LosesNobody old new × Stay (deque_items old.ready) (deque_items new.ready)
+
+pub accepted_then : (old mid step new : Connections) → new ≡ step → StayAccepted old mid → LosesNobody mid step → Stay (deque_items mid.ready) (deque_items step.ready) → StayAccepted old new
+accepted_then old mid step new is before all ready =
+    subst (λ it. StayAccepted old it) (sym is) (loses_then old mid step before.0 all, stay_then _ _ _ before.1 ready)
+
+abbrev pub AllWait : Connections → Connections → Type 0
+AllWait old new = LosesNobody old new × AllStay (deque_items old.ready) (deque_items new.ready)
+
+pub waits_then : (old mid new : Connections) → AllWait old mid → AllWait mid new → AllWait old new
+waits_then old mid new one two = (loses_then old mid new one.0 two.0, λ it at. two.1 it (one.1 it at))

@@ -1,7 +1,7 @@
 -- Who waits, for how long, and who is next; what is left of answers, and who is cut where that is
 -- too much. Times are in nanoseconds, those of a clock since its start.
 use Rattle.std.specs.Prelude.{◌≡◌, ◌⊎◌, ◌+◌, ◌-◌, ◌*◌, ◌^◌, ◌<◌, ◌≤◌, ℕ, List, [], ◌∷◌, Option, Some, None, drop, ◌++◌, All, Bool, true, false, IsTrue}
-use Rattle.std.specs.Prelude.{IsSomeAnd, min, nat_lt, if◌then◌else◌, ⊤, length, sum_by}
+use Rattle.std.specs.Prelude.{Contains, IsSomeAnd, min, nat_lt, if◌then◌else◌, ⊤, length, sum_by}
 use Rattle.std.specs.Option.{option_map}
 use Rattle.std.specs.Duration.{as_nanos, max_nanos}
 use Rattle.std.specs.VecDeque.{deque_items, deque_len}
@@ -82,6 +82,15 @@ most_waiting = 1024
 -- those of a row stay, and others may come behind them
 abbrev pub Stay : List Connection → List Connection → Type 0
 Stay old new = (more : List Connection) × (new ≡ old ++ more)
+
+-- all of a row stay, wherever others come
+abbrev pub AllStay : List Connection → List Connection → Type 0
+AllStay old new = (one : Connection) → Contains old one → Contains new one
+
+-- all that were ready are ready still, but for the one that is taken
+abbrev pub TakesReady : Connections → Connections → Option Connection → Type 0
+TakesReady old new result = (one : Connection) → Contains (deque_items old.ready) one
+    → Contains (deque_items new.ready) one ⊎ (result ≡ Some one)
 
 -- where a place is free the incomplete ones stay, and else all but the oldest
 pub record MakesPlace (old new : Connections) : Type 0 where
@@ -173,3 +182,8 @@ pub record CutsOldest (old new : List Connection) : Type 0 where
   pub parts : old ≡ cut ++ new
   pub fits : Fits new
   pub needed : (before : List Connection) (last : Connection) → cut ≡ before ++ last ∷ [] → Fits (last ∷ new) → ⊥
+
+-- one more waits aside or not, and the others as far as they fit
+abbrev pub PutsAside : List Connection → List Connection → Type 0
+PutsAside old new = (new ≡ old) ⊎ (CutsOldest old new
+    ⊎ ((one : Connection) × CutsOldest (old ++ one ∷ []) new))

@@ -5,6 +5,7 @@ ghost use Rattle.std.specs.Prelude.{if◌then◌else◌, IfSome, IsTrue};
 ghost use Rattle.std.specs.Duration.{as_nanos};
 ghost use Rattle.std.specs.Option.{option_map};
 ghost use Rattle.std.specs.VecDeque.{deque_items, deque_len};
+ghost use Rattle.farm_room.specs.Waiting.{AllStay};
 
 use crate::connection::Connection;
 use crate::deadline::{is_shorter, shorter};
@@ -63,7 +64,7 @@ impl Connections {
     ghost use Rattle.farm_room.specs.Waiting.{limit_left, outstanding, pause_left};
     ghost use Rattle.farm_room.specs.Waiting.{shorter, time_of, IsDue, IsOverdue, IsPaused};
     ghost use Rattle.farm_room.specs.Waiting.{IsUntouched, LosesNobody, TakesNext, LetsOldestGo};
-    ghost use Rattle.farm_room.specs.Waiting.{MakesPlace, Refuses, Stay};
+    ghost use Rattle.farm_room.specs.Waiting.{MakesPlace, PutsAside, Refuses, Stay, TakesReady};
 
     /// The first `max` connections of a listener, none of which was accepted yet; none where the
     /// system or the memory refuses what that takes, and then the listener is as it was. `no_memory`
@@ -112,8 +113,11 @@ impl Connections {
         listener: &TcpListener,
         clock: &C,
     ) -> Option<Connection>
-        ensures { outstanding self.old < 2 ^ 64
+        ensures one_fewer { outstanding self.old < 2 ^ 64
             → outstanding self.new ≡ outstanding self.old - 1 }
+
+        // Nobody whose request is there is dropped.
+        ensures ready { TakesReady self.old self.new result }
     {
         let mut now = clock.monotonic().ok();
         for _ in 0..u64::MAX {
@@ -148,7 +152,8 @@ impl Connections {
     /// Lets go the first whose time is over, or else takes the first that is ready, or else one that
     /// was refused.
     fn take_next(&mut self, now: Option<Duration>) -> Option<Connection>
-        ensures { TakesNext now self.old self.new result }
+        ensures next { TakesNext now self.old self.new result }
+        ensures ready { TakesReady self.old self.new result }
     {
         if !is_first_overdue(&self.incomplete, now) {
             if let Some(connection) = self.ready.pop_front() {
@@ -170,6 +175,7 @@ impl Connections {
         // Nobody is accepted for a while once the system has refused to.
         ensures paused { IsPaused now self.old.paused_until → self.new ≡ self.old }
         ensures all { LosesNobody self.old self.new }
+        ensures ready { Stay (deque_items self.old.ready) (deque_items self.new.ready) }
     {
         let times = self.paused_until.zip(now);
         if times.is_some_and(|(until, now)| is_shorter(now, until)) {
@@ -202,6 +208,7 @@ impl Connections {
         requires { 0 < self.old.to_accept }
         ensures all { LosesNobody self.old self.new }
         ensures place { MakesPlace self.old self.new }
+        ensures ready { Stay (deque_items self.old.ready) (deque_items self.new.ready) }
         ensures arrivals { self.new.has_arrivals ≡ self.old.has_arrivals }
     {
         self.to_accept -= 1;
@@ -218,7 +225,8 @@ impl Connections {
     /// and that is returned.
     fn refuse(&mut self, now: Option<Duration>, may_go: bool) -> bool
         requires { 0 < self.old.to_accept }
-        ensures { Refuses now may_go self.old self.new result }
+        ensures refuses { Refuses now may_go self.old self.new result }
+        ensures ready { self.new.ready ≡ self.old.ready }
     {
         self.to_accept -= 1;
         self.refused = self.refused.saturating_add(1);
@@ -232,7 +240,8 @@ impl Connections {
 
     /// Closes the oldest incomplete connection, and counts it as refused; none where there is none.
     fn let_oldest_go(&mut self) -> bool
-        ensures { LetsOldestGo self.old self.new result }
+        ensures oldest { LetsOldestGo self.old self.new result }
+        ensures ready { self.new.ready ≡ self.old.ready }
     {
         if self.incomplete.is_empty() {
             return false;
@@ -250,6 +259,7 @@ impl Connections {
         ensures number { IfSome result (λ _. self.old.numbered + 1 < 2 ^ 64
             → self.new.numbered ≡ self.old.numbered + 1) }
         ensures others { Stay (deque_items self.old.incomplete) (deque_items self.new.incomplete) }
+        ensures ready { Stay (deque_items self.old.ready) (deque_items self.new.ready) }
         ensures arrivals { self.new.has_arrivals ≡ self.old.has_arrivals }
     {
         stream.set_nonblocking(true).ok()?;
@@ -275,6 +285,8 @@ impl Connections {
             → self.new.numbered ≡ self.old.numbered + 1 }
         ensures all { outstanding self.new ≡ outstanding self.old }
         ensures incomplete { self.new.incomplete ≡ self.old.incomplete }
+        ensures ready { self.new.ready ≡ self.old.ready }
+        ensures leaving { self.new.leaving ≡ self.old.leaving }
         ensures arrivals { self.new.has_arrivals ≡ self.old.has_arrivals }
         ensures result { result ≡ self.old.numbered }
     {
@@ -286,7 +298,10 @@ impl Connections {
     /// Sends an answer as far as its client takes it at once, and closes the connection; what is left
     /// waits aside, where the system lets it.
     pub fn send<C: Clock>(&mut self, mut connection: Connection, clock: &C)
-        ensures { outstanding self.new ≡ outstanding self.old }
+        ensures all { outstanding self.new ≡ outstanding self.old }
+        ensures incomplete { self.new.incomplete ≡ self.old.incomplete }
+        ensures ready { self.new.ready ≡ self.old.ready }
+        ensures aside { PutsAside (deque_items self.old.leaving) (deque_items self.new.leaving) }
     {
         if !connection.send() {
             connection.shut_down();
@@ -325,7 +340,8 @@ impl Connections {
     /// Waits so long at most until bytes, room for bytes or connections came, takes in what came,
     /// and sends what waits aside.
     fn poll_events(&mut self, until: Option<Duration>)
-        ensures { LosesNobody self.old self.new }
+        ensures all { LosesNobody self.old self.new }
+        ensures ready { AllStay (deque_items self.old.ready) (deque_items self.new.ready) }
     {
         if self.poll.poll(&mut self.events, until).is_err() {
             return;
@@ -386,8 +402,9 @@ fn take_in_more(
     incomplete: &mut VecDeque<Connection>,
     ready: &mut VecDeque<Connection>,
 ) -> u64
-    ensures { deque_len incomplete.new + deque_len ready.new + result
+    ensures all { deque_len incomplete.new + deque_len ready.new + result
         ≡ deque_len incomplete.old + deque_len ready.old }
+    ensures ready { AllStay (deque_items ready.old) (deque_items ready.new) }
 {
     let number = event.token().0;
     let is_over = event.is_read_closed() || event.is_error();
