@@ -88,7 +88,7 @@ exec /usr/bin/python3 -m pytest -q -p no:cacheprovider test_work.py
 """
 # All that a job is told of its account's name; of accounts of systemd's there is no other.
 NAMES = """id -un; getent passwd $(id -u) $(id -un); getent group $(id -g) $(id -gn); getent passwd | grep ':Dynamic User:'
-touch own; stat -c '%U %G' own; ssh -G board | grep '^user '; echo told; while [ ! -e go ]; do sleep 0.1; done"""
+touch own; stat -c '%U %G' own; ssh -TG board | grep '^user '; echo told; while [ ! -e go ]; do sleep 0.1; done"""
 # What an account has no use for; without privileges the kernel alone answers EPERM to a packet socket.
 SHUT = """unshare -U true 2> /dev/null || echo no namespace
 grep -E "Seccomp:|NoNewPrivs:|CapBnd:" /proc/self/status
