@@ -86,6 +86,9 @@ def test_machine_s_processors_and_networks():
 END
 exec /usr/bin/python3 -m pytest -q -p no:cacheprovider test_work.py
 """
+# All that a job is told of its account's name; of accounts of systemd's there is no other.
+NAMES = """id -un; getent passwd $(id -u) $(id -un); getent group $(id -g) $(id -gn); getent passwd | grep ':Dynamic User:'
+touch own; stat -c '%U %G' own; ssh -TG board | grep '^user '; echo told; while [ ! -e go ]; do sleep 0.1; done"""
 # What an account has no use for; without privileges the kernel alone answers EPERM to a packet socket.
 SHUT = """unshare -U true 2> /dev/null || echo no namespace
 grep -E "Seccomp:|NoNewPrivs:|CapBnd:" /proc/self/status
@@ -306,14 +309,29 @@ def test_a_jobs_folder_is_gone_soon_after_it(lab: MachineLab) -> None:
 
 
 def test_a_job_doesnt_reach_systemds_socket_of_notes(lab: MachineLab) -> None:
-    """Nor its other ones, of which it reads what comes in the place of starting and ending units; names and the journal are
-    there."""
+    """Nor its other ones, of which it reads what comes in the place of starting and ending units; the journal is there."""
     said = lab.ran("""python3 -c "
 import socket
 for name, kind in (('notify', socket.SOCK_DGRAM), ('io.system.ManagedOOM', socket.SOCK_STREAM), ('private', socket.SOCK_STREAM)):
     print(socket.socket(socket.AF_UNIX, kind).connect_ex('/run/systemd/' + name))"
-getent passwd $(id -u) | cut -d : -f 6; logger said && echo logged""")
-    assert said.split() == [str(errno.EACCES)] * 3 + ["/", "logged"]
+ls -A /run/systemd/userdb; logger said && echo logged""")
+    assert said.split() == [str(errno.EACCES)] * 3 + ["logged"]
+
+
+def test_a_job_has_its_accounts_name_and_no_other_jobs(lab: MachineLab) -> None:
+    """As systemd tells it on the machine itself; without a name ssh would connect nowhere."""
+    wants("ssh")
+    numbers, names = [lab.submit(NAMES) for _ in range(2)], set()
+    for number in numbers:
+        lab.said(number, "told")
+        name, *said = lab.log(number).splitlines()
+        user, group = [lab.machine.run("getent", it, name).stdout.strip() for it in ("passwd", "group")]
+        assert said == [user, user, group, group, user, f"{name} {name}", f"user {name}", "told"] and user.startswith(name)
+        names.add(name)
+    assert len(names) == 2
+    for number in numbers:
+        lab.machine.run("touch", lab.folder(number, "go"))
+        assert lab.finished(number) == "Complete"
 
 
 def test_a_job_that_an_admin_ends_by_its_unit_is_infra(lab: MachineLab) -> None:

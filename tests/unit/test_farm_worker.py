@@ -2,6 +2,7 @@
 from __future__ import annotations
 
 import contextlib
+import json
 import os
 import pathlib
 import signal
@@ -43,7 +44,8 @@ class Worker:
 
     def unit(self, verb: str, **more: str) -> int:
         """What the unit itself calls, before and behind its command, as systemd.exec(5) says it."""
-        more = {"INVOCATION_ID": "i1", "SERVICE_RESULT": "success", **more}
+        more = {"INVOCATION_ID": "i1", "SERVICE_RESULT": "success", "USER": "_du1", **more}
+        (self.place / "lib" / "farm-job" / UNIT).mkdir(parents=True, exist_ok=True)
         words = ["sh", str(self.script), verb, UNIT]
         return subprocess.run(words, env={**os.environ, **more}, capture_output=True, timeout=60, check=False).returncode
 
@@ -86,7 +88,7 @@ def test_how_it_ended_is_told_after_it_was_forgotten(worker: Worker) -> None:
     worker.begin(FILES)
     assert worker.unit("pre") == 0 and worker.unit("pre") != 0
     assert worker.unit("post", EXIT_CODE="exited", EXIT_STATUS="0") == 0
-    assert sorted(os.listdir(worker.run / "in" / UNIT)) == ["env", "limits"]
+    assert sorted(os.listdir(worker.run / "in" / UNIT)) == ["env", "limits", "names"]
     ends = [f"begun {UNIT} i1", f"ended {UNIT} success exited 0"]
     assert worker.rows() == [f"marks {UNIT}", *ends]
     (worker.place / "loaded").touch()
@@ -152,6 +154,18 @@ def test_files_of_a_job_are_its_own(worker: Worker) -> None:
     modes = {it: (worker.run / "in" / UNIT / it).stat().st_mode & 0o777 for it in ("", "env", "job.toml")}
     assert modes == {"": 0o700, "env": 0o600, "job.toml": 0o644}
     assert (worker.run / "in").stat().st_mode & 0o777 == 0o711
+
+
+def test_the_names_of_its_account_are_there_for_it(worker: Worker) -> None:
+    """Also where a lab's drop-in has another umask."""
+    worker.begin(FILES)
+    before = os.umask(0o077)
+    assert worker.unit("pre") == 0
+    os.umask(before)
+    names, own = worker.run / "in" / UNIT / "names", (worker.place / "lib" / "farm-job" / UNIT).stat()
+    read = {it.name: json.loads(it.read_text()) for it in names.iterdir() if it.stat().st_mode & 0o777 == 0o644}
+    assert read["_du1.user"] == read[f"{own.st_uid}.user"] and read["_du1.group"] == read[f"{own.st_gid}.group"]
+    assert (read["_du1.user"]["uid"], read["_du1.group"]["gid"]) == (own.st_uid, own.st_gid) and len(read) == 4
 
 
 def test_a_look_of_which_a_part_is_killed_is_no_answer(worker: Worker) -> None:
