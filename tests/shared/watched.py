@@ -24,7 +24,7 @@ HOUR = 3600
 SLOW = re.compile(r"farm-watch: (no answer from the desk at \S+: timed out|it goes on)\n")
 BOARDS: Sequence[Board] = [("b1", "bbb", ["hdmi"]), ("b2", "bbb", []), ("b3", "ccc", [])]
 SENDMAIL = """#!/bin/sh
-# A sendmail that keeps what it is given, or refuses it, or kills a process then.
+# A sendmail that keeps what it is given, or refuses it.
 set -e
 here=$(dirname "$0")
 new=$(mktemp "$here/new.XXXXXX")
@@ -36,9 +36,6 @@ if [ -e "$here/refuse" ]; then
     exit 75
 fi
 mv "$new" "$here/mail.${new##*.}"
-if mv "$here/kill" "$here/killing" 2> /dev/null; then
-    kill -9 "$(cat "$here/killing")" || :
-fi
 """
 
 
@@ -74,15 +71,6 @@ class Mailbox:
             write(self.folder, "refuse", "")
         else:
             os.unlink(os.path.join(self.folder, "refuse"))
-
-    def kill(self, process: Optional[int]) -> None:
-        """Lets it kill this process once it has taken a mail; None lets it kill nobody."""
-        if process is not None:
-            os.replace(write(self.folder, "to-kill", str(process)),
-                       os.path.join(self.folder, "kill"))
-        else:
-            with contextlib.suppress(FileNotFoundError):
-                os.unlink(os.path.join(self.folder, "kill"))
 
     def texts(self, kind: str = "mail") -> List[str]:
         """What was brought, each time. (A file has its name once it is whole, and isn't read again.)"""
@@ -120,7 +108,6 @@ class Hook:
     def __init__(self) -> None:
         self.posted: List[Tuple[str, Dict[str, str], bytes]] = []
         self.answer = 200
-        self.to_kill: Optional[int] = None
         hook = self
 
         class Handler(http.server.BaseHTTPRequestHandler):
@@ -139,9 +126,6 @@ class Hook:
     def take(self, handler: http.server.BaseHTTPRequestHandler, body: bytes) -> None:
         if self.answer == 200:
             self.posted.append((handler.path, dict(handler.headers.items()), body))
-        if self.to_kill is not None:
-            process, self.to_kill = self.to_kill, None
-            os.kill(process, signal.SIGKILL)
         reply(handler, self.answer, b"")
 
     def messages(self) -> List[Any]:
