@@ -207,16 +207,3 @@ def test_a_job_s_console_ends_as_it_is_told_and_with_who_reads_it(lab: Lab) -> N
     ran = lab.try_words(lab.job(number, "/bin/sh", "-c", f"{told}; {begins} | head -c 9 > /dev/null; echo ended"))
     assert ran.output.split() == [b"=4", b"ended"]
     assert until(lambda: not lab.units("b2")) < 60
-
-
-def test_what_a_job_left_is_out_before_the_next_one_s_first_byte(lab: Lab) -> None:
-    number = lab.submit("b2")
-    line = lab.begun(*lab.job(number, *WAY, "b2", "nasty", "JOBS", "0.01"))
-    until(lambda: lab.text("b2").endswith(b"JOBS"))
-    lab.finish(number)
-    lab.reserve("ann", "b2")
-    lab.begin("ann", "b2", "nasty", "ann", "0.01")
-    until(lambda: lab.text("b2").endswith(b"ann"))
-    said = lab.text("b2")
-    assert not said[said.index(b"ann"):].strip(b"an")
-    assert line.wait(60)

@@ -1,5 +1,6 @@
 """Copies of a farm, by farm-backup: beside a stream of commands and a desk that is killed (SIGKILL) and
-started again, of files that move, that are damaged or that are no farm; and of copies that are too many."""
+started again, of files that are damaged or that are no farm; and of copies that are too many. (unit/backup/: of files that
+move.)"""
 from __future__ import annotations
 
 import contextlib
@@ -11,22 +12,19 @@ import shutil
 import sqlite3
 import subprocess
 import sys
-import tempfile
 import time
-from typing import Callable, List, Tuple
+from typing import Callable, List
 
 import pytest
 from desks import write
 from recorded import recorded, synced
-from served import PATIENCE, TOOLS, TOP, Board, Farm, environment, read, wait_until
-from streamed import (
-    FIRST, Kills, Salts, Stream, Worker, backup, demand_prefix, quiet_farm, still_farm, words_of
-)
+from served import TOOLS, TOP, Board, Farm, environment, read
+from streamed import FIRST, Kills, Salts, Stream, backup, demand_prefix, quiet_farm, still_farm, words_of
 
 Made = Callable[..., Farm]
 BOARDS: List[Board] = [("b1", "bbb", [])]
 IS_FULL = os.environ.get("FARM_FULL") == "1"  # an hour of copies, on a busy machine of four processors
-FARMS, COPIES, MOVED = (20, 50, 200) if IS_FULL else (2, 12, 10)
+FARMS, COPIES = (20, 50) if IS_FULL else (2, 12)
 BESIDE = 40  # commands beside one copy at most, so that a slow machine's farm doesn't grow for ever
 CARRIED = 3  # so often at least each farm's log begins anew beside its copies
 
@@ -62,65 +60,6 @@ def test_each_copy_has_a_prefix_of_the_commands_with_all_that_were_answered(
         it.end()
     assert len(salts.seen) > CARRIED, "how often the log began anew"
     assert len([it for it in os.listdir(folder) if it.startswith("farm-")]) == 2, "what is kept"
-
-
-class Carries(Worker):
-    """SQLite as the desk: in bursts it changes two rows in turn, which lie on two pages, and carries each change into
-    the file before the next, so that the log begins anew."""
-
-    CLOCK = 2_000_000_000
-    TURNS = ["update boards set jobs_since = ?", "update meta set value = ? + 2000000000 where name = 'clock'"]
-
-    def __init__(self, db: str, chance: random.Random):
-        self.db = db
-        self.chance = chance
-        self.turn = 0
-        super().__init__()
-
-    def run(self) -> None:
-        with contextlib.closing(sqlite3.connect(self.db, isolation_level=None)) as conn:
-            conn.execute("pragma synchronous = off")
-            while not self.is_over:
-                until = time.monotonic() + self.chance.uniform(0, 0.4)
-                while time.monotonic() < until:
-                    self.turn += 1
-                    conn.execute(self.TURNS[self.turn % 2], (self.turn,))
-                    conn.execute("pragma wal_checkpoint(restart)")
-                time.sleep(self.chance.uniform(0, 0.4))
-
-
-def turns_in(db: str) -> Tuple[int, int]:
-    """The turns of the two rows in a copy."""
-    with tempfile.TemporaryDirectory() as place:
-        for end in ("", "-wal"):
-            shutil.copy(db + end, f"{place}/farm.db{end}")
-        with contextlib.closing(sqlite3.connect(f"{place}/farm.db")) as conn:
-            board = conn.execute("select jobs_since from boards").fetchone()[0]
-            clock = conn.execute("select value from meta where name = 'clock'").fetchone()[0]
-    return board, clock - Carries.CLOCK
-
-
-@pytest.mark.slow(30)
-@pytest.mark.timeout(2400)
-def test_copies_of_files_that_move_are_the_farm_of_a_moment(make_farm: Made, folder: str) -> None:
-    """Each is made again until they stood still, and never has one row without the other's turn before."""
-    farm = make_farm(BOARDS)
-    still_farm(farm)
-    carries = Carries(farm.db, random.Random(20261126))
-    wait_until("turns", lambda: carries.turn > 2)
-    made = again = 0
-    until = time.monotonic() + 300
-    while made < MOVED or not again and time.monotonic() < until:
-        status, said, errors = backup(farm, folder, "--keep", "1", "--verbose")
-        again += errors.count("copied again: ")
-        if status:
-            assert "no copy within 50 s: " in errors
-            continue
-        made += 1
-        board, clock = turns_in(f"{said.strip()}/farm.db")
-        assert abs(board - clock) == 1
-    carries.end()
-    assert again, "no copy was made again"
 
 
 # ---- one copy
@@ -360,42 +299,3 @@ def test_a_copy_to_look_at_overwrites_nothing(make_farm: Made, folder: str, take
     wanted = f"farm-backup: {folder}/{taken} is there: a copy overwrites nothing\n"
     assert backup(make_farm(), "--now", "--to", f"{folder}/now.db") == (4, "", wanted)
     assert (os.listdir(folder), read(f"{folder}/{taken}")) == ([taken], "kept")
-
-
-# ---- a farm that grows fast
-
-
-@pytest.mark.slow(30)
-def test_a_farm_that_grows_fast_is_copied(make_farm: Made, folder: str) -> None:
-    """Some hundred jobs of 60 kB a second: its log begins anew some times a second, so its file never stands still for as
-    long as a disk takes to have a copy."""
-    farm = make_farm(BOARDS)
-    text = f"job_name = 'boot'\ndevice_type = 'bbb'\n# {'x' * 60000}".encode()
-
-    class Sender(Worker):
-        def step(self) -> None:
-            farm.tell("ann", "/jobs", text)
-            time.sleep(0.01)
-
-    salts = Salts(f"{farm.db}-wal")
-    senders = [Sender() for _ in range(2)]
-    wait_until("a large farm", lambda: os.path.getsize(farm.db) > 30 << 20, 300)
-    made, turned, until = 0, 0, time.monotonic() + PATIENCE
-    while made < 3 or (not turned and time.monotonic() < until):
-        before, turns = farm.look("/status")["count"], len(salts.seen)
-        status, said, errors = backup(farm, f"{folder}/copies", "--verbose")
-        assert (status, errors.count("no copy")) == (0, 0)
-        assert count_in(f"{said.strip()}/farm.db") >= before
-        made, turned = made + 1, turned + (len(salts.seen) > turns)
-    assert turned, "its log began anew while a copy was made"
-    for it in (*senders, salts):
-        it.end()
-
-
-def count_in(db: str) -> int:
-    with tempfile.TemporaryDirectory() as place:
-        for end in ("", "-wal"):
-            shutil.copy(db + end, f"{place}/farm.db{end}")
-        with contextlib.closing(sqlite3.connect(f"{place}/farm.db")) as conn:
-            assert conn.execute("pragma integrity_check").fetchall() == [("ok",)]
-            return int(conn.execute("select value from meta where name = 'count'").fetchone()[0])

@@ -79,17 +79,9 @@ def dispatcher(site: Site, start_tool: Callable[..., Tool]) -> Tool:
     return start_tool(*words, **site.settings("dispatcher", "DISPATCH"))
 
 
-def test_the_dispatcher_runs_a_job_from_behind_the_proxy(
-    farm: Farm, site: Site, start_tool: Callable[..., Tool]
-) -> None:
-    number = farm.submit("true")
-    dispatcher(site, start_tool)
-    wait_until("the job is Complete", lambda: bool(farm.job(number)["result"] == "Complete"))
-
-
 @pytest.fixture
 def kept(farm: Farm, site: Site, start_tool: Callable[..., Tool]) -> str:
-    """The dispatcher's folder, which has the history and the log of job 1."""
+    """The dispatcher's folder, which has the history and the log of job 1: it ran it from behind the proxy."""
     number = farm.submit("true")
     tool = dispatcher(site, start_tool)
     folder = f"{site.folder}/dispatch"
@@ -213,14 +205,12 @@ def test_the_client_finds_what_a_job_left_beside_the_desk(kept: str, site: Site)
     to = f"{site.folder}/to"
     assert site.desk("artifacts", "1", "--to", to) == (0, f"{to}/a/\xe4 b\n", "")
     assert read(f"{to}/a/\xe4 b") == "said\n"
-    for text, told in (("much more than said\n", "more than 5 bytes"), ("cut", "was cut")):
-        write(f"{kept}/artifacts/1", "1", text, 0o644)
-        status, _, errors = site.desk("artifacts", "1", "a/\xe4 b", "--to", f"{to}2")
-        assert status == 4 and told in errors and not os.path.exists(f"{to}2/a/\xe4 b")
-    for name in ("../up", "/etc/x", "a/../../up"):
-        write(f"{kept}/artifacts/1", "index.json", json.dumps({**index, "files": [{"number": 1, "name": name, "size": 3}]}), 0o644)
-        status, said, errors = site.desk("artifacts", "1", "--to", f"{to}3")
-        assert (status, said) == (4, "") and "names what is no artifact" in errors and not os.path.exists(f"{to}3"), name
+    write(f"{kept}/artifacts/1", "1", "cut", 0o644)
+    status, _, errors = site.desk("artifacts", "1", "a/\xe4 b", "--to", f"{to}2")
+    assert status == 4 and "was cut" in errors and not os.path.exists(f"{to}2/a/\xe4 b")
+    write(f"{kept}/artifacts/1", "index.json", json.dumps({**index, "files": [{"number": 1, "name": "../up", "size": 3}]}), 0o644)
+    status, said, errors = site.desk("artifacts", "1", "--to", f"{to}3")
+    assert (status, said) == (4, "") and "names what is no artifact" in errors and not os.path.exists(f"{to}3")
 
 
 def test_the_client_follows_a_log_from_before_it_is_there(

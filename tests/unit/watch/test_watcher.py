@@ -474,22 +474,29 @@ def test_killed_while_it_ends_a_hold_the_next_process_tells_its_own_end(lab: Lab
 
 
 def told_over_a_kill(lab: Lab, count: int, file: str) -> bool:
-    """Watches and tells in a child, which is killed at the statement of SQLite's with this count. Returns whether it was."""
+    """Watches and tells in a child, which is killed at its place of this count: each statement that its SQLite begins, and
+    each message before and behind its telling. Returns whether it was."""
+    def place(_: object = None) -> None:
+        if not child and next(left) == count:
+            os.kill(os.getpid(), signal.SIGKILL)
+
+    def notes(it: Delivery) -> str:
+        place()
+        with open(file, "a", encoding="utf-8") as opened:
+            opened.write(f"{it.ident} {it.body}\n")
+        place()
+        return "ann"
+
+    def connect(*words: Any, **more: Any) -> sqlite3.Connection:
+        line = plain(*words, **more)
+        line.set_trace_callback(place)
+        return line
+
     def tells() -> None:
         lab.watches(**ALL, remind=4 * HOUR)
         teller = watch_tell.Messenger(lab.store, "mail", notes, lab.troubles.append)
         while teller._one():
             pass
-
-    def notes(it: Delivery) -> str:
-        with open(file, "a", encoding="utf-8") as opened:
-            opened.write(f"{it.ident} {it.body}\n")
-        return "ann"
-
-    def connect(*words: Any, **more: Any) -> sqlite3.Connection:
-        line = plain(*words, **more)
-        line.set_trace_callback(lambda _: os.kill(os.getpid(), signal.SIGKILL) if next(left) == count else None)
-        return line
 
     plain, left, child = sqlite3.connect, itertools.count(1), os.fork()
     if child:
@@ -503,7 +510,7 @@ def told_over_a_kill(lab: Lab, count: int, file: str) -> bool:
         os._exit(0)
 
 
-def test_killed_at_any_statement_it_tells_each_event_once(lab: Lab) -> None:
+def test_killed_anywhere_it_tells_each_event_once(lab: Lab) -> None:
     """The end of a job, and a reminder; what comes again has its id, by which it is dropped, and is the same to the byte."""
     file, wanted = f"{lab.file}.told", []
     for count in itertools.count(1):
