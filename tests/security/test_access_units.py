@@ -102,7 +102,7 @@ def test_from_within_a_hold_nothing_else_is_reached(lab: Lab) -> None:
 
 
 def test_a_job_writes_to_no_board_that_somebody_else_holds(lab: Lab) -> None:
-    """Also where its unit has all devices of the machine in sight. (access_handovers.py --reach makes hundreds.)"""
+    """Also where its unit has all devices of the machine in sight."""
     lab.reserve("ann", "b1")
     number, before = lab.submit("b2"), lab.text("b1")
     for script, refused in OUT_OF_A_JOB:

@@ -504,7 +504,7 @@ def test_handovers_under_kills_mix_no_bytes_and_without_a_take_they_do(program: 
     """A few, by the script that makes hundreds; on a busy machine ends take longer than on an idle one. (Where nobody
     cleans up behind others what a hold left writes on.)"""
     script = os.path.join(os.path.dirname(os.path.abspath(__file__)), "access_handovers.py")
-    more = ["--without", without, "--kills", "none,STOP ssh"] if without else ["--reach", "3"]
+    more = ["--without", without, "--kills", "none,STOP ssh"] if without else []
     words = [sys.executable, script, "--farm", program, "--within", "30", *more, "9"]
     ran = subprocess.run(words, capture_output=True, text=True, check=False)
     assert ran.returncode == (1 if without else 0), ran.stdout + ran.stderr
