@@ -5,17 +5,16 @@ import contextlib
 import email
 import email.message
 import email.policy
-import http.client
 import http.server
 import json
 import os
 import re
 import signal
-import subprocess
 import tempfile
 import threading
 from typing import Any, Callable, Dict, Iterator, List, Optional, Sequence, Tuple
 
+from answering import Proxy
 from desks import write
 from served import Board, Farm, Tool, read, wait_until
 
@@ -144,32 +143,15 @@ class Hook:
         )
 
 
-class Door:
+class Door(Proxy):
     """What stands in front of a desk, and counts the looks."""
 
     def __init__(self, farm: Farm):
         self.looks = 0
-        door = self
+        super().__init__(farm, self.count)
 
-        class Handler(http.server.BaseHTTPRequestHandler):
-            def do_GET(self) -> None:
-                door.pass_on(self, farm)
-
-            do_POST = do_GET
-
-            def log_message(self, *_: object) -> None:
-                pass
-
-        self.server = http.server.ThreadingHTTPServer(("127.0.0.1", 0), Handler)
-        self.server.daemon_threads = True
-        self.address = f"http://127.0.0.1:{self.server.server_port}"
-        threading.Thread(target=self.server.serve_forever, daemon=True).start()
-
-    def pass_on(self, handler: http.server.BaseHTTPRequestHandler, farm: Farm) -> None:
-        self.looks += handler.path == "/status"
-        with contextlib.suppress(OSError, http.client.HTTPException):  # no desk is there
-            status, said = farm.ask(handler.headers["x-user"], handler.command, handler.path, key=handler.headers["x-key"])
-            reply(handler, status, json.dumps(said).encode())
+    def count(self, method: str, path: str, key: Optional[str]) -> None:
+        self.looks += path == "/status"
 
 
 class Watched:
@@ -188,7 +170,7 @@ class Watched:
 
     def write_rules(self, rules: str, mail: bool = True, hook: bool = True) -> None:
         heads = [
-            f"[desk]\nserver = '{self.door.address}'\n",
+            f"[desk]\nserver = '{self.door.server}'\n",
             "[mail]\nfrom = 'farm@lab.example'\nto = '{owner}@lab.example'\n"
             f"admin = 'lab@lab.example'\nsendmail = '{self.mailbox.sendmail}'\n" if mail else "",
             f"[webhook]\nurl = '{self.hook.url}'\n" if hook else "",
@@ -222,7 +204,7 @@ class Watched:
         if hasattr(self, "tool") and self.tool.process.poll() is None:
             self.stop()
         self.farm.kill()
-        for it in (self.door.server, self.hook.server):
+        for it in (self.door.served, self.hook.server):
             it.shutdown()
             it.server_close()
 
@@ -264,29 +246,17 @@ class Watched:
         self.farm.kill()
         numbers: List[int] = []
         first = moments[0][0]
-        self.at(first, "admin", "/types", {"name": "old"})
+        self.farm.tell_at(first, "admin", "/types", {"name": "old"})
         for _, _, board in moments:
-            self.at(first, "admin", "/boards", {"name": board, "type": "old"})
-            self.at(first, "admin", f"/boards/{board}/health", {"health": "Good"})
+            self.farm.tell_at(first, "admin", "/boards", {"name": board, "type": "old"})
+            self.farm.tell_at(first, "admin", f"/boards/{board}/health", {"health": "Good"})
         for moment, user, board in moments:
-            number = self.at(moment, user, "/reservations", {"tags": [f"name={board}"]})["number"]
-            self.at(moment, "dispatcher", "/pass")
-            self.at(moment, user, f"/reservations/{number}/acquire")
+            number = self.farm.tell_at(moment, user, "/reservations", {"tags": [f"name={board}"]})["number"]
+            self.farm.tell_at(moment, "dispatcher", "/pass")
+            self.farm.tell_at(moment, user, f"/reservations/{number}/acquire")
             numbers.append(number)
         self.farm.start()
         return numbers
-
-    def at(self, moment: float, user: str, path: str, said: Any = None) -> Any:
-        """Gives the farm, which isn't served, a command at a moment."""
-        body = b"" if said is None else json.dumps(said).encode()
-        head = f"POST {path} HTTP/1.1\r\nx-user: {user}\r\ncontent-length: {len(body)}\r\n\r\n"
-        ran = subprocess.run(
-            [self.farm.program, "once", "--db", self.farm.db, "--at", str(int(moment))],
-            input=head.encode() + body,
-            check=True,
-            capture_output=True,
-        )
-        return json.loads(ran.stdout.partition(b"\r\n\r\n")[2])
 
 
 Labs = Callable[..., Watched]

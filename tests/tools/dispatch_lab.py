@@ -1,8 +1,6 @@
 """A served farm with a folder for its dispatchers, for the tests of farm-dispatch."""
 from __future__ import annotations
 
-import http.client
-import http.server
 import json
 import os
 import pathlib
@@ -11,9 +9,8 @@ import signal
 import subprocess
 import sys
 import tempfile
-import threading
 import time
-from typing import Any, Callable, Dict, Iterator, List, Optional, Sequence, Tuple
+from typing import Any, Callable, Dict, Iterator, List, Sequence
 
 import pytest
 from served import MODULES, PATIENCE, STARTED, Board, Farm, Tool, environment, read, wait_until
@@ -239,42 +236,6 @@ def end_commands(place: str) -> None:
                 os.kill(int(name), signal.SIGKILL)
             except ProcessLookupError:
                 pass
-
-
-Hook = Callable[[str, str, Optional[str]], Optional[Tuple[int, bytes]]]
-
-
-class Proxy:
-    """Stands between a dispatcher and the desk; the hook is given method, path and key, and may wait,
-    do something first, or give an answer of its own."""
-
-    def __init__(self, farm: Farm, hook: Hook = lambda method, path, key: None):
-        class Handler(http.server.BaseHTTPRequestHandler):
-            def log_message(self, format: str, *words: Any) -> None:
-                pass
-
-            def do(self) -> None:
-                body = self.rfile.read(int(self.headers.get("content-length") or 0))
-                said = hook(self.command, self.path, self.headers.get("x-key"))
-                try:
-                    if said is None:
-                        line = http.client.HTTPConnection("127.0.0.1", farm.port, timeout=60)
-                        fields = {it: self.headers[it] for it in ("x-user", "x-key") if it in self.headers}
-                        line.request(self.command, self.path, body or None, fields)
-                        answer = line.getresponse()
-                        said = answer.status, answer.read()
-                    self.send_response(said[0])
-                    self.send_header("content-length", str(len(said[1])))
-                    self.end_headers()
-                    self.wfile.write(said[1])
-                except (OSError, http.client.HTTPException):
-                    pass  # the desk or the dispatcher was killed
-
-            do_GET = do_POST = do
-
-        self.served = http.server.ThreadingHTTPServer(("127.0.0.1", 0), Handler)
-        threading.Thread(target=self.served.serve_forever, daemon=True).start()
-        self.server = f"http://127.0.0.1:{self.served.server_port}"
 
 
 # ---- the history

@@ -240,10 +240,7 @@ def test_keep_leaves_what_isnt_an_earlier_copy_of_the_same_farm(make_farm: Made,
 def once(farm: Farm) -> None:
     """A command for a farm that isn't served."""
     key = time.monotonic_ns()
-    body = f'{{"name":"t{key}"}}'
-    head = f"POST /types HTTP/1.1\r\nx-user: admin\r\nx-key: {key}\r\ncontent-length: {len(body)}\r\n\r\n"
-    words = [farm.program, "once", "--db", farm.db, "--at", f"{time.time():.0f}"]
-    assert "200 OK" in subprocess.run(words, input=head + body, capture_output=True, check=True, text=True).stdout
+    farm.tell_at(time.time(), "admin", "/types", {"name": f"t{key}"}, str(key))
 
 
 def test_keep_leaves_each_copy_as_it_is(make_farm: Made, folder: str) -> None:

@@ -14,7 +14,8 @@ import time
 from typing import Dict, List, Sequence
 
 import pytest
-from dispatch_lab import AT_IT, BOARDS, TWO, Lab, MakeLab, Proxy, one_line_each, replace
+from answering import Proxy
+from dispatch_lab import AT_IT, BOARDS, TWO, Lab, MakeLab, one_line_each, replace
 from dispatch_lab import lab_fixture, make_lab_fixture  # noqa: F401
 from served import MODULES, TOP, Tool, environment, read, wait_until
 from wants import wants

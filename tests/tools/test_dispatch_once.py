@@ -7,7 +7,8 @@ import shutil
 from typing import Optional
 
 import pytest
-from dispatch_lab import BOARDS, Lab, MakeLab, Proxy, one_line_each
+from answering import Proxy
+from dispatch_lab import BOARDS, Lab, MakeLab, one_line_each
 from dispatch_lab import lab_fixture, make_lab_fixture  # noqa: F401
 from served import read
 

@@ -4,7 +4,8 @@ from __future__ import annotations
 import time
 from typing import Any, List, Optional
 
-from dispatch_lab import Lab, MakeLab, Proxy, jobs_of
+from answering import Proxy
+from dispatch_lab import Lab, MakeLab, jobs_of
 from dispatch_lab import lab_fixture, make_lab_fixture  # noqa: F401
 from farm_dispatch.dispatcher import text_again
 from served import wait_until
