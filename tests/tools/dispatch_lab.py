@@ -53,11 +53,11 @@ class Lab:
         all_words = [*head, "--every", every, *words, *(command or [self.command])]
         return Tool(all_words, self.folder, **{"RUNS": self.runs, **more})
 
-    def patched(self, patch: str, *words: str, server: str = "", every: str = "0.3") -> "subprocess.Popen[bytes]":
+    def patched(self, patch: str, every: str = "0.3") -> "subprocess.Popen[bytes]":
         """A dispatcher of which a few lines were changed, so that a moment lasts."""
-        head = f"import os, signal, sys, time\nsys.path[:0] = {MODULES!r}\n{PATCH_HEAD}mark = {self.mark!r}\n"
-        code = f"{head}{patch}\nsys.exit(dispatch.main(sys.argv[1:]))\n"
-        own = ["--server", server or self.farm.server, "--folder", self.place, "--every", every, *words, self.command]
+        head = "import os, signal, sys, time\nfrom farm_dispatch import dispatcher, main as dispatch"
+        code = f"import sys\nsys.path[:0] = {MODULES!r}\n{head}\n{patch}\nsys.exit(dispatch.main(sys.argv[1:]))\n"
+        own = ["--server", self.farm.server, "--folder", self.place, "--every", every, self.command]
         with open(os.path.join(self.folder, "patched"), "ab") as told:
             tool = subprocess.Popen(
                 [sys.executable, "-c", code, *own], stdout=told, stderr=told, stdin=subprocess.DEVNULL,
@@ -66,21 +66,10 @@ class Lab:
         STARTED.append(tool)
         return tool
 
-    @property
-    def mark(self) -> str:
-        return os.path.join(self.folder, "mark")
-
-    def marked(self) -> bool:
-        """Whether a patched dispatcher is where it waits, or where it was killed."""
-        return os.path.exists(self.mark)
-
     def finished(self, number: int, limit: float = PATIENCE) -> str:
         """The result of a job, once it is Finished."""
         wait_until(f"job {number} is Finished", lambda: self.farm.job(number)["state"] == "Finished", limit)
         return str(self.farm.job(number)["result"])
-
-    def state(self, number: int) -> str:
-        return str(self.farm.job(number)["state"])
 
     def log(self, number: int) -> str:
         """What the site serves as a job's log."""
@@ -111,17 +100,6 @@ class Lab:
     def first_line(self, dispatcher: Tool) -> str:
         """A dispatcher's first line, once it is there."""
         return str(wait_until("its first line", dispatcher.output))
-
-    def shell(self, run: str) -> "subprocess.Popen[bytes]":
-        """A process of the test's own."""
-        process = subprocess.Popen(run.split(), stdin=subprocess.DEVNULL)
-        STARTED.append(process)
-        return process
-
-    def some_passes(self, count: int = 3) -> None:
-        """Waits until so many more passes were asked for."""
-        before = self.passes()
-        wait_until(f"{count} more passes", lambda: self.passes() >= before + count)
 
     def until(self, name: str) -> str:
         """What a job runs that ends once it is let."""
@@ -185,24 +163,6 @@ def make_lab_fixture(program: str, tmp_path: pathlib.Path) -> Iterator[MakeLab]:
 @pytest.fixture(name="lab")
 def lab_fixture(make_lab: MakeLab) -> Lab:
     return make_lab()
-
-
-# What the code of `patched` begins with.
-PATCH_HEAD = """
-from farm_dispatch import dispatcher, main as dispatch, record, runs, workers
-from fizgruk._tools import disk
-D, R, H = dispatcher.Dispatcher, runs.Runs, workers.Hand
-def until(test, limit=40):
-    end = time.monotonic() + limit
-    while not test() and time.monotonic() < end:
-        time.sleep(0.02)
-def note(text=""):
-    with open(mark + ".new", "w") as file:
-        file.write(text)
-    os.rename(mark + ".new", mark)
-def die():
-    os.kill(os.getpid(), signal.SIGKILL)
-"""
 
 
 def replace(file: str, text: str) -> None:

@@ -6,7 +6,6 @@ from __future__ import annotations
 import json
 import os
 import pathlib
-import random
 import subprocess
 import sys
 import tempfile
@@ -15,7 +14,7 @@ from typing import Dict, List, Sequence
 
 import pytest
 from answering import Proxy
-from dispatch_lab import AT_IT, BOARDS, TWO, Lab, MakeLab, one_line_each, replace
+from dispatch_lab import AT_IT, BOARDS, TWO, Lab, MakeLab, replace
 from dispatch_lab import lab_fixture, make_lab_fixture  # noqa: F401
 from served import MODULES, TOP, Tool, environment, read, wait_until
 from wants import wants
@@ -140,35 +139,6 @@ def test_jobs_end_with_it(lab: Lab) -> None:
     dispatcher = lab.dispatch()
     assert lab.finished(number) == "Infra"
     assert lab.begins(number) == 1
-    lab.closes(dispatcher)
-
-
-def test_killed_dispatchers(lab: Lab) -> None:
-    """Over many killed dispatchers, and some killed desks, each of 28 groups is begun once at most, ends, and has its line."""
-    seed = random.randrange(10**6)
-    dice = random.Random(seed)
-    numbers = [lab.farm.submit(f"sleep 0.{dice.randrange(4)}") for _ in range(24)]
-    numbers += [lab.two("sleep 0.2")[0] for _ in range(4)]
-    kills = passes = 0
-    dispatcher = lab.dispatch(every="0.1")
-    until = time.monotonic() + 12
-    while time.monotonic() < until and lab.farm.look("/queue")["queue"]:
-        time.sleep(dice.uniform(0.05, 1.5))
-        dispatcher.kill()
-        kills += 1
-        passes, before = lab.passes(), passes
-        assert before <= passes, f"passes that a kill took back (seed {seed})"
-        if kills % 5 == 0:
-            lab.farm.kill()
-            lab.farm.start()
-        dispatcher = lab.dispatch(every="0.1")
-    results = [lab.finished(number) for number in numbers]
-    assert set(results) <= {"Complete", "Infra"} and "Complete" in results, (results, seed)
-    assert [it for it in numbers if lab.begins(it) > 1] == [], f"seed {seed}"
-    assert [it for it, result in zip(numbers, results) if result == "Complete" and lab.begins(it) != 1] == []
-    wait_until("no job holds a board", lambda: {it["holder"] for it in lab.farm.look("/boards")["boards"]} == {"none"})
-    members = [it + place for it in numbers[-4:] for place in range(2)]
-    one_line_each(lab, [*numbers[:-4], *members], f"(seed {seed})")
     lab.closes(dispatcher)
 
 

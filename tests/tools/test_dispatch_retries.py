@@ -29,7 +29,8 @@ def test_retry(make_lab: MakeLab) -> None:
     second = int(dispatcher.output().partition(told)[2].split()[0])
     assert lab.finished(second) == "Infra"
     wait_until("all have their lines", lambda: len(jobs_of(lab)) == len(others) + 3)
-    lab.some_passes()
+    passes = lab.passes()
+    wait_until("three more passes", lambda: lab.passes() >= passes + 3)
     first, new = lab.farm.job(again), lab.farm.job(second)
     assert (new["owner"], new["text"]) == ("zoe", first["text"].replace("retry = 1", "retry = 0"))
     assert new["board"] != first["board"]

@@ -8,7 +8,7 @@ import subprocess
 import sys
 import tempfile
 import time
-from typing import Callable, Sequence, Tuple
+from typing import Callable, Tuple
 
 import lab_texts
 import pytest
@@ -273,9 +273,13 @@ def test_what_isnt_a_folder_of_lava(folder: str) -> None:
         assert (status, output, errors.count("\n")) == (4, "", 1), wrong
 
 
-@pytest.mark.parametrize("words", [[], ["FOLDER", "--hours", "0"], ["FOLDER", "--hours", "10001"]])
-def test_bad_words_of_the_reader_of_lava(words: Sequence[str]) -> None:
-    assert run("farm-from-lava", *words)[0] == 2
+@pytest.mark.parametrize("words", [
+    "farm-from-lava", "farm-from-lava FOLDER --hours 0", "farm-from-lava FOLDER --hours 10001", "farm-from-lava --job x FOLDER",
+    "farm-from-labgrid", "farm-from-desk --check", "farm-from-desk --let-go", "farm-from-desk --db x",
+    "farm-from-desk --next x --stop x", "farm-from-desk --next x --start x",
+])
+def test_bad_words_end_it_with_2(words: str) -> None:
+    assert run(*words.split())[0] == 2
 
 
 def test_devices_of_which_nothing_is_lost_are_carried_over_with_status_0(folder: str) -> None:
@@ -320,16 +324,11 @@ def test_places_of_which_nothing_is_lost(folder: str) -> None:
     ("targets:\n  main:\n    resources: []\n", "'targets' has nothing that a place has"),
 ])
 def test_a_file_that_holds_no_places(folder: str, text: str, why: str) -> None:
-    """Such as an exporter's resources, and a client's environment."""
-    wants_modules("yaml")
-    status, output, errors = run("farm-from-labgrid", write(folder, "wrong.yaml", text))
-    assert (status, output, errors.count("\n")) == (4, "", 1) and why in errors
-
-
-def test_words_of_the_reader_of_labgrid(folder: str) -> None:
+    """Such as an exporter's resources, and a client's environment; or that isn't there."""
     wants_modules("yaml")
     assert run("farm-from-labgrid", f"{folder}/none")[0] == 4
-    assert run("farm-from-labgrid")[0] == 2
+    status, output, errors = run("farm-from-labgrid", write(folder, "wrong.yaml", text))
+    assert (status, output, errors.count("\n")) == (4, "", 1) and why in errors
 
 
 # ---- a desk

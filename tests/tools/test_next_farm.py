@@ -183,16 +183,6 @@ def test_two_turns_at_once_and_a_farm_that_nobody_can_look_at(lab: Lab) -> None:
     lab.demand_untouched()
 
 
-@pytest.mark.parametrize("words", [
-    ["--check"], ["--let-go"], ["--db", "x"], ["--next", "x", "--stop", "x"], ["--next", "x", "--start", "x"],
-])
-def test_words_that_go_with_others(words: List[str]) -> None:
-    ran = subprocess.run(
-        [sys.executable, os.path.join(TOOLS, "farm-from-desk"), *words], capture_output=True, check=False, env=environment()
-    )
-    assert ran.returncode == 2
-
-
 # ---- a turn that is stopped
 
 
