@@ -372,44 +372,6 @@ def test_lava_has_a_board_s_ways_in_the_place_of_its_device_s_own(folder: str, m
     }
 
 
-UP = "import pytest\n@pytest.fixture\ndef up():\n    raise {}\ndef test(up): pass\n"
-
-
-@pytest.mark.parametrize("status, test", [
-    (0, "import os\ndef test(target): assert os.environ['LG_PLACE'] == 'q1'"),
-    (1, "def test(:"),
-    (1, ""),
-    (1, UP.format("ValueError")),
-    (75, UP.format("ConnectionRefusedError")),
-    (75, "def test(target): target.get_driver('ShellDriver')"),
-    (75, "def test(target): target.get_resource('RemotePlace')"),
-    (75, "import pytest\ndef test(): pytest.exit('as labgrid, without its place')"),
-])
-def test_labgrid_status(status: int, test: str, folder: str) -> None:
-    """labgrid's and pytest's ways to end: a test that can't be run is Incomplete, what a board lacks Infra.
-    (test_dispatch_commands.py: what fails in a test.)"""
-    wants_way("labgrid")
-    write(os.path.join(folder, "env.yaml"), "targets: {main: {drivers: {}}}\n")
-    assert status_of("labgrid", folder, f'[labgrid]\ntest = """{test}"""\n') == status
-
-
-def test_labgrid_variable(folder: str) -> None:
-    """A job may set no variable but labgrid's."""
-    wants_way("labgrid")
-    write(os.path.join(folder, "env.yaml"), "targets: {main: {drivers: {}}}\n")
-    assert status_of("labgrid", folder, "[labgrid]\nvariables = { OTHER = 'x' }\ntest = ''\n") == 1
-
-
-@pytest.mark.parametrize("file", [
-    "targets: {", "images: {kernel: !template $LG_NONE}", "images: {kernel: gone}", "images: {kernel: !template $LG_KERNEL}",
-])
-def test_labgrid_environment(file: str, folder: str) -> None:
-    """A file of the board that labgrid can't take is Infra, and an image of a job's that isn't there."""
-    wants_way("labgrid")
-    write(os.path.join(folder, "env.yaml"), file)
-    assert status_of("labgrid", folder, "[labgrid]\nvariables.LG_KERNEL = '/gone'\ntest = 'def test(): pass'\n") == 75
-
-
 @pytest.mark.slow(10)
 @pytest.mark.parametrize("of_device, of_job, status", [
     (("", ""), ("job_name: boots", "job_name: [boots"), 1),

@@ -10,7 +10,7 @@ import subprocess
 import sys
 import tempfile
 import time
-from typing import Dict, List, Sequence
+from typing import List
 
 import pytest
 from answering import Proxy
@@ -254,18 +254,11 @@ def test_time_limits(lab: Lab) -> None:
 # ---- settings and clocks
 
 
-@pytest.mark.parametrize("words, text, around, status, told", [
-    ((), "[dispatch]\nserber = x\n", {}, 2, "serber in [dispatch] is no setting: is server meant?"),
-    ((), "", {"DISPATCH_QQ": ""}, 2, "there are DISPATCH_SERVER, DISPATCH_USER"),
-    (("--limit", "soon"), "", {}, 4, "limit: 'soon'"),
-])
-def test_settings_that_there_arent(
-    folder: str, words: Sequence[str], text: str, around: Dict[str, str], status: int, told: str
-) -> None:
-    """It tells them, with what may be meant, and ends."""
-    tell(f"{folder}/desk.ini", text)
-    tool = Tool(["farm-dispatch", "--folder", folder, "--config", f"{folder}/desk.ini", *words, "true"], folder, **around)
-    assert tool.ends() == status and told in tool.errors()
+def test_settings_that_there_arent(folder: str) -> None:
+    """It tells them, with what may be meant, and ends with 2."""
+    tell(f"{folder}/desk.ini", "[dispatch]\nserber = x\n")
+    tool = Tool(["farm-dispatch", "--folder", folder, "--config", f"{folder}/desk.ini", "true"], folder)
+    assert tool.ends() == 2 and "serber in [dispatch] is no setting: is server meant?" in tool.errors()
 
 
 def test_clocks(lab: Lab) -> None:

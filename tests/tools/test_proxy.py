@@ -11,13 +11,11 @@ import socket
 import ssl
 import threading
 import time
-import urllib.parse
 from typing import Callable, List, Sequence, Set, Tuple
 
 import pytest
 
-from browser import Page, Visit
-from nginx_site import WORDS, Site, farm_fixture, page_beside, site_fixture, write  # noqa: F401
+from nginx_site import WORDS, Site, farm_fixture, site_fixture, write  # noqa: F401
 from served import TOOLS, Farm, Tool, read, wait_until
 
 JSON = "application/json"
@@ -278,47 +276,6 @@ def test_a_command_of_the_sites_own_page_and_of_a_tool_is_taken(farm: Farm, site
     for fields in taken:
         assert site.said(*fields_of(site, fields), *RESERVE, "/reservations")[0] == 200, fields
     assert reservations(farm) == [("ann", [])] * 3
-
-
-# A page of another site, which sends a command to the farm as a form and by its script.
-FOREIGN = """<!DOCTYPE html>
-<form method="post" enctype="text/plain" action="SITE/reservations">
-<input name='{"tags":["rack=3"],"x":"' value='"}'></form>
-<script>
-const sent = fetch("SITE/reservations",
-  {method: "POST", mode: "no-cors", credentials: "include", body: '{"tags":["rack=3"]}'});
-</script>"""
-
-
-def said_by(page: Page, expression: str) -> str:
-    """What a page says of itself; nothing while it goes to another."""
-    try:
-        return str(page.ask(expression))
-    except OSError:
-        return ""
-
-
-@pytest.mark.xdist_group("page2")
-@pytest.mark.parametrize("is_at_host", [False, True])
-def test_in_a_browser_that_keeps_the_login_a_foreign_page_reserves_nothing(
-    farm: Farm, site: Site, visit: Visit, is_at_host: bool
-) -> None:
-    """One at another site, and one at another port of this one."""
-    own = visit.open(site.server.replace("https://", f"https://ann:{urllib.parse.quote(WORDS['ann'])}@"))
-    said = "document.getElementById('said').textContent"
-    wait_until("the page", lambda: "as of" in own.ask(said))
-    with page_beside(site, FOREIGN.replace("SITE", site.server), is_at_host) as place:
-        foreign = visit.open(place)
-        assert foreign.ask("sent.then(it => it.type)") == "opaque", "its script's answer"
-        foreign.ask("setTimeout(() => document.forms[0].submit())")
-        wait_until("it is sent", lambda: said_by(foreign, "location.href").startswith(site.server))
-    told = wait_until("an answer", lambda: said_by(foreign, "document.body ? document.body.innerText : ''"))
-    assert reservations(farm) == []
-    assert json.loads(told) == FORBIDDEN
-    own.go(site.server)
-    tell = "fetch('reservations', {method: 'POST', body: '{\"tags\":[]}'}).then(it => it.status)"
-    assert own.ask(tell) == 200, "a command of the site's own page"
-    assert reservations(farm) == [("ann", [])]
 
 
 # ---- many clients
