@@ -12,7 +12,7 @@ from typing import Callable, Tuple
 
 import lab_texts
 import pytest
-from served import TOOLS, Farm, environment
+from served import TOOLS, Farm, environment, read
 from wants import wants_modules
 
 # As labgrid's coordinator writes its places.
@@ -228,11 +228,6 @@ def write(folder: str, name: str, text: str) -> str:
     with open(file, "w", encoding="utf-8") as opened:
         opened.write(text)
     return file
-
-
-def read(file: str) -> str:
-    with open(file, encoding="utf-8") as text:
-        return text.read()
 
 
 def imported(program: str, folder: str, lab: str) -> str:

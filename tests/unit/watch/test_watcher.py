@@ -503,7 +503,7 @@ def told_over_a_kill(lab: Lab, count: int, file: str) -> bool:
         how = os.waitpid(child, 0)[1]
         tells()
         return os.WIFSIGNALED(how)
-    sqlite3.connect = connect  # type: ignore[assignment]
+    setattr(sqlite3, "connect", connect)
     try:
         tells()
     finally:
