@@ -7,7 +7,6 @@ import os
 import re
 import subprocess
 import sys
-import time
 from typing import Callable, Iterator, List
 
 import pytest
@@ -103,7 +102,7 @@ def test_from_within_a_hold_nothing_else_is_reached(lab: Lab) -> None:
 
 
 def test_a_job_writes_to_no_board_that_somebody_else_holds(lab: Lab) -> None:
-    """Also where its unit has all devices of the machine in sight. (access_handovers.py --reach makes hundreds.)"""
+    """Also where its unit has all devices of the machine in sight."""
     lab.reserve("ann", "b1")
     number, before = lab.submit("b2"), lab.text("b1")
     for script, refused in OUT_OF_A_JOB:
@@ -147,22 +146,6 @@ def test_what_is_forged_at_the_door_is_refused(lab: Lab) -> None:
 
 
 # ---- what outlives a session
-
-
-def test_a_daemon_deaf_to_signals_ends_with_its_session(lab: Lab) -> None:
-    lab.reserve("ann", "b2")
-    line = lab.begin("ann", "b2", "shell")
-    assert line.stdin and line.stdout
-    deaf = "trap '' HUP TERM INT; while :; do printf AWAY; sleep 0.05; done"
-    line.stdin.write(f"(setsid sh -c \"{deaf}\" > /dev/boards/b2 &)\nsleep 1; echo begun\n".encode())
-    line.stdin.flush()
-    assert line.stdout.readline() == b"begun\n" and b"AWAY" in lab.text("b2")
-    line.stdin.close()
-    line.wait(60)
-    assert until(lambda: not lab.units("b2")) < 60
-    before = lab.text("b2")
-    time.sleep(0.5)
-    assert lab.text("b2") == before
 
 
 def test_a_session_ends_with_the_key_by_which_it_came(lab: Lab) -> None:

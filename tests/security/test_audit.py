@@ -10,7 +10,7 @@ from typing import Any, Callable, Dict, List
 
 import pytest
 
-from nginx_site import Site, write
+from nginx_site import Site, site_fixture, write  # noqa: F401
 from served import TOP, Farm, read, wait_until
 from wants import wants
 
@@ -20,11 +20,6 @@ RESERVE = '{"tags":["name=b1"]}'
 @pytest.fixture
 def farm(make_farm: Callable[..., Farm]) -> Farm:
     return make_farm([("b1", "bbb", []), ("b2", "bbb", [])])
-
-
-@pytest.fixture
-def site(farm: Farm, make_site: Callable[..., Site]) -> Site:
-    return make_site(farm)
 
 
 def lines_of(site: Site, name: str = "audit.log") -> List[Dict[str, Any]]:

@@ -5,26 +5,16 @@ from __future__ import annotations
 import base64
 import re
 import time
-from typing import Callable, List
+from typing import List
 
 import pytest
 
 from machine import Machine
-from nginx_site import Site, line_to, raw
-from served import Farm, wait_until
+from nginx_site import Site, farm_fixture, line_to, raw, site_fixture  # noqa: F401
+from served import wait_until
 from wants import wants
 
 # ---- the lines
-
-
-@pytest.fixture
-def farm(make_farm: Callable[..., Farm]) -> Farm:
-    return make_farm([("b1", "bbb", [])])
-
-
-@pytest.fixture
-def site(farm: Farm, make_site: Callable[..., Site]) -> Site:
-    return make_site(farm)
 
 
 def guesses(site: Site) -> List[str]:

@@ -192,13 +192,6 @@ def test_a_job_forges_not_even_its_own_served_log(lab: MachineLab) -> None:
     assert re.sub("sh: .*\n", "", lab.log(number)) == "first\nlast\n"
 
 
-def test_a_job_takes_nothing_of_its_served_log_back(lab: MachineLab) -> None:
-    number = lab.submit("echo did; while [ ! -e go ]; do sleep 0.1; done; python3 -c 'import os; os.ftruncate(1, 0)'")
-    lab.said(number, "did")
-    lab.machine.run("touch", lab.folder(number, "go"))
-    assert lab.finished(number) == "Complete" and lab.log(number) == "did\n"
-
-
 def test_a_job_ends_neither_the_dispatcher_nor_another_job(lab: MachineLab) -> None:
     before = lab.machine.run("systemctl", "show", "-p", "MainPID", "--value", "farm-dispatch").stdout
     other = lab.submit("echo began; sleep 8; echo whole")
@@ -332,15 +325,6 @@ def test_a_job_has_its_accounts_name_and_no_other_jobs(lab: MachineLab) -> None:
     for number in numbers:
         lab.machine.run("touch", lab.folder(number, "go"))
         assert lab.finished(number) == "Complete"
-
-
-def test_a_job_that_an_admin_ends_by_its_unit_is_infra(lab: MachineLab) -> None:
-    number = lab.submit(f"{AWAY}\necho began; sleep 300")
-    lab.said(number, "began")
-    lab.machine.wait("it is away", "pgrep", "-f", GONE_AWAY)
-    lab.machine.run("sh", "-c", f"systemctl kill -s KILL 'farm-job-*-{number}-*.service'")
-    assert lab.finished(number) == "Infra"
-    assert lab.processes(GONE_AWAY) == []
 
 
 def test_nobody_else_asks_for_a_job(lab: MachineLab) -> None:

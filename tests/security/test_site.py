@@ -6,10 +6,9 @@ import json
 import os
 import re
 import signal
-import threading
 import time
 import urllib.parse
-from typing import Callable, Dict, List
+from typing import Callable, List
 
 import pytest
 
@@ -276,29 +275,6 @@ def test_a_wrong_password_uses_up_nothing_of_whose_name_it_is(farm: Farm, make_s
     for _ in range(10):
         assert site.got("/reservations", "-u", "ann:guess", *RESERVE, user="")[0] == 401
     assert site.said(*RESERVE, "/reservations")[0] == 200
-
-
-def test_two_thousand_reservations_at_once_leave_room_for_the_others(farm: Farm, site: Site) -> None:
-    """As a user's loop did: 2,090 in 20 seconds."""
-    line, fields = site.connection()
-    until, done, refused = time.monotonic() + 20, 0, 0
-    lines = [site.connection() for _ in range(8)]
-
-    def ask_on(line: object, fields: Dict[str, str]) -> None:
-        nonlocal done, refused
-        while time.monotonic() < until:
-            line.request("POST", "/reservations", body='{"tags":[]}', headers=fields)  # type: ignore[attr-defined]
-            answer = line.getresponse()  # type: ignore[attr-defined]
-            answer.read()
-            done, refused = done + (answer.status == 200), refused + (answer.status == 429)
-
-    threads = [threading.Thread(target=ask_on, args=it) for it in lines]
-    for it in threads:
-        it.start()
-    for it in threads:
-        it.join()
-    line.close()
-    assert reserved(farm) < 200, "a hundred at once, and two a second"
 
 
 # ---- heads and bodies that never end

@@ -146,7 +146,5 @@ def write(folder: str, name: str, text: str, mode: int = 0o644) -> str:
 def tell_at(farm: Farm, moment: float, user: str, path: str, body: bytes = b"") -> None:
     """Gives a farm a command at a moment while it isn't served, and serves it again."""
     farm.kill()
-    head = f"POST {path} HTTP/1.1\r\nx-user: {user}\r\ncontent-length: {len(body)}\r\n\r\n"
-    words = [farm.program, "once", "--db", farm.db, "--at", str(int(moment))]
-    subprocess.run(words, input=head.encode() + body, check=True, capture_output=True)
+    farm.tell_at(moment, user, path, body)
     farm.start()

@@ -7,7 +7,6 @@ import http.server
 import json
 import os
 import re
-import subprocess
 import threading
 import time
 import urllib.parse
@@ -245,13 +244,7 @@ def names(shown: Shown, table: str = "boards") -> List[str]:
 
 def tell_at(farm: Farm, moment: float, user: str, path: str, body: Any = None) -> int:
     """Gives a command at a moment of its own, while the farm isn't served. Returns its number."""
-    sent = body if isinstance(body, bytes) else json.dumps(body or {}).encode()
-    head = f"POST {path} HTTP/1.1\r\nx-user: {user}\r\ncontent-length: {len(sent)}\r\n\r\n"
-    words = [farm.program, "once", "--db", farm.db, "--at", str(int(moment))]
-    ran = subprocess.run(words, input=head.encode() + sent, capture_output=True, check=False)
-    assert ran.returncode == 0, f"{user} {path} at {moment}: {ran.stdout!r} {ran.stderr!r}"
-    number = re.search(rb'"number":(\d+)', ran.stdout)
-    return int(number.group(1)) if number else 0
+    return int(farm.tell_at(moment, user, path, body).get("number", 0))
 
 
 def begin_at(farm: Farm, moment: float, boards: Sequence[Board] = BOARDS) -> None:

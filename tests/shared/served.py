@@ -172,6 +172,16 @@ class Farm(Asks):
         self.process.kill()
         self.process.communicate()
 
+    def tell_at(self, moment: float, user: str, path: str, body: Any = None, key: str = "") -> Any:
+        """Gives a command at a moment, while the farm isn't served, that has to be accepted."""
+        sent = body if isinstance(body, bytes) else json.dumps(body or {}).encode()
+        own = f"x-key: {key}\r\n" if key else ""
+        head = f"POST {path} HTTP/1.1\r\nx-user: {user}\r\n{own}content-length: {len(sent)}\r\n\r\n"
+        words = [self.program, "once", "--db", self.db, "--at", str(int(moment))]
+        ran = subprocess.run(words, input=head.encode() + sent, capture_output=True, check=False)
+        assert ran.returncode == 0, f"{user} {path} at {moment}: {ran.stdout!r} {ran.stderr!r}"
+        return json.loads(ran.stdout.partition(b"\r\n\r\n")[2])
+
     def look(self, path: str) -> Any:
         status, said = self.ask("ann", "GET", path)
         assert status == 200, f"GET {path}: {said}"

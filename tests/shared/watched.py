@@ -5,17 +5,16 @@ import contextlib
 import email
 import email.message
 import email.policy
-import http.client
 import http.server
 import json
 import os
 import re
 import signal
-import subprocess
 import tempfile
 import threading
 from typing import Any, Callable, Dict, Iterator, List, Optional, Sequence, Tuple
 
+from answering import Proxy
 from desks import write
 from served import Board, Farm, Tool, read, wait_until
 
@@ -24,7 +23,7 @@ HOUR = 3600
 SLOW = re.compile(r"farm-watch: (no answer from the desk at \S+: timed out|it goes on)\n")
 BOARDS: Sequence[Board] = [("b1", "bbb", ["hdmi"]), ("b2", "bbb", []), ("b3", "ccc", [])]
 SENDMAIL = """#!/bin/sh
-# A sendmail that keeps what it is given, or refuses it, or kills a process then.
+# A sendmail that keeps what it is given, or refuses it.
 set -e
 here=$(dirname "$0")
 new=$(mktemp "$here/new.XXXXXX")
@@ -36,9 +35,6 @@ if [ -e "$here/refuse" ]; then
     exit 75
 fi
 mv "$new" "$here/mail.${new##*.}"
-if mv "$here/kill" "$here/killing" 2> /dev/null; then
-    kill -9 "$(cat "$here/killing")" || :
-fi
 """
 
 
@@ -74,15 +70,6 @@ class Mailbox:
             write(self.folder, "refuse", "")
         else:
             os.unlink(os.path.join(self.folder, "refuse"))
-
-    def kill(self, process: Optional[int]) -> None:
-        """Lets it kill this process once it has taken a mail; None lets it kill nobody."""
-        if process is not None:
-            os.replace(write(self.folder, "to-kill", str(process)),
-                       os.path.join(self.folder, "kill"))
-        else:
-            with contextlib.suppress(FileNotFoundError):
-                os.unlink(os.path.join(self.folder, "kill"))
 
     def texts(self, kind: str = "mail") -> List[str]:
         """What was brought, each time. (A file has its name once it is whole, and isn't read again.)"""
@@ -120,7 +107,6 @@ class Hook:
     def __init__(self) -> None:
         self.posted: List[Tuple[str, Dict[str, str], bytes]] = []
         self.answer = 200
-        self.to_kill: Optional[int] = None
         hook = self
 
         class Handler(http.server.BaseHTTPRequestHandler):
@@ -139,9 +125,6 @@ class Hook:
     def take(self, handler: http.server.BaseHTTPRequestHandler, body: bytes) -> None:
         if self.answer == 200:
             self.posted.append((handler.path, dict(handler.headers.items()), body))
-        if self.to_kill is not None:
-            process, self.to_kill = self.to_kill, None
-            os.kill(process, signal.SIGKILL)
         reply(handler, self.answer, b"")
 
     def messages(self) -> List[Any]:
@@ -160,32 +143,15 @@ class Hook:
         )
 
 
-class Door:
+class Door(Proxy):
     """What stands in front of a desk, and counts the looks."""
 
     def __init__(self, farm: Farm):
         self.looks = 0
-        door = self
+        super().__init__(farm, self.count)
 
-        class Handler(http.server.BaseHTTPRequestHandler):
-            def do_GET(self) -> None:
-                door.pass_on(self, farm)
-
-            do_POST = do_GET
-
-            def log_message(self, *_: object) -> None:
-                pass
-
-        self.server = http.server.ThreadingHTTPServer(("127.0.0.1", 0), Handler)
-        self.server.daemon_threads = True
-        self.address = f"http://127.0.0.1:{self.server.server_port}"
-        threading.Thread(target=self.server.serve_forever, daemon=True).start()
-
-    def pass_on(self, handler: http.server.BaseHTTPRequestHandler, farm: Farm) -> None:
-        self.looks += handler.path == "/status"
-        with contextlib.suppress(OSError, http.client.HTTPException):  # no desk is there
-            status, said = farm.ask(handler.headers["x-user"], handler.command, handler.path, key=handler.headers["x-key"])
-            reply(handler, status, json.dumps(said).encode())
+    def count(self, method: str, path: str, key: Optional[str]) -> None:
+        self.looks += path == "/status"
 
 
 class Watched:
@@ -204,7 +170,7 @@ class Watched:
 
     def write_rules(self, rules: str, mail: bool = True, hook: bool = True) -> None:
         heads = [
-            f"[desk]\nserver = '{self.door.address}'\n",
+            f"[desk]\nserver = '{self.door.server}'\n",
             "[mail]\nfrom = 'farm@lab.example'\nto = '{owner}@lab.example'\n"
             f"admin = 'lab@lab.example'\nsendmail = '{self.mailbox.sendmail}'\n" if mail else "",
             f"[webhook]\nurl = '{self.hook.url}'\n" if hook else "",
@@ -238,7 +204,7 @@ class Watched:
         if hasattr(self, "tool") and self.tool.process.poll() is None:
             self.stop()
         self.farm.kill()
-        for it in (self.door.server, self.hook.server):
+        for it in (self.door.served, self.hook.server):
             it.shutdown()
             it.server_close()
 
@@ -280,29 +246,17 @@ class Watched:
         self.farm.kill()
         numbers: List[int] = []
         first = moments[0][0]
-        self.at(first, "admin", "/types", {"name": "old"})
+        self.farm.tell_at(first, "admin", "/types", {"name": "old"})
         for _, _, board in moments:
-            self.at(first, "admin", "/boards", {"name": board, "type": "old"})
-            self.at(first, "admin", f"/boards/{board}/health", {"health": "Good"})
+            self.farm.tell_at(first, "admin", "/boards", {"name": board, "type": "old"})
+            self.farm.tell_at(first, "admin", f"/boards/{board}/health", {"health": "Good"})
         for moment, user, board in moments:
-            number = self.at(moment, user, "/reservations", {"tags": [f"name={board}"]})["number"]
-            self.at(moment, "dispatcher", "/pass")
-            self.at(moment, user, f"/reservations/{number}/acquire")
+            number = self.farm.tell_at(moment, user, "/reservations", {"tags": [f"name={board}"]})["number"]
+            self.farm.tell_at(moment, "dispatcher", "/pass")
+            self.farm.tell_at(moment, user, f"/reservations/{number}/acquire")
             numbers.append(number)
         self.farm.start()
         return numbers
-
-    def at(self, moment: float, user: str, path: str, said: Any = None) -> Any:
-        """Gives the farm, which isn't served, a command at a moment."""
-        body = b"" if said is None else json.dumps(said).encode()
-        head = f"POST {path} HTTP/1.1\r\nx-user: {user}\r\ncontent-length: {len(body)}\r\n\r\n"
-        ran = subprocess.run(
-            [self.farm.program, "once", "--db", self.farm.db, "--at", str(int(moment))],
-            input=head.encode() + body,
-            check=True,
-            capture_output=True,
-        )
-        return json.loads(ran.stdout.partition(b"\r\n\r\n")[2])
 
 
 Labs = Callable[..., Watched]

@@ -1,6 +1,6 @@
 """Handovers of three boards between two people and jobs, under kills of everything:
 
-    access_handovers.py [--farm PROGRAM] [--seed N] [--within SECONDS] [--kills WORDS] [--without take] [--reach N] COUNT
+    access_handovers.py [--farm PROGRAM] [--seed N] [--within SECONDS] [--kills WORDS] [--without take] COUNT
 
 Each party writes marked bytes without pause, in letters of its own with the hold's number in them. b1 is behind ser2net, as
 slow as a serial line, and its sessions are consoles; those of b2 and b3 are commands that go away from their session and
@@ -9,7 +9,6 @@ guard, the opener, the unit, systemd-run, sshd's child, the client, ssh, the des
 and acquired again. It prints a line a board and a last one, and the status is 0 where no byte of two parties is mixed, none
 comes later than --within after its hold's end (of those whose guard was stopped it is said), and nothing is left.
 With --without take nobody cleans up behind others and the guard is stopped, and the status has to be 1.
---reach has so many jobs reach for boards of others meanwhile.
 """
 from __future__ import annotations
 
@@ -40,7 +39,6 @@ KILLS = (
 )
 # Without the look behind others, and what is done between.
 WITHOUT = "import farm_access.holds as it\nit.clean = lambda *_: None\n"
-AT_ONCE = 6  # jobs that reach for others' boards
 TEXT = "job_name = 'j'\ndevice_type = 'bbb'\ntags = ['name={}']\n"
 
 
@@ -88,14 +86,12 @@ class Board(threading.Thread):
         self.board, self.trial, self.lab, self.count = name, trial, trial.lab, count
         self.random = random.Random(f"{seed}{name}")
         self.ends: Dict[int, Tuple[float, str, str]] = {}
-        self.began: Dict[int, float] = {}
         self.waits: List[threading.Thread] = []
 
     def run(self) -> None:
         for hold in range(1, self.count + 1):
             party = self.random.choice(["ann", "bob", "job"])
             number = self.job() if party == "job" else self.lab.reserve(party, self.board)
-            self.began[hold] = time.time()
             mark = mark_of(party, hold)
             begun = [self.session(party, number, mark) for _ in range(self.random.choice([1, 1, 2]))]
             access_lab.until(lambda it=mark: self.writes(party, number, it, begun), 45)  # type: ignore[misc]
@@ -221,12 +217,10 @@ def judged(board: Board) -> Dict[str, Any]:
         times.append((place, row.at))
         place += len(row.said)
     mixes, last, index = [], 0, 0
-    first: Dict[int, float] = {}
     seen: Dict[int, float] = {}
     for place, hold in meant(text):
         while index + 1 < len(times) and times[index + 1][0] <= place:
             index += 1
-        first.setdefault(hold, times[index][1])
         seen[hold] = times[index][1]
         if any(board.ends[it][2] != board.ends[hold][2] for it in range(hold + 1, last + 1)):
             mixes.append((hold, last))
@@ -234,21 +228,11 @@ def judged(board: Board) -> Dict[str, Any]:
     ends = {it: board.ends[last_of_row(board, it)] for it in seen}
     over = {it: seen[it] - ends[it][0] - board.trial.down_after(ends[it][0]) for it in seen}
     at_ease = [over[it] for it in over if "guard" not in ends[it][1]]
-    waits = sorted(first[it] - board.began[it] for it in first)
     return {
         "board": board.board, "bytes": len(text), "holds": len(board.ends), "with bytes": len(seen),
-        "changes of party": sum(board.ends[it][2] != board.ends[it + 1][2] for it in range(1, len(board.ends))),
         "mixes": len(mixes), "worst end": round(max(at_ease, default=0), 2), "worst end of all": round(max(over.values(), default=0), 2),
         "late": [(it, round(over[it], 2), ends[it][1]) for it in over if over[it] > board.trial.within],
-        "median wait": round(waits[len(waits) // 2], 2) if waits else None,
     }
-
-
-def reach(lab: Lab, numbers: Sequence[int]) -> None:
-    """Jobs that reach for boards that others hold, one after the other."""
-    script = "for b in b1 b2 b3; do echo '<REACH>' | timeout 20 farm-access way $b console; printf '<REACH>' > /dev/boards/$b; done"
-    for number in numbers:
-        lab.try_words(lab.job(90_000 + number, "/bin/sh", "-c", script))
 
 
 def told(lab: Lab, trial: Trial, boards: List[Board]) -> bool:
@@ -257,11 +241,10 @@ def told(lab: Lab, trial: Trial, boards: List[Board]) -> bool:
     rows = [judged(it) for it in boards]
     for row in rows:
         print(json.dumps(row))
-    reached = sum(lab.text(it.board).count(b"<REACH>") for it in boards)
     left = {"units": len(lab.units()), "nasty": len(lab.machine.run("pgrep", "-f", "access_nasty", check=False).stdout.split())}
-    print(json.dumps({"kills": trial.kills, "late": trial.late, "left": left, "reached": reached}), flush=True)
+    print(json.dumps({"kills": trial.kills, "late": trial.late, "left": left}), flush=True)
     is_ended = all(it["worst end"] <= trial.within and it["mixes"] == 0 and it["with bytes"] for it in rows)
-    return is_ended and not any("guard" not in it for it in trial.late) and not any(left.values()) and not reached
+    return is_ended and not any("guard" not in it for it in trial.late) and not any(left.values())
 
 
 def main() -> int:
@@ -271,7 +254,6 @@ def main() -> int:
     parser.add_argument("--within", type=float, default=2.0)
     parser.add_argument("--kills", type=lambda it: it.split(","), default=KILLS)
     parser.add_argument("--without", choices=["take"])
-    parser.add_argument("--reach", type=int, default=0)
     parser.add_argument("count", type=int)
     options = parser.parse_args()
     with tempfile.TemporaryDirectory() as place:
@@ -287,11 +269,9 @@ def main() -> int:
             trial = Trial(lab, options.within, options.kills)
             each = [options.count // 3 + (it < options.count % 3) for it in range(3)]
             boards = [Board(it, trial, count, options.seed) for it, count in zip(access_lab.BOARDS, each) if count]
-            parts = [range(it, options.reach, AT_ONCE) for it in range(AT_ONCE)]
-            threads = [*boards, *(threading.Thread(target=reach, args=(lab, it)) for it in parts)]
-            for it in threads:
+            for it in boards:
                 it.start()
-            for it in threads:
+            for it in boards:
                 it.join()
             return 0 if told(lab, trial, boards) else 1
         finally:

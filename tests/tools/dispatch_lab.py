@@ -1,8 +1,6 @@
 """A served farm with a folder for its dispatchers, for the tests of farm-dispatch."""
 from __future__ import annotations
 
-import http.client
-import http.server
 import json
 import os
 import pathlib
@@ -11,9 +9,8 @@ import signal
 import subprocess
 import sys
 import tempfile
-import threading
 import time
-from typing import Any, Callable, Dict, Iterator, List, Optional, Sequence, Tuple
+from typing import Any, Callable, Dict, Iterator, List, Sequence
 
 import pytest
 from served import MODULES, PATIENCE, STARTED, Board, Farm, Tool, environment, read, wait_until
@@ -56,11 +53,11 @@ class Lab:
         all_words = [*head, "--every", every, *words, *(command or [self.command])]
         return Tool(all_words, self.folder, **{"RUNS": self.runs, **more})
 
-    def patched(self, patch: str, *words: str, server: str = "", every: str = "0.3") -> "subprocess.Popen[bytes]":
+    def patched(self, patch: str, every: str = "0.3") -> "subprocess.Popen[bytes]":
         """A dispatcher of which a few lines were changed, so that a moment lasts."""
-        head = f"import os, signal, sys, time\nsys.path[:0] = {MODULES!r}\n{PATCH_HEAD}mark = {self.mark!r}\n"
-        code = f"{head}{patch}\nsys.exit(dispatch.main(sys.argv[1:]))\n"
-        own = ["--server", server or self.farm.server, "--folder", self.place, "--every", every, *words, self.command]
+        head = "import os, signal, sys, time\nfrom farm_dispatch import dispatcher, main as dispatch"
+        code = f"import sys\nsys.path[:0] = {MODULES!r}\n{head}\n{patch}\nsys.exit(dispatch.main(sys.argv[1:]))\n"
+        own = ["--server", self.farm.server, "--folder", self.place, "--every", every, self.command]
         with open(os.path.join(self.folder, "patched"), "ab") as told:
             tool = subprocess.Popen(
                 [sys.executable, "-c", code, *own], stdout=told, stderr=told, stdin=subprocess.DEVNULL,
@@ -69,21 +66,10 @@ class Lab:
         STARTED.append(tool)
         return tool
 
-    @property
-    def mark(self) -> str:
-        return os.path.join(self.folder, "mark")
-
-    def marked(self) -> bool:
-        """Whether a patched dispatcher is where it waits, or where it was killed."""
-        return os.path.exists(self.mark)
-
     def finished(self, number: int, limit: float = PATIENCE) -> str:
         """The result of a job, once it is Finished."""
         wait_until(f"job {number} is Finished", lambda: self.farm.job(number)["state"] == "Finished", limit)
         return str(self.farm.job(number)["result"])
-
-    def state(self, number: int) -> str:
-        return str(self.farm.job(number)["state"])
 
     def log(self, number: int) -> str:
         """What the site serves as a job's log."""
@@ -114,17 +100,6 @@ class Lab:
     def first_line(self, dispatcher: Tool) -> str:
         """A dispatcher's first line, once it is there."""
         return str(wait_until("its first line", dispatcher.output))
-
-    def shell(self, run: str) -> "subprocess.Popen[bytes]":
-        """A process of the test's own."""
-        process = subprocess.Popen(run.split(), stdin=subprocess.DEVNULL)
-        STARTED.append(process)
-        return process
-
-    def some_passes(self, count: int = 3) -> None:
-        """Waits until so many more passes were asked for."""
-        before = self.passes()
-        wait_until(f"{count} more passes", lambda: self.passes() >= before + count)
 
     def until(self, name: str) -> str:
         """What a job runs that ends once it is let."""
@@ -190,24 +165,6 @@ def lab_fixture(make_lab: MakeLab) -> Lab:
     return make_lab()
 
 
-# What the code of `patched` begins with.
-PATCH_HEAD = """
-from farm_dispatch import dispatcher, main as dispatch, record, runs, workers
-from fizgruk._tools import disk
-D, R, H = dispatcher.Dispatcher, runs.Runs, workers.Hand
-def until(test, limit=40):
-    end = time.monotonic() + limit
-    while not test() and time.monotonic() < end:
-        time.sleep(0.02)
-def note(text=""):
-    with open(mark + ".new", "w") as file:
-        file.write(text)
-    os.rename(mark + ".new", mark)
-def die():
-    os.kill(os.getpid(), signal.SIGKILL)
-"""
-
-
 def replace(file: str, text: str) -> None:
     """Puts an executable file in another's place at once."""
     with open(f"{file}.new", "w", encoding="utf-8") as script:
@@ -239,42 +196,6 @@ def end_commands(place: str) -> None:
                 os.kill(int(name), signal.SIGKILL)
             except ProcessLookupError:
                 pass
-
-
-Hook = Callable[[str, str, Optional[str]], Optional[Tuple[int, bytes]]]
-
-
-class Proxy:
-    """Stands between a dispatcher and the desk; the hook is given method, path and key, and may wait,
-    do something first, or give an answer of its own."""
-
-    def __init__(self, farm: Farm, hook: Hook = lambda method, path, key: None):
-        class Handler(http.server.BaseHTTPRequestHandler):
-            def log_message(self, format: str, *words: Any) -> None:
-                pass
-
-            def do(self) -> None:
-                body = self.rfile.read(int(self.headers.get("content-length") or 0))
-                said = hook(self.command, self.path, self.headers.get("x-key"))
-                try:
-                    if said is None:
-                        line = http.client.HTTPConnection("127.0.0.1", farm.port, timeout=60)
-                        fields = {it: self.headers[it] for it in ("x-user", "x-key") if it in self.headers}
-                        line.request(self.command, self.path, body or None, fields)
-                        answer = line.getresponse()
-                        said = answer.status, answer.read()
-                    self.send_response(said[0])
-                    self.send_header("content-length", str(len(said[1])))
-                    self.end_headers()
-                    self.wfile.write(said[1])
-                except (OSError, http.client.HTTPException):
-                    pass  # the desk or the dispatcher was killed
-
-            do_GET = do_POST = do
-
-        self.served = http.server.ThreadingHTTPServer(("127.0.0.1", 0), Handler)
-        threading.Thread(target=self.served.serve_forever, daemon=True).start()
-        self.server = f"http://127.0.0.1:{self.served.server_port}"
 
 
 # ---- the history

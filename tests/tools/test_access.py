@@ -18,7 +18,7 @@ import access_lab
 from access_lab import ECHO, PLACE, SHARED, Lab, echoed, kill, lab_fixture, until
 from machine import PORT
 from ports import free_port
-from served import PATIENCE, wait_until
+from served import PATIENCE
 
 __all__ = ["lab_fixture"]
 pytestmark = [pytest.mark.xdist_group("machine"), pytest.mark.slow(120)]
@@ -50,22 +50,6 @@ def configured(lab: Lab) -> Iterator[Callable[[str], None]]:
 # ---- who is let in
 
 
-def test_the_holder_gets_the_console_and_the_board_the_bytes(lab: Lab, held: Callable[..., int]) -> None:
-    held()
-    before = len(lab.text("b1"))
-    assert echoed(lab.begin("ann", "b1", "console"), b"typed") == b"typed"
-    assert lab.text("b1")[before:] == b"typed"
-
-
-def test_another_s_board_is_refused_and_it_is_said_who_has_it(lab: Lab, held: Callable[..., int]) -> None:
-    number = held()
-    before = lab.text("b1")
-    tried = lab.session("bob", "b1", "console", said=b"intruder")
-    assert (tried.status, tried.output) == (NOT_YOURS, b"")
-    assert tried.errors == f"farm-access: b1 isn't yours now: reservation {number} has it"
-    assert lab.text("b1") == before
-
-
 LET_IN = (
     ("bob", "b1 say x", NOT_YOURS, ""), ("bob", "b1 power on", NOT_YOURS, ""), ("eve", "b1 say x", NOT_YOURS, ""),
     ("eve", "b1 say x --as-admin", 0, "x\n"), ("bob", "b1 say x --as-admin", NOT_YOURS, ""),
@@ -75,7 +59,12 @@ LET_IN = (
 
 
 def test_who_is_let_in(lab: Lab, held: Callable[..., int]) -> None:
-    held()
+    """Whom it isn't is told who has the board."""
+    number, before = held(), lab.text("b1")
+    tried = lab.session("bob", "b1", "console", said=b"intruder")
+    assert (tried.status, tried.output) == (NOT_YOURS, b"")
+    assert tried.errors == f"farm-access: b1 isn't yours now: reservation {number} has it"
+    assert lab.text("b1") == before
     for person, words, status, said in LET_IN:
         tried = lab.session(person, words)
         assert (tried.status, tried.output.decode()) == (status, said), (person, words, tried)
@@ -200,11 +189,8 @@ def test_sshd_takes_its_configuration(lab: Lab) -> None:
 # ---- ways
 
 
-def test_power_is_cycled_and_a_port_of_the_board_s_answers(lab: Lab, held: Callable[..., int]) -> None:
-    """pdudaemon answers before it acts, so both are done when the session ends."""
+def test_a_port_of_the_board_s_answers(lab: Lab, held: Callable[..., int]) -> None:
     held()
-    assert lab.session("ann", "b1", "power", "cycle").status == 0
-    wait_until("both", lambda: lab.read(f"{PLACE}/power").splitlines()[-2:] == ["3 off", "3 on"])
     assert lab.session("ann", "b1", "tcp", str(ECHO), said=b"hello\n").output == b"echo hello\n"
 
 
@@ -518,7 +504,7 @@ def test_handovers_under_kills_mix_no_bytes_and_without_a_take_they_do(program: 
     """A few, by the script that makes hundreds; on a busy machine ends take longer than on an idle one. (Where nobody
     cleans up behind others what a hold left writes on.)"""
     script = os.path.join(os.path.dirname(os.path.abspath(__file__)), "access_handovers.py")
-    more = ["--without", without, "--kills", "none,STOP ssh"] if without else ["--reach", "3"]
+    more = ["--without", without, "--kills", "none,STOP ssh"] if without else []
     words = [sys.executable, script, "--farm", program, "--within", "30", *more, "9"]
     ran = subprocess.run(words, capture_output=True, text=True, check=False)
     assert ran.returncode == (1 if without else 0), ran.stdout + ran.stderr

@@ -88,20 +88,6 @@ def test_a_board_that_isn_t_yours(lab: Lab) -> None:
         assert tried.status == (255 if words[0] == "ssh" else NOT_YOURS) and "b1 isn't yours now" in tried.errors, tried
 
 
-def test_console_reserve_gets_a_board_and_gives_it_back(lab: Lab) -> None:
-    line = begun(lab, "console", "--reserve", "outlet=4")
-    assert line.stdin and line.stdout
-    line.stdin.write(b"mine")
-    line.stdin.flush()
-    until(lambda: lab.tell("dispatcher", "/pass") and lab.board("b2")["holder"] != "none")
-    assert line.stdout.read(4) == b"mine"
-    assert lab.text("b2").endswith(b"mine")
-    lab.machine.run("pkill", "-TERM", "-f", "desk .*--reserve")
-    line.wait(100)
-    until(lambda: lab.board("b2")["holder"] == "none")
-    assert lab.board("b2")["holder"] == "none"
-
-
 def test_desk_with_says_the_board_as_jobs_have_it(lab: Lab) -> None:
     line = begun(lab, "with", "name=b2", "--", "sh", "-c", "echo $FARM_BOARD $BOARD")
     assert line.stdout
@@ -110,7 +96,7 @@ def test_desk_with_says_the_board_as_jobs_have_it(lab: Lab) -> None:
 
 
 HELD = """\
-import threading, time, urllib.request
+import re, threading, time, urllib.request
 def passes():
     while True:
         asked = urllib.request.Request({server!r} + "/pass", data=b"", headers={{"x-user": "dispatcher"}})
@@ -118,45 +104,21 @@ def passes():
         time.sleep(0.2)
 threading.Thread(target=passes, daemon=True).start()
 with client.board("name=b1") as board:
-{lines}
+    with board.console() as console:
+        console.send_line("first second")
+        said.append(console.expect("none", re.compile("sec.nd"), timeout=100))
+        said.append(console.before)
+        try:
+            console.expect("never", timeout=0.5)
+        except fizgruk.TimedOut:
+            said.append("timed out")
+    board.power.cycle()
+    said.append(board.name)
 """
 
 
-def held(lab: Lab, lines: str) -> Any:
-    indented = "".join(f"    {it}\n" for it in lines.splitlines())
-    return package(lab, HELD.format(server=SERVER, lines=indented))
-
-
 def test_a_console_of_the_package_sends_and_expects(lab: Lab) -> None:
-    said = held(lab, """\
-import re
-with board.console() as console:
-    console.send_line("first second")
-    said.append(console.expect("none", re.compile("sec.nd"), timeout=100))
-    said.append(console.before)
-    try:
-        console.expect("never", timeout=0.5)
-    except fizgruk.TimedOut as late:
-        said.append("timed out")
-board.power.cycle()
-said.append(board.name)""")
-    assert said == [1, "first ", "timed out", "b1"]
-
-
-def test_a_console_whose_board_is_lost_says_so(lab: Lab) -> None:
-    said = held(lab, """\
-with board.console() as console:
-    console.send_line("x")
-    console.expect("x", timeout=100)
-    place = f"{client.server}/reservations/{board.reservation}/cancel"
-    asked = urllib.request.Request(place, data=b"", headers={"x-user": "admin", "x-key": "k"})
-    try:
-        urllib.request.urlopen(asked).read()
-        console.expect("never", timeout=100)
-    except BaseException as fault:
-        said.append("HoldLost" if isinstance(fault, fizgruk.HoldLost) else type(fault).__name__)
-        print(__import__("json").dumps(said)); import os, sys; sys.stdout.flush(); os._exit(0)""")
-    assert said in (["HoldLost"], ["Interrupt"])
+    assert package(lab, HELD.format(server=SERVER)) == [1, "first ", "timed out", "b1"]
 
 
 def test_ways_of_a_board_that_isn_t_held_are_refused(lab: Lab) -> None:

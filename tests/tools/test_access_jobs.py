@@ -1,64 +1,22 @@
-"""Jobs go to their boards by the same ways as people, and reach no others: those of labgrid and of LAVA's dispatcher too.
-Where the dispatcher isn't at work a job's unit is begun as farm-worker begins it (`Lab.job`)."""
+"""Jobs go to their boards by the same ways as people, and reach no others. (test_boards_guide.py: those of labgrid and of
+LAVA's dispatcher.) Where the dispatcher isn't at work a job's unit is begun as farm-worker begins it (`Lab.job`)."""
 from __future__ import annotations
 
 import contextlib
-import os
 import re
-import subprocess
-import threading
 from typing import Iterator, List, Tuple
 
 import pytest
 
-from access_lab import ECHO, Lab, lab_fixture, until
-from machine_lab import COMMAND, lines_for
-from served import PATIENCE, TOP
-from test_boards_run import wants_way
+from access_lab import Lab, lab_fixture, until
+from machine_lab import COMMAND
+from served import PATIENCE
 
 __all__ = ["lab_fixture"]
 pytestmark = [pytest.mark.xdist_group("machine"), pytest.mark.slow(60)]
 NOT_YOURS = 5
 MORE = "/etc/systemd/system/farm-job-.service.d/lab.conf"
 WAY = ("farm-access", "way")
-# What switches the board on by its ways, waits until it says that it is UP, types TYPED, and waits for SAID.
-LABGRID = """[labgrid]
-test = \'\'\'
-from labgrid.protocol import ConsoleProtocol, PowerProtocol
-
-def test_board(target):
-    console = target.get_driver(ConsoleProtocol)
-    target.get_driver(PowerProtocol).cycle()
-    console.expect("UP", timeout=480)
-    console.sendline("TYPED")
-    console.expect("SAID", timeout=200)
-\'\'\'
-"""
-DEVICE = """\
-device_info: {}
-available_architectures: [amd64]
-actions:
-  deploy: {connections: {serial: {}}, methods: {}}
-  boot: {connections: {serial: {}}, methods: {minimal: {}}}
-commands: {connect: telnet lab 7001, hard_reset: /bin/false}
-constants: {boot_retry: 1, failure_retry: 1, kernel-start-message: '', spawn_maxread: 4092, default-shell-prompt: '#'}
-timeouts: {actions: {}, connections: {}}
-"""
-LAVA = """[lava]
-definition = \'\'\'
-job_name: boots
-timeouts: {job: {minutes: 9}, action: {minutes: 8}, connection: {minutes: 8}}
-actions:
-- boot: {method: minimal, prompts: ['board:/#']}
-\'\'\'
-"""
-
-
-def labgrid_of(up: str, typed: str, said: str) -> str:
-    return LABGRID.replace("UP", up).replace("TYPED", typed).replace("SAID", said)
-
-
-OF_WAYS = {"labgrid": labgrid_of("the board is up", "typed by a test", "typed by a test"), "lava": LAVA}
 
 
 @contextlib.contextmanager
@@ -84,49 +42,6 @@ def ended(lab: Lab, number: int, seconds: float = PATIENCE) -> Tuple[str, str]:
     return str(lab.look(f"/jobs/{number}")["result"]), log
 
 
-def drive(lab: Lab, board: str, way: str, text: str, of: str = "bbb") -> Tuple[int, str]:
-    """Has the dispatcher run a job by run-job-labgrid or run-job-lava, and says its number and what is in its log."""
-    for name in ("run-job-labgrid", "run-job-lava"):
-        with open(os.path.join(TOP, "examples", name), encoding="utf-8") as file:
-            lab.machine.write(f"/etc/farm/{name}", file.read(), 0o755)
-    lab.machine.write("/etc/farm/boards/device.yaml", DEVICE)
-    more = lines_for("LAVA") if way == "lava" else ""
-    with dispatching(lab, f"#!/bin/sh\nexec /etc/farm/run-job-{way} --ways /etc/farm/boards\n", more):
-        asked = f"job_name = 'test'\ndevice_type = '{of}'\ntags = ['name={board}']\n{text}"
-        number = int(lab.tell("ann", "/jobs", asked)["number"])
-        result, log = ended(lab, number, 580)
-    assert result == "Complete", log
-    return number, log
-
-
-def feed(line: "subprocess.Popen[bytes]") -> None:
-    """Types without pause, as long as anybody reads it."""
-    assert line.stdin
-    with contextlib.suppress(OSError, ValueError):
-        while True:
-            line.stdin.write(b"ann")
-            line.stdin.flush()
-
-
-@pytest.mark.parametrize("way", ["labgrid", "lava"])
-def test_what_drives_boards_goes_by_their_ways(lab: Lab, way: str) -> None:
-    """A person who types until the hold's end is out, and `after` has run, before the job's first byte; what the console
-    said in the job is the owner's to read."""
-    wants_way(way)
-    held = lab.reserve("ann", "b3")
-    line = lab.begin("ann", "b3", "console")
-    threading.Thread(target=feed, args=(line,), daemon=True).start()
-    until(lambda: lab.text("b3").endswith(b"ann"))
-    before = len(lab.text("b3"))
-    lab.cancel("ann", held)
-    drive(lab, "b3", way, OF_WAYS[way])
-    said = lab.text("b3")[before:]
-    assert said.count(b"<after>the board is up") == 1 and said.rfind(b"ann") < said.index(b"<after>"), said
-    assert way == "lava" or b"typed by a test" in said
-    log = lab.session("ann", "b3", "console", "--log")
-    assert b"the board is up" in log.output, log
-
-
 def test_a_job_that_the_dispatcher_started_goes_to_its_own_boards_alone(lab: Lab) -> None:
     """All of its group's, under the number of the first one, also of a child that left its session; and the kernel has its
     unit below farm.slice."""
@@ -147,21 +62,6 @@ def test_a_job_that_the_dispatcher_started_goes_to_its_own_boards_alone(lab: Lab
     assert [(it.status, it.output) for it in others] == [(NOT_YOURS, b"")] * 2
     used = [(it["job"], it["hold"]) for it in lab.uses() if it.get("words") == "b3 say b3" and it["status"] == 0]
     assert used == [(number, f"job {number + 1}")]
-
-
-def test_a_health_check_goes_to_its_board_alone(lab: Lab) -> None:
-    """As the dispatcher starts one, for a board with nothing but a port."""
-    script = f"echo $FARM_BOARD | farm-access way b4 tcp {ECHO}; farm-access way b1 say x || exit 0; exit 1"
-    lab.machine.write("/etc/farm/check-board", f"#!/bin/sh\n{script}\n", 0o755)
-    lab.tell("admin", "/types", {"name": "checked", "check": "jobs", "every": 20})
-    lab.tell("admin", "/boards", {"name": "b4", "type": "checked", "tags": []})
-    with dispatching(lab, COMMAND):
-        lab.tell("admin", "/boards/b4/health", {"health": "Unknown"})
-        until(lambda: lab.board("b4")["health"] != "Unknown")
-    assert lab.board("b4")["health"] == "Good"
-    lab.tell("admin", "/boards/b4/health", {"health": "Retired"})
-    number = max(map(int, os.listdir(lab.there("/var/lib/farm-dispatch/logs"))))
-    assert ended(lab, number)[1].replace("\r", "").splitlines() == ["echo b4", "farm-access: b1 is no board of this job's"]
 
 
 def test_a_job_s_ways_are_its_own_boards_alone(lab: Lab) -> None:
@@ -207,16 +107,3 @@ def test_a_job_s_console_ends_as_it_is_told_and_with_who_reads_it(lab: Lab) -> N
     ran = lab.try_words(lab.job(number, "/bin/sh", "-c", f"{told}; {begins} | head -c 9 > /dev/null; echo ended"))
     assert ran.output.split() == [b"=4", b"ended"]
     assert until(lambda: not lab.units("b2")) < 60
-
-
-def test_what_a_job_left_is_out_before_the_next_one_s_first_byte(lab: Lab) -> None:
-    number = lab.submit("b2")
-    line = lab.begun(*lab.job(number, *WAY, "b2", "nasty", "JOBS", "0.01"))
-    until(lambda: lab.text("b2").endswith(b"JOBS"))
-    lab.finish(number)
-    lab.reserve("ann", "b2")
-    lab.begin("ann", "b2", "nasty", "ann", "0.01")
-    until(lambda: lab.text("b2").endswith(b"ann"))
-    said = lab.text("b2")
-    assert not said[said.index(b"ann"):].strip(b"an")
-    assert line.wait(60)

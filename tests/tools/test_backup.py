@@ -1,5 +1,6 @@
 """Copies of a farm, by farm-backup: beside a stream of commands and a desk that is killed (SIGKILL) and
-started again, of files that move, that are damaged or that are no farm; and of copies that are too many."""
+started again, of files that are damaged or that are no farm; and of copies that are too many. (unit/backup/: of files that
+move.)"""
 from __future__ import annotations
 
 import contextlib
@@ -13,20 +14,18 @@ import subprocess
 import sys
 import tempfile
 import time
-from typing import Callable, List, Tuple
+from typing import Callable, List
 
 import pytest
 from desks import write
 from recorded import recorded, synced
 from served import PATIENCE, TOOLS, TOP, Board, Farm, environment, read, wait_until
-from streamed import (
-    FIRST, Kills, Salts, Stream, Worker, backup, demand_prefix, quiet_farm, still_farm, words_of
-)
+from streamed import FIRST, Kills, Salts, Stream, Worker, backup, demand_prefix, quiet_farm, still_farm, words_of
 
 Made = Callable[..., Farm]
 BOARDS: List[Board] = [("b1", "bbb", [])]
 IS_FULL = os.environ.get("FARM_FULL") == "1"  # an hour of copies, on a busy machine of four processors
-FARMS, COPIES, MOVED = (20, 50, 200) if IS_FULL else (2, 12, 10)
+FARMS, COPIES = (20, 50) if IS_FULL else (2, 12)
 BESIDE = 40  # commands beside one copy at most, so that a slow machine's farm doesn't grow for ever
 CARRIED = 3  # so often at least each farm's log begins anew beside its copies
 
@@ -62,65 +61,6 @@ def test_each_copy_has_a_prefix_of_the_commands_with_all_that_were_answered(
         it.end()
     assert len(salts.seen) > CARRIED, "how often the log began anew"
     assert len([it for it in os.listdir(folder) if it.startswith("farm-")]) == 2, "what is kept"
-
-
-class Carries(Worker):
-    """SQLite as the desk: in bursts it changes two rows in turn, which lie on two pages, and carries each change into
-    the file before the next, so that the log begins anew."""
-
-    CLOCK = 2_000_000_000
-    TURNS = ["update boards set jobs_since = ?", "update meta set value = ? + 2000000000 where name = 'clock'"]
-
-    def __init__(self, db: str, chance: random.Random):
-        self.db = db
-        self.chance = chance
-        self.turn = 0
-        super().__init__()
-
-    def run(self) -> None:
-        with contextlib.closing(sqlite3.connect(self.db, isolation_level=None)) as conn:
-            conn.execute("pragma synchronous = off")
-            while not self.is_over:
-                until = time.monotonic() + self.chance.uniform(0, 0.4)
-                while time.monotonic() < until:
-                    self.turn += 1
-                    conn.execute(self.TURNS[self.turn % 2], (self.turn,))
-                    conn.execute("pragma wal_checkpoint(restart)")
-                time.sleep(self.chance.uniform(0, 0.4))
-
-
-def turns_in(db: str) -> Tuple[int, int]:
-    """The turns of the two rows in a copy."""
-    with tempfile.TemporaryDirectory() as place:
-        for end in ("", "-wal"):
-            shutil.copy(db + end, f"{place}/farm.db{end}")
-        with contextlib.closing(sqlite3.connect(f"{place}/farm.db")) as conn:
-            board = conn.execute("select jobs_since from boards").fetchone()[0]
-            clock = conn.execute("select value from meta where name = 'clock'").fetchone()[0]
-    return board, clock - Carries.CLOCK
-
-
-@pytest.mark.slow(30)
-@pytest.mark.timeout(2400)
-def test_copies_of_files_that_move_are_the_farm_of_a_moment(make_farm: Made, folder: str) -> None:
-    """Each is made again until they stood still, and never has one row without the other's turn before."""
-    farm = make_farm(BOARDS)
-    still_farm(farm)
-    carries = Carries(farm.db, random.Random(20261126))
-    wait_until("turns", lambda: carries.turn > 2)
-    made = again = 0
-    until = time.monotonic() + 300
-    while made < MOVED or not again and time.monotonic() < until:
-        status, said, errors = backup(farm, folder, "--keep", "1", "--verbose")
-        again += errors.count("copied again: ")
-        if status:
-            assert "no copy within 50 s: " in errors
-            continue
-        made += 1
-        board, clock = turns_in(f"{said.strip()}/farm.db")
-        assert abs(board - clock) == 1
-    carries.end()
-    assert again, "no copy was made again"
 
 
 # ---- one copy
@@ -301,10 +241,7 @@ def test_keep_leaves_what_isnt_an_earlier_copy_of_the_same_farm(make_farm: Made,
 def once(farm: Farm) -> None:
     """A command for a farm that isn't served."""
     key = time.monotonic_ns()
-    body = f'{{"name":"t{key}"}}'
-    head = f"POST /types HTTP/1.1\r\nx-user: admin\r\nx-key: {key}\r\ncontent-length: {len(body)}\r\n\r\n"
-    words = [farm.program, "once", "--db", farm.db, "--at", f"{time.time():.0f}"]
-    assert "200 OK" in subprocess.run(words, input=head + body, capture_output=True, check=True, text=True).stdout
+    farm.tell_at(time.time(), "admin", "/types", {"name": f"t{key}"}, str(key))
 
 
 def test_keep_leaves_each_copy_as_it_is(make_farm: Made, folder: str) -> None:

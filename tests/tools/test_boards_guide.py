@@ -7,7 +7,6 @@ import re
 import shutil
 import socket
 import subprocess
-import time
 from typing import Any, Dict, Iterator, List
 
 import pytest
@@ -17,10 +16,11 @@ from access_lab import UNITS, Lab, lab_fixture, until
 from farm_access import site
 from fizgruk import toml_text
 from kernels import kernel, make_initramfs
+from machine_lab import lines_for
 from ports import free_port
 from served import STARTED, TOOLS, TOP, wait_until
 from test_access_desk import begun, desk
-from test_access_jobs import LAVA, drive, labgrid_of
+from test_access_jobs import dispatching, ended
 from test_boards_run import wants_way
 from wants import wants
 
@@ -57,9 +57,37 @@ exec setsid cttyhack sh
 """
 # What boots the board by its ways; labgrid's has its shell reckon.
 DRIVERS = {
-    "labgrid": labgrid_of("the-board# ", "echo $((6 * 7))", "\\n42"),
-    "lava": LAVA.replace("board:/#", "the-board#"),
+    "labgrid": """[labgrid]
+test = \'\'\'
+from labgrid.protocol import ConsoleProtocol, PowerProtocol
+
+def test_board(target):
+    console = target.get_driver(ConsoleProtocol)
+    target.get_driver(PowerProtocol).cycle()
+    console.expect("the-board# ", timeout=480)
+    console.sendline("echo $((6 * 7))")
+    console.expect("\\n42", timeout=200)
+\'\'\'
+""",
+    "lava": """[lava]
+definition = \'\'\'
+job_name: boots
+timeouts: {job: {minutes: 9}, action: {minutes: 8}, connection: {minutes: 8}}
+actions:
+- boot: {method: minimal, prompts: ['the-board#']}
+\'\'\'
+""",
 }
+DEVICE = """\
+device_info: {}
+available_architectures: [amd64]
+actions:
+  deploy: {connections: {serial: {}}, methods: {}}
+  boot: {connections: {serial: {}}, methods: {minimal: {}}}
+commands: {connect: telnet lab 7001, hard_reset: /bin/false}
+constants: {boot_retry: 1, failure_retry: 1, kernel-start-message: '', spawn_maxread: 4092, default-shell-prompt: '#'}
+timeouts: {actions: {}, connections: {}}
+"""
 
 
 def guide() -> str:
@@ -219,8 +247,7 @@ def test_check_says_of_each_board_which_way_answers(virtual: Lab) -> None:
     assert "b1 console: answers" in said
 
 
-def test_an_emulated_board_from_reserve_to_its_prompt(virtual: Lab, capsys: pytest.CaptureFixture[str]) -> None:
-    since = time.monotonic()
+def test_an_emulated_board_from_reserve_to_its_prompt(virtual: Lab) -> None:
     lab = virtual
     line = begun(lab, "console", "--reserve", "virtual")
     assert line.stdin and line.stdout
@@ -235,14 +262,12 @@ def test_an_emulated_board_from_reserve_to_its_prompt(virtual: Lab, capsys: pyte
         said += line.stdout.read(65536) or b""
         return b"the-board# " in said
 
-    took = until(prompts, BOOTS)
+    until(prompts, BOOTS)
     assert b"the-board# " in said, said[-500:]
     line.stdin.write(b"echo $((6 * 7))\r")
     line.stdin.flush()
     until(lambda: prompts() and b"\n42" in said)
     assert b"\n42" in said, said[-300:]
-    with capsys.disabled():
-        print(f" [prompt {time.monotonic() - since:.1f} s after desk console, {took:.1f} s of them of the board]", end="")
     assert desk(lab, "power", "virt-1", "status").output == b"on\n"
     lab.machine.run("pkill", "-TERM", "-f", "desk .*--reserve")
     line.wait(100)
@@ -252,8 +277,15 @@ def test_an_emulated_board_from_reserve_to_its_prompt(virtual: Lab, capsys: pyte
 
 @pytest.mark.parametrize("way", DRIVERS)
 def test_what_drives_boards_boots_an_emulated_one_by_its_ways(virtual: Lab, way: str) -> None:
+    """By the dispatcher, with run-job-labgrid and run-job-lava."""
     wants_way(way)
-    assert "the-board# " in drive(virtual, "virt-1", way, DRIVERS[way], of="virtual")[1]
+    with open(os.path.join(TOP, f"examples/run-job-{way}"), encoding="utf-8") as file:
+        virtual.machine.write("/etc/farm/driver", file.read(), 0o755)
+    virtual.machine.write("/etc/farm/boards/device.yaml", DEVICE)
+    with dispatching(virtual, "#!/bin/sh\nexec /etc/farm/driver --ways /etc/farm/boards\n", lines_for("LAVA") if way == "lava" else ""):
+        asked = f"job_name = 'test'\ndevice_type = 'virtual'\ntags = ['name=virt-1']\n{DRIVERS[way]}"
+        result, log = ended(virtual, int(virtual.tell("ann", "/jobs", asked)["number"]), 580)
+    assert result == "Complete" and "the-board# " in log, log
     if way == "lava":  # (which switches it off at its end)
         words = [PYTHON, "/usr/local/bin/qemu-power", "/run/qemu-virt-1/qmp", "status"]
         assert virtual.try_words(words).output == b"off\n"

@@ -15,7 +15,7 @@ import runpy
 import shutil
 import signal
 import subprocess
-from typing import Callable, Dict, Iterator, List, NamedTuple, Sequence, Tuple
+from typing import Dict, Iterator, List, Sequence, Tuple
 
 import pytest
 
@@ -167,51 +167,25 @@ def board_fixture(folder: str) -> Iterator[Board]:
 # ---- ways to drive the board
 
 
-class Job(NamedTuple):
-    """The text of a job, how it ends, and what is then in its log."""
+def job_of(way: str, board: Board, panics: bool) -> str:
+    """The text of a job whose board panics, or stays up until it is canceled."""
+    append = "falls" if panics else ""
+    if way == "lava":
+        return lava_job(board, append, PROMPT if panics else "never said")
+    return labgrid_job(board, LABGRID_WATCHES if panics else LABGRID_STAYS, append)
 
-    text: str
-    result: str
-    line: str
 
-
-def labgrid_job(board: Board, test: str, append: str = "", kernel: str = "") -> str:
-    variables = f'{{ LG_KERNEL = "{kernel or board.kernel}", LG_APPEND = "{append}" }}'
+def labgrid_job(board: Board, test: str, append: str = "") -> str:
+    variables = f'{{ LG_KERNEL = "{board.kernel}", LG_APPEND = "{append}" }}'
     return f"[labgrid]\nvariables = {variables}\ntest = '''{test}'''\n"
 
 
-def lava_job(board: Board, append: str = "", kernel: str = "", waited: str = PROMPT) -> str:
-    job = LAVA.replace("@APPEND@", append).replace("@WAITED@", waited)
-    job = board.fill(job.replace("@KERNEL@", kernel or board.kernel))
+def lava_job(board: Board, append: str = "", waited: str = PROMPT) -> str:
+    job = board.fill(LAVA.replace("@APPEND@", append).replace("@WAITED@", waited))
     return f"[lava]\ndefinition = '''{job}'''\n"
 
 
-def labgrid_jobs(board: Board, gone: str) -> Dict[str, Job]:
-    return {
-        "panics": Job(labgrid_job(board, LABGRID_WATCHES, "falls"), "Incomplete", "Kernel panic"),
-        "has no image": Job(labgrid_job(board, LABGRID_BOOTS, kernel=gone), "Infra", f"isn't there: {gone}"),
-        "stays": Job(labgrid_job(board, LABGRID_STAYS), "Canceled", ""),
-    }
-
-
-def lava_jobs(board: Board, gone: str) -> Dict[str, Job]:
-    missing = f"Image file '{gone}' does not exist"
-    return {
-        "panics": Job(lava_job(board, "falls"), "Incomplete", "Kernel panic"),
-        "has no image": Job(lava_job(board, kernel=gone), "Infra", missing),
-        "stays": Job(lava_job(board, waited="never said"), "Canceled", ""),
-    }
-
-
-class Way(NamedTuple):
-    """A way to drive the board: its file of the board, and its jobs."""
-
-    file: str
-    text: str
-    jobs: Callable[[Board, str], Dict[str, Job]]
-
-
-WAYS = {"labgrid": Way("env.yaml", ENVIRONMENT, labgrid_jobs), "lava": Way("q1.yaml", DEVICE, lava_jobs)}
+FILES = {"labgrid": ("env.yaml", ENVIRONMENT), "lava": ("q1.yaml", DEVICE)}  # of the board
 each_way = pytest.mark.parametrize("way", ["labgrid", "lava"])
 
 
@@ -249,7 +223,7 @@ class Lab(dispatch_lab.Lab):
         self.dispatcher = self.dispatch("--grace", "60", every="1", command=[command, self.of_board])
 
     def submit(self, text: str) -> None:
-        self.begin({WAYS[self.way].file: WAYS[self.way].text})
+        self.begin(dict([FILES[self.way]]))
         whole = f"job_name = 'boots'\ndevice_type = 'qemu'\n{text}[timeouts]\njob = '15 minutes'\n"
         assert self.farm.tell("ann", "/jobs", whole.encode())["number"] == 1
 
@@ -278,22 +252,20 @@ def lab(way: str, board: Board, program: str, folder: str) -> Lab:
 @pytest.mark.slow(40)
 @pytest.mark.timeout(1000)
 @each_way
-@pytest.mark.parametrize("what", ["panics", "has no image"])
-def test_result(what: str, way: str, lab: Lab, folder: str) -> None:
-    """A panic is Incomplete, and an image that isn't there Infra; the log says so, without what a terminal alone reads."""
-    job = WAYS[way].jobs(lab.board, os.path.join(folder, "gone"))[what]
-    lab.submit(job.text)
-    assert lab.ends() == job.result, lab.log(1)
-    assert job.line in lab.log(1)
+def test_panic(way: str, lab: Lab) -> None:
+    """A panic is Incomplete; the log says so, without what a terminal alone reads."""
+    lab.submit(job_of(way, lab.board, True))
+    assert lab.ends() == "Incomplete", lab.log(1)
+    assert "Kernel panic" in lab.log(1)
     assert "\x1b" not in lab.log(1)
 
 
 @pytest.mark.slow(40)
 @pytest.mark.timeout(1000)
 @each_way
-def test_cancel(way: str, lab: Lab, folder: str) -> None:
+def test_cancel(way: str, lab: Lab) -> None:
     """A cancel while the board is up ends the emulator, and needs no grace."""
-    lab.submit(WAYS[way].jobs(lab.board, os.path.join(folder, "gone"))["stays"].text)
+    lab.submit(job_of(way, lab.board, False))
     wait_until("the board is up", lab.is_up, 600)
     assert len(lab.board.processes()) == 1
     if way == "lava":
@@ -323,46 +295,28 @@ def test_lava_folders(folder: str) -> None:
 # ---- health checks
 
 
-def labgrid_check(board: Board, seconds: int) -> Dict[str, str]:
-    """labgrid's files of a board that is checked by what run-job-labgrid does where a lab has no check of its own,
-    but for how long it waits."""
-    checks = runpy.run_path(os.path.join(TOP, "examples", "run-job-labgrid"))
-    text = ENVIRONMENT.replace("!template $LG_KERNEL", board.kernel).replace(" $LG_APPEND", "")
-    return {"env.yaml": text, "check.py": checks["CHECK"].replace("timeout=60", f"timeout={seconds}")}
-
-
-def lava_check(board: Board, seconds: int) -> Dict[str, str]:
-    job = LAVA.replace("action: {minutes: 5}", f"action: {{seconds: {seconds}}}")
-    job = job.replace("@KERNEL@", board.kernel).replace("@APPEND@", "").replace("@WAITED@", PROMPT)
-    return {"q1.yaml": DEVICE, "q1.check.yaml": job}
-
-
-CHECKS = {"labgrid": labgrid_check, "lava": lava_check}
-DEAD = {"labgrid": "TIMEOUT", "lava": "timed out after"}
+def check_of(way: str, board: Board) -> Dict[str, str]:
+    """The files of a board that is checked; labgrid's by what run-job-labgrid does where a lab has no check of its own, but
+    for how long it waits."""
+    if way == "labgrid":
+        check = runpy.run_path(os.path.join(TOP, "examples", "run-job-labgrid"))["CHECK"].replace("timeout=60", "timeout=300")
+        text = ENVIRONMENT.replace("!template $LG_KERNEL", board.kernel).replace(" $LG_APPEND", "")
+        return {"env.yaml": text, "check.py": check}
+    return {"q1.yaml": DEVICE, "q1.check.yaml": LAVA.replace("@APPEND@", "").replace("@WAITED@", PROMPT)}
 
 
 @pytest.mark.slow(40)
 @pytest.mark.timeout(1000)
 @each_way
-@pytest.mark.parametrize("health", ["Good", "Bad"])
-def test_check(health: str, way: str, board: Board, program: str, folder: str) -> None:
-    """A health check makes a board that boots Good, and one whose firmware only halts Bad; its log says why."""
+def test_check(way: str, board: Board, program: str, folder: str) -> None:
+    """A health check makes a board that boots Good. (test_dispatch_commands.py: one that says nothing.)"""
     lab = Lab(way, board, program, folder, ())
-    firmware = os.path.join(folder, "firmware")
-    with open(firmware, "wb") as file:
-        file.write(b"\xf4" * 65536)
-    name = "-name @NAME@" if health == "Good" else f"-bios {firmware}{',' if way == 'lava' else ''} -name @NAME@"
-    files = CHECKS[way](board, 300 if health == "Good" else 10)
     lab.farm.tell("admin", "/types", {"name": "qemu", "check": "jobs", "every": 20})
     lab.farm.tell("admin", "/boards", {"name": "q1", "type": "qemu", "tags": []})
     lab.farm.tell("admin", "/boards/q1/health", {"health": "Unknown"})
-    lab.begin({file: text.replace("-name @NAME@", name) for file, text in files.items()})
+    lab.begin(check_of(way, board))
     wait_until("the check ends", lambda: lab.farm.board("q1")["health"] != "Unknown", 900)
-    assert lab.farm.board("q1")["health"] == health, lab.log(1)
-    assert lab.ends() == ("Complete" if health == "Good" else "Incomplete")
-    assert health == "Good" or DEAD[way] in lab.log(1)
-    seen = f'"to":"{health}"'
-    wait_until("the history has it", lambda: seen in read(os.path.join(lab.place, "history.jsonl")))
+    assert (lab.farm.board("q1")["health"], lab.ends()) == ("Good", "Complete"), lab.log(1)
 
 
 # ---- the commands without a dispatcher, nor a board that boots
@@ -418,44 +372,6 @@ def test_lava_has_a_board_s_ways_in_the_place_of_its_device_s_own(folder: str, m
     }
 
 
-UP = "import pytest\n@pytest.fixture\ndef up():\n    raise {}\ndef test(up): pass\n"
-
-
-@pytest.mark.parametrize("status, test", [
-    (0, "import os\ndef test(target): assert os.environ['LG_PLACE'] == 'q1'"),
-    (1, "def test(:"),
-    (1, ""),
-    (1, UP.format("ValueError")),
-    (75, UP.format("ConnectionRefusedError")),
-    (75, "def test(target): target.get_driver('ShellDriver')"),
-    (75, "def test(target): target.get_resource('RemotePlace')"),
-    (75, "import pytest\ndef test(): pytest.exit('as labgrid, without its place')"),
-])
-def test_labgrid_status(status: int, test: str, folder: str) -> None:
-    """labgrid's and pytest's ways to end: a test that can't be run is Incomplete, what a board lacks Infra.
-    (test_dispatch_commands.py: what fails in a test.)"""
-    wants_way("labgrid")
-    write(os.path.join(folder, "env.yaml"), "targets: {main: {drivers: {}}}\n")
-    assert status_of("labgrid", folder, f'[labgrid]\ntest = """{test}"""\n') == status
-
-
-def test_labgrid_variable(folder: str) -> None:
-    """A job may set no variable but labgrid's."""
-    wants_way("labgrid")
-    write(os.path.join(folder, "env.yaml"), "targets: {main: {drivers: {}}}\n")
-    assert status_of("labgrid", folder, "[labgrid]\nvariables = { OTHER = 'x' }\ntest = ''\n") == 1
-
-
-@pytest.mark.parametrize("file", [
-    "targets: {", "images: {kernel: !template $LG_NONE}", "images: {kernel: gone}",
-])
-def test_labgrid_environment(file: str, folder: str) -> None:
-    """A file of the board that labgrid can't take is Infra."""
-    wants_way("labgrid")
-    write(os.path.join(folder, "env.yaml"), file)
-    assert status_of("labgrid", folder, "[labgrid]\ntest = 'def test(): pass'\n") == 75
-
-
 @pytest.mark.slow(10)
 @pytest.mark.parametrize("of_device, of_job, status", [
     (("", ""), ("job_name: boots", "job_name: [boots"), 1),
@@ -463,11 +379,12 @@ def test_labgrid_environment(file: str, folder: str) -> None:
     (("", ""), ("- boot:", "- dance:"), 1),
     (("constants:", "others:"), ("", ""), 75),
     ((DEVICE, "no: [YAML"), ("", ""), 75),
+    (("", ""), ("file://", "file:///gone"), 75),
 ])
 def test_lava_status(
     of_device: Tuple[str, str], of_job: Tuple[str, str], status: int, board: Board, folder: str
 ) -> None:
-    """What lava-run finds wrong: a job's error is Incomplete, a device file's Infra."""
+    """What lava-run finds wrong: a job's error is Incomplete, a device file's and an image that isn't there Infra."""
     wants_way("lava")
     write(os.path.join(folder, "q1.yaml"), board.fill(DEVICE.replace(*of_device)))
     assert status_of("lava", folder, lava_job(board).replace(*of_job)) == status

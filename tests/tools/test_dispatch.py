@@ -6,15 +6,15 @@ from __future__ import annotations
 import json
 import os
 import pathlib
-import random
 import subprocess
 import sys
 import tempfile
 import time
-from typing import Dict, List, Sequence
+from typing import List
 
 import pytest
-from dispatch_lab import AT_IT, BOARDS, Lab, MakeLab, Proxy, one_line_each, replace
+from answering import Proxy
+from dispatch_lab import AT_IT, BOARDS, TWO, Lab, MakeLab, replace
 from dispatch_lab import lab_fixture, make_lab_fixture  # noqa: F401
 from served import MODULES, TOP, Tool, environment, read, wait_until
 from wants import wants
@@ -142,35 +142,6 @@ def test_jobs_end_with_it(lab: Lab) -> None:
     lab.closes(dispatcher)
 
 
-def test_killed_dispatchers(lab: Lab) -> None:
-    """Over many killed dispatchers, and some killed desks, each of 28 groups is begun once at most, ends, and has its line."""
-    seed = random.randrange(10**6)
-    dice = random.Random(seed)
-    numbers = [lab.farm.submit(f"sleep 0.{dice.randrange(4)}") for _ in range(24)]
-    numbers += [lab.two("sleep 0.2")[0] for _ in range(4)]
-    kills = passes = 0
-    dispatcher = lab.dispatch(every="0.1")
-    until = time.monotonic() + 12
-    while time.monotonic() < until and lab.farm.look("/queue")["queue"]:
-        time.sleep(dice.uniform(0.05, 1.5))
-        dispatcher.kill()
-        kills += 1
-        passes, before = lab.passes(), passes
-        assert before <= passes, f"passes that a kill took back (seed {seed})"
-        if kills % 5 == 0:
-            lab.farm.kill()
-            lab.farm.start()
-        dispatcher = lab.dispatch(every="0.1")
-    results = [lab.finished(number) for number in numbers]
-    assert set(results) <= {"Complete", "Infra"} and "Complete" in results, (results, seed)
-    assert [it for it in numbers if lab.begins(it) > 1] == [], f"seed {seed}"
-    assert [it for it, result in zip(numbers, results) if result == "Complete" and lab.begins(it) != 1] == []
-    wait_until("no job holds a board", lambda: {it["holder"] for it in lab.farm.look("/boards")["boards"]} == {"none"})
-    members = [it + place for it in numbers[-4:] for place in range(2)]
-    one_line_each(lab, [*numbers[:-4], *members], f"(seed {seed})")
-    lab.closes(dispatcher)
-
-
 def test_a_desk_that_lets_it_in_no_more_ends_no_dispatcher(lab: Lab) -> None:
     """As where a proxy's file of passwords is written: a 401 of some seconds. What runs goes on, and is told."""
     shut: List[int] = []
@@ -225,42 +196,28 @@ def test_told_to_end_at_any_moment(lab: Lab) -> None:
 
 
 def test_unstartable_scripts(lab: Lab) -> None:
-    """Scripts that aren't executable finish no job and condemn no board; it is told, status 5. The fault that was
-    seen: boards were condemned while both scripts weren't executable."""
+    """A script that isn't executable finishes no job and condemns no board; it is told once, status 5."""
     lab.farm.tell("admin", "/types", {"name": "checked", "check": "jobs", "every": 20})
-    for name in ("c1", "c2"):
-        lab.farm.tell("admin", "/boards", {"name": name, "type": "checked"})
+    lab.farm.tell("admin", "/boards", {"name": "c1", "type": "checked"})
     check = os.path.join(lab.folder, "check")
     replace(check, "#!/bin/sh\ntrue\n")
-    words = ["--check-board", check]
-    dispatcher = lab.dispatch(*words)
+    dispatcher = lab.dispatch("--check-board", check)
     assert lab.finished(lab.farm.submit("true")) == "Complete", "a job before"
-    # (in this order: of both faults it tells the command's, and so there is one text to tell)
-    os.chmod(lab.command, 0o644)
     os.chmod(check, 0o644)
-    for name in ("c1", "c2"):
-        lab.farm.tell("admin", f"/boards/{name}/health", {"health": "Unknown"})
-    jobs = [lab.farm.submit("true") for _ in range(6)]
+    lab.farm.tell("admin", "/boards/c1/health", {"health": "Unknown"})
+    number = lab.farm.submit("true")
     wait_until("it tells it", lambda: "not executable" in dispatcher.errors())
     count = lab.farm.look("/status")["count"]
     time.sleep(3)
     assert lab.farm.look("/status")["count"] == count, "passes while it stands"
-    assert [it for it in jobs if lab.farm.job(it)["result"]] == [], "jobs that are Finished"
-    healths = {it["name"]: it["health"] for it in lab.farm.look("/boards")["boards"]}
-    wanted = {**{it[0]: "Good" for it in BOARDS}, "c1": "Unknown", "c2": "Unknown"}
-    assert healths == wanted, "the boards' health"
+    assert (lab.farm.job(number)["result"], lab.farm.board("c1")["health"]) == ("", "Unknown")
     assert dispatcher.errors().count("not executable") == 1, "how often it is told"
     lab.stops(dispatcher, 5)
-    dispatcher = lab.dispatch(*words)
+    dispatcher = lab.dispatch("--check-board", check)
     wait_until("the next tells it", lambda: dispatcher.errors().count("not executable") == 2)
-    assert lab.farm.look("/status")["count"] == count, "passes of the next"
     os.chmod(check, 0o755)
-    os.chmod(lab.command, 0o755)
-    for number in jobs:
-        assert lab.finished(number) == "Complete", f"job {number}, once they are mended"
-        assert lab.begins(number) == 1, "how often it was begun"
-    for name in ("c1", "c2"):
-        wait_until(f"{name} is Good", lambda: lab.farm.board(name)["health"] == "Good")
+    assert (lab.finished(number), lab.begins(number)) == ("Complete", 1), "once it is mended"
+    wait_until("c1 is Good", lambda: lab.farm.board("c1")["health"] == "Good")
     wait_until("it tells that it goes on", lambda: "it goes on" in dispatcher.errors())
     lab.closes(dispatcher)
 
@@ -269,103 +226,65 @@ def test_unstartable_scripts(lab: Lab) -> None:
 
 
 @pytest.mark.slow(20)
-def test_time_limits(make_lab: MakeLab) -> None:
-    """A time limit ends a job by SIGTERM, SIGKILL after the grace; it is Incomplete, as told."""
-    lab = make_lab([(f"b{it}", "bbb", []) for it in range(1, 11)])
+def test_time_limits(lab: Lab) -> None:
+    """A time limit ends a job by SIGTERM, SIGKILL after the grace; it is Incomplete, as told. (unit/test_limits.py: how long
+    it is.)"""
     stubborn = f"trap : TERM; {lab.sleep} 201 & {AT_IT}"
-    polite = f'trap "exit 0" TERM; {AT_IT}'
     over = "farm-dispatch: time limit of 9 seconds, status 143\n"
-    by_default = "time limit of 10 seconds (the default), status 143"
     # What each runs, its limit, how it ends, and what its log has.
     rows = [
         (lab.sleeps(202), 'job = "9 seconds"', "time limit of 9 seconds, status 143", over),
         (stubborn, "job = { seconds = 9 }", "time limit of 9 seconds, signal 9", ""),
-        (polite, "job.seconds = 9", "time limit of 9 seconds, status 0", "farm-dispatch: time limit"),
-        (lab.sleeps(203), "", by_default, "of 10 seconds (the default)"),
         (lab.sleeps(204), 'job = "3 days"', "time limit of 30 seconds, status 143", "is 3 days: "),
-        (lab.sleeps(205), 'job = "soon"', by_default, "timeouts.job can't be read: 'soon'"),
+        (lab.sleeps(205), 'job = "soon"', "time limit of 10 seconds (the default), status 143", "timeouts.job can't be read: 'soon'"),
     ]
-    numbers = [submitted(lab, run, limit) for run, limit, _, _ in rows]
-    quick = submitted(lab, "sleep 0.2", 'job = "30 seconds"')
-    two = f"""job_name = 'two'
-run = 'exec {lab.sleep} 206'
-[roles.a]
-device_type = 'bbb'
-count = 2
-[timeouts]
-job = {{ minutes = 0, seconds = 9 }}
-"""
+    numbers = [lab.farm.submit(run, more=f"[timeouts]\n{limit}\n") for run, limit, _, _ in rows]
+    two = f"{TWO.format(lab.sleeps(206))}[timeouts]\njob = {{ minutes = 0, seconds = 9 }}\n"
     first = lab.farm.tell("ann", "/jobs", two.encode())["number"]
     dispatcher = lab.dispatch("--grace", "20", "--limit", "10", DISPATCH_MOST="30 seconds")
-    rows.append(("", "", "time limit of 9 seconds, status 143", over))
-    for number, (_, _, ended, line) in zip([*numbers, first], rows):
+    rows += [("", "", "time limit of 9 seconds, status 143", over)] * 2
+    for number, (_, _, ended, line) in zip([*numbers, first, first + 1], rows):
         assert lab.finished(number) == "Incomplete", f"the result of {number}"
         assert lab.settled(number)["reason"] == ended, f"how {number} ended"
         assert line in lab.log(number), f"the log of {number}"
-    assert lab.finished(first + 1) == "Incomplete", "the group's second member"
-    assert lab.finished(quick) == "Complete", "one that ends in time"
-    assert lab.log(quick) == "", "its log"
     assert lab.sleepers(201) == [], "what the stubborn one left"
     lab.closes(dispatcher)
-
-
-def submitted(lab: Lab, run: str, timeout: str) -> int:
-    return lab.farm.submit(run, more=f"[timeouts]\n{timeout}\n" if timeout else "")
 
 
 # ---- settings and clocks
 
 
-@pytest.mark.parametrize("words, text, around, status, told", [
-    ((), "[dispatch]\nserber = x\n", {}, 2, "serber in [dispatch] is no setting: is server meant?"),
-    ((), "", {"DISPATCH_QQ": ""}, 2, "there are DISPATCH_SERVER, DISPATCH_USER"),
-    (("--limit", "soon"), "", {}, 4, "limit: 'soon'"),
-])
-def test_settings_that_there_arent(
-    folder: str, words: Sequence[str], text: str, around: Dict[str, str], status: int, told: str
-) -> None:
-    """It tells them, with what may be meant, and ends."""
-    tell(f"{folder}/desk.ini", text)
-    tool = Tool(["farm-dispatch", "--folder", folder, "--config", f"{folder}/desk.ini", *words, "true"], folder, **around)
-    assert tool.ends() == status and told in tool.errors()
+def test_settings_that_there_arent(folder: str) -> None:
+    """It tells them, with what may be meant, and ends with 2."""
+    tell(f"{folder}/desk.ini", "[dispatch]\nserber = x\n")
+    tool = Tool(["farm-dispatch", "--folder", folder, "--config", f"{folder}/desk.ini", "true"], folder)
+    assert tool.ends() == 2 and "serber in [dispatch] is no setting: is server meant?" in tool.errors()
 
 
-def test_farm_ahead(lab: Lab) -> None:
-    """A farm's clock that is ahead is told. One import with a moment three days ahead."""
+def test_clocks(lab: Lab) -> None:
+    """Nothing is asked before this machine's clock is set, where `timedatectl` can tell that; --clock any asks. A farm's clock
+    that is ahead is told once, here by an import with a moment of three days later. (unit/test_clocks.py: when.)"""
     lab.farm.kill()
-    lab_file = os.path.join(lab.folder, "lab.toml")
-    with open(lab_file, "w", encoding="utf-8") as file:
-        file.write("[types.ddd]\n")
+    lab_file, said = (os.path.join(lab.folder, it) for it in ("lab.toml", "said"))
+    tell(lab_file, "[types.ddd]\n")
     at = str(int(time.time()) + 3 * 86400 + 3000)
     words = [lab.farm.program, "import", "--db", lab.farm.db, "--at", at, lab_file]
     subprocess.run(words, check=True, stdout=subprocess.DEVNULL)
     lab.farm.start()
-    dispatcher = lab.dispatch()
-    told = "the farm's clock is 3 days ahead of this machine's: leases won't end until then"
-    wait_until("it is told", lambda: told in dispatcher.errors())
-    assert lab.finished(lab.farm.submit("true")) == "Complete", "a job"
-    assert dispatcher.errors().count("ahead of this machine's") == 1, "how often it is told"
-    lab.closes(dispatcher)
-
-
-def test_clock_not_set(lab: Lab) -> None:
-    """Nothing is asked before the clock is set, where that can be told; --clock any asks. A machine whose time
-    service runs and hasn't set the clock, as `timedatectl` says."""
-    said = os.path.join(lab.folder, "said")
     replace(os.path.join(lab.folder, "timedatectl"), f"#!/bin/sh\ncat {said}\n")
     own = {"PATH": f"{lab.folder}:{os.environ['PATH']}"}
     tell(said, "NTP=yes\nNTPSynchronized=no\n")
-    number = lab.farm.submit("true")
-    count = lab.farm.look("/status")["count"]
+    number, count = lab.farm.submit("true"), lab.farm.look("/status")["count"]
     dispatcher = lab.dispatch(**own)
     wait_until("it is told", lambda: "hasn't set the clock yet" in dispatcher.errors())
     time.sleep(1)
     assert lab.farm.look("/status")["count"] == count, "what was asked of the desk"
     tell(said, "NTP=yes\nNTPSynchronized=yes\n")
     assert lab.finished(number) == "Complete", "a job, once it is set"
-    tell(said, "NTP=yes\nNTPSynchronized=no\n")
-    assert lab.finished(lab.farm.submit("true")) == "Complete", "one after its servers were lost"
+    told = "the farm's clock is 3 days ahead of this machine's: leases won't end until then"
+    wait_until("it is told", lambda: dispatcher.errors().count(told) == 1)
     lab.stops(dispatcher)
+    tell(said, "NTP=yes\nNTPSynchronized=no\n")
     os.unlink(os.path.join(lab.place, "synchronized"))
     dispatcher = lab.dispatch("--clock", "any", **own)
     assert lab.finished(lab.farm.submit("true")) == "Complete", "one where nobody waits for it"

@@ -61,6 +61,10 @@ def run(folder: str, command: str, text: str, **more: str) -> Tuple[int, str]:
     return found.returncode, found.stdout + found.stderr
 
 
+EMPTY = "targets: {main: {drivers: {}}}\n"
+UP = "import pytest\n@pytest.fixture\ndef up():\n    raise {}\ndef test(up): pass\n"
+PASSES = "def test(): pass"
+# A board's file, and a test of a job that has a variable of labgrid's.
 ROWS: Dict[str, Tuple[str, str, int]] = {
     "a power command fails in a test": (POWER.format(on="'false'", off="'true'"), ON, 75),
     "a power command fails after a test": (POWER.format(on="'true'", off="'false'"), OFF_AT_END, 75),
@@ -68,17 +72,37 @@ ROWS: Dict[str, Tuple[str, str, int]] = {
     "a serial port can't be opened in a test": (SERIAL, OPENS, 75),
     "a command of the test's own fails": (POWER.format(on="'true'", off="'true'"), OWN, 1),
     "a file of the test's own isn't there": (POWER.format(on="'true'", off="'true'"), OWN_FILE, 1),
+    "a test has its board's name": (EMPTY, "import os\ndef test(target): assert os.environ['LG_PLACE'] == 'b1'", 0),
+    "a test is no Python": (EMPTY, "def test(:", 1),
+    "there is no test": (EMPTY, "", 1),
+    "a fixture fails": (EMPTY, UP.format("ValueError"), 1),
+    "a fixture gets no connection": (EMPTY, UP.format("ConnectionRefusedError"), 75),
+    "a board lacks a driver": (EMPTY, "def test(target): target.get_driver('ShellDriver')", 75),
+    "a board lacks a resource": (EMPTY, "def test(target): target.get_resource('RemotePlace')", 75),
+    "pytest is ended": (EMPTY, "import pytest\ndef test(): pytest.exit('as labgrid, without its place')", 75),
+    "a board's file is no YAML": ("targets: {", PASSES, 75),
+    "a board's file names no variable": ("images: {kernel: !template $LG_NONE}", PASSES, 75),
+    "an image of the board isn't there": ("images: {kernel: gone}", PASSES, 75),
+    "an image of the job's isn't there": ("images: {kernel: !template $LG_KERNEL}", PASSES, 75),
 }
 
 
 @pytest.mark.parametrize("row", ROWS)
 def test_labgrids_faults(tmp_path: pathlib.Path, row: str) -> None:
-    """What labgrid's drivers meet in any phase is the lab's fault; what a test meets itself is the job's."""
+    """What labgrid's drivers meet in any phase, and what a board lacks, is the lab's fault; what a test meets itself is the
+    job's."""
     wants_python_with("labgrid", "pytest")
     board, test, status = ROWS[row]
     (tmp_path / "b1.yaml").write_text(board)
-    said = run(str(tmp_path), "run-job-labgrid", f"[labgrid]\ntest = '''\n{test}'''\n")
+    said = run(str(tmp_path), "run-job-labgrid", f"[labgrid]\nvariables.LG_KERNEL = '/gone'\ntest = '''\n{test}'''\n")
     assert said[0] == status, said[1]
+
+
+def test_a_job_sets_no_variable_but_labgrids(tmp_path: pathlib.Path) -> None:
+    wants_python_with("labgrid", "pytest")
+    (tmp_path / "b1.yaml").write_text(EMPTY)
+    said = run(str(tmp_path), "run-job-labgrid", f"[labgrid]\nvariables.OTHER = 'x'\ntest = '{PASSES}'\n")
+    assert said[0] == 1, said[1]
 
 
 @pytest.mark.parametrize("cmd, own, status", [

@@ -1,51 +1,17 @@
-"""The history that farm-dispatch keeps: a line a job over any kill, a line a change of health, the newest lines,
-and the logs that a proxy serves."""
+"""The history that farm-dispatch keeps: a line a job, a line a change of health, the newest lines, and the logs that a proxy
+serves. (A line a job over any kill: unit/test_runs.py.)"""
 from __future__ import annotations
 
 import json
 import os
-import random
-import signal
 import tempfile
 import time
-from concurrent import futures
 from typing import Any, Dict, List, Set
 
-import dying
 from dispatch_lab import Lab, jobs_of, lines_of, one_line_each
 from dispatch_lab import lab_fixture, make_lab_fixture  # noqa: F401
-from forks import ReadOnce
-from served import Farm, Tool, read, wait_until
+from served import Farm, read, wait_until
 
-# Of kills while folders are made so many, and of those at an end one in so many; more with FARM_KILLS=all.
-KILLS = (8, 1) if os.environ.get("FARM_KILLS") == "all" else (3, 2)
-
-
-# A dispatcher that kills itself at one of the places at which it writes, renames or gives a
-# command, counted from its start on, from its first `finish`, or from its first line of the
-# history.
-DIES = "sys.argv[1:] = ['', '-1']\n" + dying.HEAD + """\
-phase = ""
-def begins(call, words):
-    if phase == "finish":
-        return call.__name__ == "tell" and words[1].endswith("/finish")
-    return phase == "start" or call.__name__ == "write" and words[1][:7] == b'{"kind"'
-def counts(call, words):
-    global phase
-    if begins(call, words):
-        phase = "start"
-    return phase == "start"
-die_in(os, "link", "ftruncate")
-from farm_dispatch import main as dispatch
-from fizgruk import calls
-die_in(calls.Desk, "tell", "nudge")
-def main(words):
-    global left, phase
-    with open(words[0], "w") as mark:
-        mark.write(str(os.getpid()))
-    os.environ["RUNS"], phase, left = words[1], words[2], int(words[3])
-    return dispatch.main(words[4:])
-"""
 JOB_FIELDS = [
     "kind", "job", "group", "owner", "boards", "type", "name", "submitted", "began", "ended",
     "outcome", "reason", "unit", "worker",
@@ -65,58 +31,6 @@ def are_newest(lab: Lab, kind: str, rows: List[Dict[str, Any]]) -> None:
     wait_until(f"the newest {kind}", lambda: newest_of(lab)[kind] == rows[::-1])
 
 
-def dies_at(lab: Lab, dispatch: ReadOnce, phase: str, place: int) -> List[int]:
-    """Runs a dispatcher that kills itself at a place, or is killed where it has done all before.
-    Returns the jobs that it was given: one, and a group of two."""
-    numbers = [lab.farm.submit("true"), *lab.two()]
-    words = [lab.mark, lab.runs, phase, place, "--server", lab.farm.server, "--folder", lab.place, "--every", "0.1", lab.command]
-    with futures.ThreadPoolExecutor(1) as beside:
-        ran = beside.submit(dispatch.run, *words)
-        wait_until(f"it is dead or done, {phase} {place}", lambda: ran.done() or are_done(lab, numbers))
-        if not ran.done():
-            os.kill(int(read(lab.mark)), signal.SIGKILL)
-    assert ran.result().stderr == "", f"what it tells, {phase} {place}"
-    return numbers
-
-
-def are_done(lab: Lab, numbers: List[int]) -> bool:
-    """Whether nothing is left to be done for these jobs."""
-    states = {lab.farm.job(it)["state"] for it in numbers}
-    return states == {"Finished"} and not any(lab.record(it) for it in numbers)
-
-
-def test_a_line_over_any_kill(lab: Lab) -> None:
-    """Over {len(places)} kills, {between} of them between a job's end and its mark, each of {len(numbers)} jobs
-    has one line. Kills at places at which a dispatcher writes something or gives a command: some while it makes
-    the jobs' folders, and from the first end of a job on every second one by chance, or each one with --full."""
-    seed = random.randrange(10**6)
-    dice, about = random.Random(seed), f"(seed {seed})"
-    places = [("start", it) for it in dice.sample(range(1, 40), KILLS[0])]
-    ends = [("finish", it) for it in range(1, 22)], [("line", it) for it in range(1, 11)]
-    for them in ends:
-        places += dice.sample(them, max(1, len(them) // KILLS[1]))
-    dice.shuffle(places)
-    numbers, between, dispatch = [], 0, ReadOnce(DIES)
-    for phase, place in places:
-        numbers += dies_at(lab, dispatch, phase, place)
-        between += bool(unmarked(lab, numbers))
-    assert between >= 3, f"kills between a job's end and its mark, at least three {about}"
-    dispatcher = lab.dispatch(every="0.1")
-    for number in numbers:
-        assert lab.finished(number) in ("Complete", "Infra"), f"job {number} {about}"
-    one_line_each(lab, numbers, about)
-    groups = {lab.farm.job(it)["group"] for it in numbers}
-    assert [it for it in groups if lab.begins(it) > 1] == [], f"jobs begun twice {about}"
-    lab.closes(dispatcher)
-
-
-def unmarked(lab: Lab, numbers: List[int]) -> List[int]:
-    """Those of these jobs that the desk has finished, and the dispatcher hasn't marked so."""
-    views = [lab.farm.job(it) for it in numbers]
-    ended = {it["group"] for it in views if it["state"] == "Finished"}
-    return [it for it in ended if lab.record(it)]
-
-
 def test_what_a_line_says(lab: Lab) -> None:
     """A line says whose a job was, on which board, when, how it ended and why."""
     before = int(time.time())
@@ -124,8 +38,6 @@ def test_what_a_line_says(lab: Lab) -> None:
     ends = {
         "true": ("Complete", ""),
         "exit 3": ("Incomplete", "status 3"),
-        "exit 75": ("Infra", "status 75"),
-        "kill -9 $PPID": ("Infra", "signal 9"),
         "kill -40 $PPID": ("Infra", "signal 40"),  # (a realtime one has no name of its own)
     }
     numbers = {lab.farm.submit(run): run for run in ends}
@@ -187,32 +99,15 @@ def test_changes_of_health(lab: Lab) -> None:
         (board, "Unknown", f"job {number} ended Infra"),
     ]
     assert [it for it in wanted if it not in reasons] == [], "changes that aren't told"
-    dispatcher.kill()
-    lab.closes(told_over_kills(lab, board, check))
+    lab.farm.tell("admin", f"/boards/{board}/health", {"health": "Maintenance"})
+    wait_until("what the admin did is told", lambda: healths_of(lab)[-1]["reason"] == "by the admin")
+    assert (healths_of(lab)[-1]["from"], last_of(lab, board)) == ("Unknown", "Maintenance")
+    are_newest(lab, "boards", healths_of(lab))
+    lab.closes(dispatcher)
 
 
 def checks_of(lab: Lab) -> List[Dict[str, Any]]:
     return [it for it in jobs_of(lab) if it["name"] == "health check"]
-
-
-def told_over_kills(lab: Lab, board: str, check: str) -> Tool:
-    """What the admin does with a board that is Unknown, while no dispatcher runs and after. Returns the one that runs then."""
-    lab.farm.tell("admin", f"/boards/{board}/health", {"health": "Maintenance"})
-    count = len(healths_of(lab))
-    dispatcher = lab.dispatch("--check-board", check)
-    wait_until("the change is told", lambda: last_of(lab, board) == "Maintenance")
-    dispatcher.kill()
-    dispatcher = lab.dispatch("--check-board", check)
-    lab.farm.tell("admin", f"/boards/{board}/health", {"health": "Good"})
-    wait_until("the next is told", lambda: last_of(lab, board) == "Good")
-    rows = healths_of(lab)[count:]
-    found = [(it["board"], it["from"], it["to"], it["reason"]) for it in rows]
-    by_admin = "by the admin"
-    assert found == [(board, "Unknown", "Maintenance", by_admin), (board, "Maintenance", "Good", by_admin)], (
-        "what the admin did"
-    )
-    are_newest(lab, "boards", healths_of(lab))
-    return dispatcher
 
 
 def last_of(lab: Lab, board: str) -> str:

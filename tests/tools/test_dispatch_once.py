@@ -7,7 +7,8 @@ import shutil
 from typing import Optional
 
 import pytest
-from dispatch_lab import BOARDS, Lab, MakeLab, Proxy, one_line_each
+from answering import Proxy
+from dispatch_lab import BOARDS, Lab, MakeLab, one_line_each
 from dispatch_lab import lab_fixture, make_lab_fixture  # noqa: F401
 from served import read
 
@@ -46,7 +47,8 @@ def test_a_record_that_goes_while_others_read_it(lab: Lab) -> None:
     """On a slow disk a group's record goes while the next groups are given to their machines: it names its jobs to its end."""
     dispatcher = lab.patched(
         """
-sync, give = disk.sync_folder, D._give
+from fizgruk._tools import disk
+sync, give = disk.sync_folder, dispatcher.Dispatcher._give
 def slowly(folder):
     if folder.endswith("/open") and sys._getframe(1).f_code.co_name == "drop":
         time.sleep(2)
@@ -54,7 +56,7 @@ def slowly(folder):
 def later(self, lab):
     time.sleep(0.5)
     give(self, lab)
-disk.sync_folder, D._give = slowly, later
+disk.sync_folder, dispatcher.Dispatcher._give = slowly, later
 """,
         every="0.1",
     )
@@ -80,8 +82,7 @@ def test_pass_between_two_looks(make_lab: MakeLab, tag: str) -> None:
     lab.farm.tell("admin", "/pass")
 
     def hook(method: str, path: str, key: Optional[str]) -> None:
-        if path == f"/jobs/{group[0]}" and not os.path.exists(lab.mark):
-            lab.let("mark")
+        if path == f"/jobs/{group[0]}" and lab.farm.board("b2")["holder"] == f"reservation {held}":
             lab.farm.tell("ann", f"/reservations/{held}/cancel")
             lab.farm.tell("admin", "/pass")
 
@@ -100,14 +101,14 @@ from fizgruk import calls
 tell = calls.Desk.tell
 def told(self, path, *words, **more):
     if path == "/jobs/{second}/finish":
-        die()
+        os.kill(os.getpid(), signal.SIGKILL)
     return tell(self, path, *words, **more)
 calls.Desk.tell = told
 """
     )
     assert lab.finished(first) == "Complete"
     dispatcher.wait(timeout=20)
-    assert lab.state(second) == "Running"
+    assert lab.farm.job(second)["state"] == "Running"
     tool = lab.dispatch()
     assert lab.finished(second) == "Complete"
     assert lab.begins(first) == 1

@@ -4,7 +4,8 @@ from __future__ import annotations
 import time
 from typing import Any, List, Optional
 
-from dispatch_lab import Lab, MakeLab, Proxy, jobs_of
+from answering import Proxy
+from dispatch_lab import Lab, MakeLab, jobs_of
 from dispatch_lab import lab_fixture, make_lab_fixture  # noqa: F401
 from farm_dispatch.dispatcher import text_again
 from served import wait_until
@@ -28,7 +29,8 @@ def test_retry(make_lab: MakeLab) -> None:
     second = int(dispatcher.output().partition(told)[2].split()[0])
     assert lab.finished(second) == "Infra"
     wait_until("all have their lines", lambda: len(jobs_of(lab)) == len(others) + 3)
-    lab.some_passes()
+    passes = lab.passes()
+    wait_until("three more passes", lambda: lab.passes() >= passes + 3)
     first, new = lab.farm.job(again), lab.farm.job(second)
     assert (new["owner"], new["text"]) == ("zoe", first["text"].replace("retry = 1", "retry = 0"))
     assert new["board"] != first["board"]

@@ -8,11 +8,11 @@ import subprocess
 import sys
 import tempfile
 import time
-from typing import Callable, List, Sequence, Tuple
+from typing import Callable, Tuple
 
 import lab_texts
 import pytest
-from served import TOOLS, Farm, environment
+from served import TOOLS, Farm, environment, read
 from wants import wants_modules
 
 # As labgrid's coordinator writes its places.
@@ -230,11 +230,6 @@ def write(folder: str, name: str, text: str) -> str:
     return file
 
 
-def read(file: str) -> str:
-    with open(file, encoding="utf-8") as text:
-        return text.read()
-
-
 def imported(program: str, folder: str, lab: str) -> str:
     """What the program prints where it imports a lab file into a new farm."""
     file = os.path.join(folder, "farm.db")
@@ -273,9 +268,13 @@ def test_what_isnt_a_folder_of_lava(folder: str) -> None:
         assert (status, output, errors.count("\n")) == (4, "", 1), wrong
 
 
-@pytest.mark.parametrize("words", [[], ["FOLDER", "--hours", "0"], ["FOLDER", "--hours", "10001"]])
-def test_bad_words_of_the_reader_of_lava(words: Sequence[str]) -> None:
-    assert run("farm-from-lava", *words)[0] == 2
+@pytest.mark.parametrize("words", [
+    "farm-from-lava", "farm-from-lava FOLDER --hours 0", "farm-from-lava FOLDER --hours 10001", "farm-from-lava --job x FOLDER",
+    "farm-from-labgrid", "farm-from-desk --check", "farm-from-desk --let-go", "farm-from-desk --db x",
+    "farm-from-desk --next x --stop x", "farm-from-desk --next x --start x",
+])
+def test_bad_words_end_it_with_2(words: str) -> None:
+    assert run(*words.split())[0] == 2
 
 
 def test_devices_of_which_nothing_is_lost_are_carried_over_with_status_0(folder: str) -> None:
@@ -320,16 +319,11 @@ def test_places_of_which_nothing_is_lost(folder: str) -> None:
     ("targets:\n  main:\n    resources: []\n", "'targets' has nothing that a place has"),
 ])
 def test_a_file_that_holds_no_places(folder: str, text: str, why: str) -> None:
-    """Such as an exporter's resources, and a client's environment."""
-    wants_modules("yaml")
-    status, output, errors = run("farm-from-labgrid", write(folder, "wrong.yaml", text))
-    assert (status, output, errors.count("\n")) == (4, "", 1) and why in errors
-
-
-def test_words_of_the_reader_of_labgrid(folder: str) -> None:
+    """Such as an exporter's resources, and a client's environment; or that isn't there."""
     wants_modules("yaml")
     assert run("farm-from-labgrid", f"{folder}/none")[0] == 4
-    assert run("farm-from-labgrid")[0] == 2
+    status, output, errors = run("farm-from-labgrid", write(folder, "wrong.yaml", text))
+    assert (status, output, errors.count("\n")) == (4, "", 1) and why in errors
 
 
 # ---- a desk
@@ -383,39 +377,13 @@ def test_the_labs_own_file_beside_a_desk(farm: Farm, folder: str) -> None:
         assert refused(run(*words, write(folder, "wrong.toml", text))) == (4, 1), text
 
 
-def test_a_farm_whose_clock_ran_ahead_is_told_of_and_its_boards_begin_the_next_one(
-    make_farm: Callable[..., Farm], folder: str
-) -> None:
+def test_a_farm_whose_clock_ran_ahead_is_told_of(make_farm: Callable[..., Farm], folder: str) -> None:
     """Nothing in it ends."""
-    own = write(folder, "own.toml", '[types.bbb]\n[boards.b1]\ntype = "bbb"\n')
-    moment = int(time.time()) + 3 * 86400 + 3600
-    farm = farm_of_import(make_farm, own, moment)
-    farm.tell("admin", "/boards/b1/health", {"health": "Good"})
-    assert lease_of(farm) == moment + 60
-    lab = os.path.join(folder, "next.toml")
-    told = "the farm's clock is 3 days ahead of this machine's: begin the next farm\n"
-    told += "board b1: reservation 1, which has it, isn't carried over\n"
-    words = ["farm-from-desk", "--server", farm.server]
-    assert run(*words, "--output", lab) == (1, "", notes(words[0], told))
-    before = int(time.time())
-    farm = farm_of_import(make_farm, lab, before)
-    farm.tell("admin", "/boards/b1/health", {"health": "Good"})
-    assert before + 60 <= lease_of(farm) <= time.time() + 61
-
-
-def farm_of_import(make_farm: Callable[..., Farm], lab: str, moment: int) -> Farm:
-    """A farm of a lab file's boards that has the clock of a moment."""
     farm = make_farm()
     farm.kill()
-    words: List[str] = [farm.program, "import", "--db", farm.db, "--at", str(moment), lab]
-    said = subprocess.run(words, check=True, capture_output=True, text=True).stdout
-    assert said == "accepted 2, kept 0\n"
+    lab = write(folder, "own.toml", '[types.bbb]\n[boards.b1]\ntype = "bbb"\n')
+    at = str(int(time.time()) + 3 * 86400 + 3600)
+    subprocess.run([farm.program, "import", "--db", farm.db, "--at", at, lab], check=True, capture_output=True)
     farm.start()
-    return farm
-
-
-def lease_of(farm: Farm) -> int:
-    """When a reservation ends that has just got the board."""
-    farm.tell("ann", "/reservations", {"tags": []})
-    farm.tell("dispatcher", "/pass")
-    return int(farm.reservation(1)["deadline"])
+    status, _, errors = run("farm-from-desk", "--server", farm.server, "--output", lab)
+    assert (status, errors) == (0, "farm-from-desk: the farm's clock is 3 days ahead of this machine's: begin the next farm\n")

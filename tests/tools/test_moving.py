@@ -247,11 +247,3 @@ def test_a_job_without_a_time_and_one_of_a_windows_editor(folder: str) -> None:
     output = os.path.join(folder, "job.toml")
     assert converted(folder, SIMPLE, "--output", output) == (0, "", [])
     assert read(output) == converted(folder, SIMPLE)[1]
-
-
-@pytest.mark.parametrize("words", [[], ["--job", "x", "FOLDER"]])
-def test_words_of_a_job(words: List[str]) -> None:
-    ran = subprocess.run(
-        [sys.executable, os.path.join(TOOLS, "farm-from-lava"), *words], capture_output=True, check=False, env=environment()
-    )
-    assert ran.returncode == 2

@@ -163,13 +163,17 @@ def test_what_comes_between_the_look_and_the_stop_gets_its_desk_back(lab: Lab) -
     assert lab.ask("bob", "POST", "/reservations/1/cancel")[0] == 200
 
 
-def test_a_stop_that_fails_changes_nothing(lab: Lab, make_step: Callable[[str], None]) -> None:
-    make_step("3")
+def test_a_stop_that_fails_changes_nothing_and_another_file_may_be_gone_on_with(lab: Lab) -> None:
+    with open(os.path.join(lab.folder, "stop"), encoding="utf-8") as file:
+        usual = file.read()
+    lab.file("stop", "#!/bin/sh\nexit 3\n")
     status, _, errors = lab.turn()
     assert (status, errors) == (4, ["--stop ended with 3: run it again, once that is mended"])
     assert [it["name"] for it in lab.ask("ann", "GET", "/boards")[1]["boards"]] == ["b1", "b2", "r1"]
-    make_step("")
-    assert lab.turn()[0] == 0, "it goes on"
+    lab.file("stop", usual)
+    assert lab.turn(file=lab.file("other.toml", LAB))[0] == 0
+    lab.call("stop")
+    assert lab.farms()["home"][1] == ["b1 bbb hdmi Good", "b2 bbb  Maintenance", "r1 rpi  Bad"]
 
 
 def test_two_turns_at_once_and_a_farm_that_nobody_can_look_at(lab: Lab) -> None:
@@ -181,16 +185,6 @@ def test_two_turns_at_once_and_a_farm_that_nobody_can_look_at(lab: Lab) -> None:
     status, said, errors = lab.turn("--server", f"http://127.0.0.1:{free_port()}")
     assert (status, said, len(errors)) == (4, "", 1) and f"and {lab.db} can't be opened" in errors[0]
     lab.demand_untouched()
-
-
-@pytest.mark.parametrize("words", [
-    ["--check"], ["--let-go"], ["--db", "x"], ["--next", "x", "--stop", "x"], ["--next", "x", "--start", "x"],
-])
-def test_words_that_go_with_others(words: List[str]) -> None:
-    ran = subprocess.run(
-        [sys.executable, os.path.join(TOOLS, "farm-from-desk"), *words], capture_output=True, check=False, env=environment()
-    )
-    assert ran.returncode == 2
 
 
 # ---- a turn that is stopped
@@ -237,27 +231,6 @@ def test_a_turn_that_has_set_the_old_farm_aside_goes_on_with_its_own_file_alone(
     assert (status, errors) == (4, [f"a turn to another file isn't done, which is {own}: run it again, once that is mended"])
     assert lab.turn(file=own)[0] == 0
     assert lab.listed() == ["lab.db", "lab.db-wal", "old-1"]
-
-
-def test_a_turn_that_set_nothing_aside_may_go_on_with_another_file(lab: Lab, make_step: Callable[[str], None]) -> None:
-    make_step("3")
-    assert lab.turn()[0] == 4
-    make_step("")
-    assert lab.turn(file=lab.file("other.toml", LAB))[0] == 0
-    lab.call("stop")
-    assert lab.farms()["home"][1] == ["b1 bbb hdmi Good", "b2 bbb  Maintenance", "r1 rpi  Bad"]
-
-
-@pytest.fixture
-def make_step(lab: Lab) -> Callable[[str], None]:
-    """Lets the command that stops fail with a status, or none."""
-    with open(os.path.join(lab.folder, "stop"), encoding="utf-8") as file:
-        usual = file.read()
-
-    def make(status: str) -> None:
-        lab.file("stop", f"#!/bin/sh\nexit {status}\n" if status else usual)
-
-    return make
 
 
 def test_a_desk_that_shows_another_labs_boards_is_not_the_next_farms(lab: Lab, make_farm: Callable[..., Farm]) -> None:

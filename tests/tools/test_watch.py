@@ -10,7 +10,7 @@ import time
 from typing import List, Optional, Tuple
 
 import pytest
-from desks import GROUP, desk, write
+from desks import GROUP, write
 from served import TOOLS, TOP, environment, read, wait_until
 from watched import HOUR, Labs, Watched
 
@@ -37,8 +37,8 @@ def content_to(lab: Watched, owner: str) -> str:
     return str(next(it for it in lab.mailbox.mails() if it["to"] == at(owner)).get_content())
 
 
-def test_what_people_held_is_counted_by_the_client(watched: Labs) -> None:
-    """Beside a dispatcher's folder; the folder lets others through to that alone."""
+def test_what_people_held_is_written_down(watched: Labs) -> None:
+    """The folder lets others through to that alone. (test_proxy.py: it is counted by the client.)"""
     lab = watched("[board]\nfree = true\n")
     lab.start()
     number = lab.holds("bob")
@@ -47,12 +47,6 @@ def test_what_people_held_is_counted_by_the_client(watched: Labs) -> None:
     shown = os.path.join(lab.place, "shown", "holds.jsonl")
     row = json.loads(wait_until("its line", lambda: read(shown)))
     assert (row["owner"], row["board"], row["reservation"]) == ("bob", "b1", number)
-    past = os.path.join(lab.folder, "farm-dispatch")
-    os.makedirs(past)
-    write(past, "history.jsonl", "")
-    os.symlink(lab.place, os.path.join(lab.folder, "farm-watch"))
-    used = json.loads(desk(lab.farm, "--history", past, "--json", "usage")[1])["usage"]
-    assert [(it["name"], it["jobs"], it["holds"]) for it in used] == [("bob", 0, 1)]
     modes = {it: os.stat(os.path.join(lab.place, it)).st_mode & 0o777 for it in ("", "shown", "watch.db", "shown/holds.jsonl")}
     assert modes == {"": 0o711, "shown": 0o755, "watch.db": 0o600, "shown/holds.jsonl": 0o644}
 
@@ -114,10 +108,6 @@ def test_an_old_hold_is_reminded_of_and_one_beyond_its_time_is_ended(watched: La
     begin = lab.farm.reservation(old)["deadline"] - 60
     end = time.strftime("%Y-%m-%d %H:%M:%S", time.localtime(begin + 12 * HOUR))
     assert f"It is ended at {end}" in content_to(lab, "bob")
-    lab.tool.kill()
-    lab.start()
-    lab.looked()
-    assert lab.mailbox.told() == sorted(told)
 
 
 # ---- the file, words, the unit

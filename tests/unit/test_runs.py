@@ -17,6 +17,7 @@ from farm_dispatch.dispatcher import Dispatcher
 from farm_dispatch.record import Record
 from farm_dispatch.workers import Away, Look, look_of, outcome_of, words_of, worker_of
 from fizgruk.errors import Code, Refused, Unreachable
+from fizgruk.records import History
 
 OPTIONS = argparse.Namespace(
     grace=1, infra=75, keep_logs=86400, limit=60, most=60, log_limit=10**6, folder_limit=10**9, artifact_count=10,
@@ -273,9 +274,9 @@ def test_how_a_command_ended_says_its_outcome(how: str, words: str, result: str)
     assert outcome_of(words, 75) == result
 
 
-@pytest.mark.parametrize("step", range(12))
+@pytest.mark.parametrize("step", range(14))
 def test_killed_behind_any_step_it_is_begun_once_and_told(lab: Lab, step: int, monkeypatch: pytest.MonkeyPatch) -> None:
-    """The dispatcher ends behind each file and each call, and the next one begins."""
+    """The dispatcher ends behind each file, each line and each call, and the next one begins."""
     class Killed(BaseException):
         pass
 
@@ -291,7 +292,9 @@ def test_killed_behind_any_step_it_is_begun_once_and_told(lab: Lab, step: int, m
         return call
 
     with monkeypatch.context() as patch:
-        for kind, names in ((Record, ("note", "drop")), (Desk, ("tell",)), (Machine, ("begin", "close", "forget"))):
+        for kind, names in (
+            (Record, ("note", "drop")), (Desk, ("tell",)), (Machine, ("begin", "close", "forget")), (History, ("add_jobs",)),
+        ):
             for name in names:
                 patch.setattr(kind, name, counted(getattr(kind, name)))
         for _ in range(6):

@@ -131,23 +131,18 @@ def test_who_wants_no_mail_gets_none(tmp_path: pathlib.Path) -> None:
 @pytest.mark.parametrize("script, told", [
     ("cat > /dev/null; echo no such user >&2; exit 67", "sendmail ended with status 67: no such user$"),
     ("cat > /dev/null; exit 1", "sendmail ended with status 1: no word$"),
+    ("exec sleep 60", "timed out"), ("", "No such file or directory"),
 ])
-def test_a_mail_that_isnt_taken_is_told_with_its_reason(tmp_path: pathlib.Path, script: str, told: str) -> None:
+def test_a_mail_that_isnt_taken_is_told_with_its_reason(
+    tmp_path: pathlib.Path, monkeypatch: pytest.MonkeyPatch, script: str, told: str
+) -> None:
+    """Also where sendmail hangs, or isn't there."""
+    mail = mail_of(tmp_path, script)
+    if not script:
+        os.unlink(mail.sendmail)
+    monkeypatch.setattr(watch_tell, "SENDMAIL_WAITS", 0.01 if "sleep" in script else 60)
     with pytest.raises(watch_tell.Undelivered, match=told):
-        watch_tell.send_mail(mail_of(tmp_path, script), IT)
-
-
-def test_a_sendmail_that_isnt_there_is_told(tmp_path: pathlib.Path) -> None:
-    mail = mail_of(tmp_path, "")
-    os.unlink(mail.sendmail)
-    with pytest.raises(watch_tell.Undelivered, match="No such file or directory"):
         watch_tell.send_mail(mail, IT)
-
-
-def test_a_sendmail_that_hangs_is_left(tmp_path: pathlib.Path, monkeypatch: pytest.MonkeyPatch) -> None:
-    monkeypatch.setattr(watch_tell, "SENDMAIL_WAITS", 0.01)
-    with pytest.raises(watch_tell.Undelivered, match="timed out"):
-        watch_tell.send_mail(mail_of(tmp_path, "exec sleep 60"), IT)
 
 
 # ---- webhook

@@ -1,7 +1,10 @@
 """What farm-watch sees between two looks at a desk, by a desk and a clock that are set by hand."""
 from __future__ import annotations
 
+import itertools
 import os
+import signal
+import sqlite3
 import tempfile
 from typing import Any, Dict, Iterator, List, Optional, Sequence, Set, Tuple
 
@@ -9,7 +12,7 @@ import pytest
 from hand_clock import NOW, Clock
 from farm_watch import holds as watch_holds, tell as watch_tell, watcher
 from farm_watch.rules import Mail, Rules
-from farm_watch.store import Store
+from farm_watch.store import Delivery, Store
 from farm_watch.watcher import Watcher
 from fizgruk import records
 from fizgruk.errors import Code, Refused
@@ -468,6 +471,62 @@ def test_killed_while_it_ends_a_hold_the_next_process_tells_its_own_end(lab: Lab
     assert [owner for owner, _ in lab.told()] == ["user2", "user3"]
     states = [lab.desk.reservations[it]["state"] for it in (extended, other, mine, last)]
     assert states == ["acquired", "canceled", "canceled", "canceled"]
+
+
+def told_over_a_kill(lab: Lab, count: int, file: str) -> bool:
+    """Watches and tells in a child, which is killed at its place of this count: each statement that its SQLite begins, and
+    each message before and behind its telling. Returns whether it was."""
+    def place(_: object = None) -> None:
+        if not child and next(left) == count:
+            os.kill(os.getpid(), signal.SIGKILL)
+
+    def notes(it: Delivery) -> str:
+        place()
+        with open(file, "a", encoding="utf-8") as opened:
+            opened.write(f"{it.ident} {it.body}\n")
+        place()
+        return "ann"
+
+    def connect(*words: Any, **more: Any) -> sqlite3.Connection:
+        line = plain(*words, **more)
+        line.set_trace_callback(place)
+        return line
+
+    def tells() -> None:
+        lab.watches(**ALL, remind=4 * HOUR)
+        teller = watch_tell.Messenger(lab.store, "mail", notes, lab.troubles.append)
+        while teller._one():
+            pass
+
+    plain, left, child = sqlite3.connect, itertools.count(1), os.fork()
+    if child:
+        how = os.waitpid(child, 0)[1]
+        tells()
+        return os.WIFSIGNALED(how)
+    setattr(sqlite3, "connect", connect)
+    try:
+        tells()
+    finally:
+        os._exit(0)
+
+
+def test_killed_anywhere_it_tells_each_event_once(lab: Lab) -> None:
+    """The end of a job, and a reminder; what comes again has its id, by which it is dropped, and is the same to the byte."""
+    file, wanted = f"{lab.file}.told", []
+    for count in itertools.count(1):
+        lab.desk.boards.clear()
+        number = lab.desk.submits()
+        lab.watches(**ALL)
+        lab.store.line.close()
+        lab.desk.ends(number)
+        held = lab.desk.holds(f"h{count}", NOW - 4 * HOUR)
+        wanted += [f"'job': {number},", f"'reservation': {held},"]
+        if not told_over_a_kill(lab, count, file):
+            break
+    with open(file, encoding="utf-8") as told:
+        lines = set(told)
+    assert [sum(it in line for line in lines) for it in wanted] == [1] * len(wanted)
+    assert count > 20 and len(lines) == len(wanted)
 
 
 def test_without_room_for_replies_a_hold_is_ended_without_a_key(lab: Lab) -> None:
