@@ -16,6 +16,7 @@ import tempfile
 import termios
 from typing import Dict, List, Sequence, Tuple, Union
 
+import pages
 from served import LASTING, PATIENCE, STARTED, TOOLS, Board, Farm, Tool, environment, read, wait_until
 
 SHARED = os.path.dirname(os.path.abspath(__file__))
@@ -146,7 +147,5 @@ def write(folder: str, name: str, text: str, mode: int = 0o644) -> str:
 def tell_at(farm: Farm, moment: float, user: str, path: str, body: bytes = b"") -> None:
     """Gives a farm a command at a moment while it isn't served, and serves it again."""
     farm.kill()
-    head = f"POST {path} HTTP/1.1\r\nx-user: {user}\r\ncontent-length: {len(body)}\r\n\r\n"
-    words = [farm.program, "once", "--db", farm.db, "--at", str(int(moment))]
-    subprocess.run(words, input=head.encode() + body, check=True, capture_output=True)
+    pages.tell_at(farm, moment, user, path, body)
     farm.start()
