@@ -109,6 +109,10 @@ def test_usage_counts_holds_of_people_where_they_are_kept(lab: Lab) -> None:
     wait_until("with holds", lambda: bool(opened.ask(sums) == ["bob: 3.0 hours, 3.0 held", "ann: 2.0 hours"]))
     assert text_of(opened, "#usage-said") == ""
     assert opened.ask("document.querySelector('#usage h3').innerText") == "Hours of boards in jobs and held by people, a day"
+    opened.ask("void (it => { it.value = 'board'; it.dispatchEvent(new Event('change')); })(document.getElementById('usage-by'))")
+    assert opened.ask(sums) == ["b2: 3.0 hours, 3.0 held", "b1: 2.0 hours"]
+    drawn = "document.querySelector('#usage-days svg').getAttribute('aria-label')"
+    assert opened.ask(drawn).startswith("hours by day: ")
     opened.ask("void (location.hash = '#/boards/b2')")
     row = ["held", "bob", "", "reservation 7: 3 hours"]
     until(opened, "its history", lambda it: [line[1:] for line in it["board-history"]] == [row])
