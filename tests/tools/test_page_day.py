@@ -195,17 +195,6 @@ def test_a_reservation_of_the_page_lives_over_a_reload_and_out_of_sight_and_is_t
     wait_until("it is taken", lambda: bool(lab.farm.reservation(3)["state"] == "acquired"))
 
 
-def test_what_has_come_is_the_last_news(lab: Lab) -> None:
-    """Also where it was seen waiting before: then a look that finds it offered doesn't say that it is to be taken."""
-    opened = lab.opened()
-    opened.ask("takes.checked = true; tags.value = 'name=b1'; reserve.requestSubmit()")
-    until(opened, "it waits", lambda it: it["reservations"])
-    lab.passes()
-    until(opened, "it is told", lambda it: it["news"] == "b1 is yours")
-    lab.looks_twice()
-    assert opened.ask(SHOWN)["news"] == "b1 is yours"
-
-
 @pytest.mark.parametrize("trouble", [0, 503], ids=["lost", "nobody knows"])
 def test_a_take_whose_answer_is_lost_is_told(lab: Lab, trouble: int) -> None:
     """The browser itself sends again what got no answer: under the same key, since a second take would be refused."""

@@ -131,13 +131,15 @@ def test_a_reservation_that_comes_is_told_out_of_sight_and_in_the_title(lab: Lab
 
     def comes(number: int, board: str) -> None:
         opened.ask(reserves.format(f"name={board}"))
-        wait_until("it is reserved", lambda: len(lab.farm.look("/reservations")["reservations"]) == number)
+        until(opened, "it waits", lambda it: len(it["reservations"]) == number)
         lab.passes()
         wait_until("it is taken", lambda: bool(lab.farm.reservation(number)["state"] == "acquired"))
 
     boards: List[str] = [name for name, _, _ in BOARDS]
     comes(1, boards[0])
     until(opened, "it is told", lambda it: it["news"] == f"{boards[0]} is yours")
+    lab.looks_twice()
+    assert opened.ask(SHOWN)["news"] == f"{boards[0]} is yours", "a look that finds it offered doesn't say that it is to be taken"
     assert opened.ask("noted") == [], "in sight"
     opened.ask(SIGHT.format("true"))
     comes(2, boards[1])
