@@ -10,7 +10,7 @@ import select
 import shutil
 import subprocess
 import tempfile
-from typing import Any, Iterable, Iterator, List, Optional, Set
+from typing import Any, Iterable, Iterator, List, Optional, Set, Tuple
 
 import pytest
 
@@ -183,6 +183,11 @@ class Page:
         """Writes what is seen of the page into a file."""
         with open(file, "wb") as drawn:
             drawn.write(base64.b64decode(self.do("Page.captureScreenshot", format="png")["data"]))
+
+    def accessible(self) -> Set[Tuple[str, str]]:
+        """The roles and names that a reader of the screen is told."""
+        tree = self.do("Accessibility.getFullAXTree")["nodes"]
+        return {(it["role"]["value"], it.get("name", {}).get("value", "")) for it in tree if "role" in it}
 
     def close(self) -> None:
         self.browser.do("Target.closeTarget", targetId=self.target)

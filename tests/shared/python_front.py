@@ -98,7 +98,7 @@ class Handler(http.server.BaseHTTPRequestHandler):
         if kind == "lost":
             self.close_connection = True
             return
-        self.answer(status, kind.encode() if kind.startswith("{") else told)
+        self.answer(status, told)
         if kind == "closed":
             self.close_connection = True
 
@@ -133,8 +133,8 @@ class Front(http.server.ThreadingHTTPServer):
 
     def trouble(self, *kinds: str, path: str = "") -> None:
         """Lets the next requests of paths with this end be answered with a proxy's status ("502"), be
-        done and not answered ("lost"), done and answered with another body ("{..}"), or answered and
-        the connection then closed without a word ("closed")."""
+        done and not answered ("lost"), or answered and the connection then closed without a word
+        ("closed")."""
         with self.lock:
             self.troubles = [(kind, path) for kind in kinds]
 

@@ -14,12 +14,13 @@ from typing import Any, Callable, Dict, Iterator, List, Tuple
 
 import pytest
 from answering import Answering
+from beside_root import is_open
 from desks import (
     DESK, GROUP, JOB, around, at_a_terminal, at_ease, desk, number_of, passes, prints, rest_of, waiting_tool, write,
 )
 from fizgruk import notes
 from ports import free_port
-from served import PATIENCE, Farm, Tool, wait_until
+from served import PATIENCE, Farm, Tool, read, wait_until
 
 MINUTE = 60
 NO_ROUTE = {"code": 52, "text": "no such route"}
@@ -237,13 +238,9 @@ def test_a_worker_that_doesnt_answer_is_said_of_its_boards_and_of_what_waits_for
     assert facts(desk(farm, "boards", "r1", **more)[1])["worker"] == said
     assert "worker" not in desk(farm, "boards", "b1", **more)[1]
     assert desk(farm, "queue", **more)[1].endswith(f" 1 board fits, held by job 1 of ann; {said}\n")
-    assert facts(desk(farm, "jobs", "1", **more)[1])["reason"] == said
-    assert facts(desk(farm, "jobs", "2", **more)[1])["reason"].endswith(f"held by job 1 of ann; {said}")
     for number, state in ((1, f"job 1 is Running: {said}"), (2, f"held by job 1 of ann; {said}")):
         tool = waiting_tool(farm, folder, "wait", str(number), "--every", "0.1", **more)
         wait_until("it is said", functools.partial(has_said, tool, state))
-    tool = waiting_tool(farm, folder, "reserve", "worker=rack2", "--acquire", "--every", "0.1", **more)
-    wait_until("it is said", lambda: f"held by job 1 of ann; {said}\n" in tool.errors())
     more = shows(folder, workers=[silent("desk", 0)])
     assert facts(desk(farm, "boards", "b1", **more)[1])["worker"] == "worker desk has not answered for less than a minute"
     free = [line.split()[0] for line in desk(farm, "boards", "--free", **more)[1].splitlines()[1:]]
@@ -371,13 +368,18 @@ def test_a_job_is_submitted_and_followed_to_its_end(farm: Farm, folder: str) -> 
     more = shows(folder)
     os.mkdir(os.path.join(folder, "logs"))
     tool = waiting_tool(farm, folder, "submit", write(folder, "boot.toml", JOB), "--follow", "--every", "0.1", **more)
-    wait_until("it waits", lambda: "job 1 is Submitted, and has no log yet" in tool.errors())
+    told = "desk: job 1 is Submitted, and has no log yet\n"
+    wait_until("it waits", lambda: told in tool.errors())
+    assert desk(farm, "log", "1", **more) == (3, "", told)
     passes(farm)
     farm.tell("dispatcher", "/jobs/1/start")
-    write(folder, "logs/1", "it boots\n")
-    wait_until("its log", lambda: tool.output() == "1\nit boots\n")
+    for text, wanted in (("it boots\na part", "1\nit boots\na part"), ("it boots\na part of it\n", "1\nit boots\na part of it\n")):
+        write(folder, "logs/1", text)
+        wait_until("its log", lambda: tool.output() == wanted)  # noqa: B023
     farm.tell("dispatcher", "/jobs/1/finish", {"outcome": "Incomplete"})
-    assert (tool.ends(), tool.output()) == (1, "1\nit boots\n1 Incomplete b1\n")
+    assert (tool.ends(), tool.output()) == (1, "1\nit boots\na part of it\n1 Incomplete b1\n")
+    for words in (["log", "1"], ["log", "1", "--follow"]):
+        prints(farm, "it boots\na part of it\n", *words, **more)
 
 
 def test_where_no_log_is_served_the_end_is_waited_for(farm: Farm, folder: str) -> None:
@@ -408,16 +410,14 @@ def test_why_a_board_is_bad_is_noted_in_the_labs_file(farm: Farm, folder: str) -
     told = 'no "boot" since\u00e9 \\ the flood'
     prints(farm, "", "health", "b1", "c1", "Bad", "--reason", told, user="admin", **more)
     assert (farm.board("b1")["health"], farm.board("c1")["health"]) == ("Bad", "Bad")
-    with open(file, encoding="utf-8") as text:
-        said = text.read()
+    said = read(file)
     found = notes.notes_in(said)
     assert found["b1"] == {"place": "rack 2", "reason": told} and found["c1"] == {"reason": told}
     assert found["b2"] == {"comment": "two\nlines"} and "# of the lab" in said and "# left" in said
     assert os.stat(file).st_mode & 0o777 == 0o640
     prints(farm, "", "health", "b1", "Good", "--reason", "", user="admin", **more)
     prints(farm, "", "health", "c1", "Maintenance", "--reason", "looked at", user="admin", **more)
-    with open(file, encoding="utf-8") as text:
-        found = notes.notes_in(text.read())
+    found = notes.notes_in(read(file))
     assert (found["b1"], found["c1"]) == ({"place": "rack 2"}, {"reason": "looked at"})
 
 
@@ -427,8 +427,7 @@ def test_a_reason_that_cant_be_noted_is_told(farm: Farm, folder: str) -> None:
     file = write(folder, "notes.toml", inline)
     status, said, errors = desk(farm, "health", "b1", "Bad", "--reason", "x", user="admin", DISPATCH_NOTES=file)
     assert (status, said) == (3, "") and errors.startswith("desk: the reason isn't noted: ")
-    with open(file, encoding="utf-8") as text:
-        assert text.read() == inline
+    assert read(file) == inline
     none = f"desk: the reason stands in the site's audit alone: this machine has no {folder}/none\n"
     found = desk(farm, "health", "b1", "Good", "--reason", "x", user="admin", DISPATCH_NOTES=f"{folder}/none")
     assert found == (0, "", none)
@@ -459,19 +458,13 @@ def test_faults_are_told_in_sentences(farm: Farm, crowd: Crowd) -> None:
 def test_an_account_without_a_name_is_told_to_say_who_asks(farm: Farm) -> None:
     words = ["setpriv", "--reuid", "54321", "--clear-groups", sys.executable, DESK]
     surroundings = {it: text for it, text in around(farm).items() if it not in ("DESK_USER", "USER", "LOGNAME", "HOME")}
-    if os.getuid() != 0 or not is_open_to_others(DESK):
+    if os.getuid() != 0 or not is_open(*pathlib.Path(os.path.realpath(DESK)).parents):
         pytest.skip("root alone can be another account, which has to see the checkout")
     ran = subprocess.run([*words, "queue"], env=surroundings, capture_output=True, text=True, check=False)
     told = "desk: who asks isn't said, and this account has no name: --user NAME\n"
     assert (ran.returncode, ran.stdout, ran.stderr) == (4, "", told)
     ran = subprocess.run([*words, "--user", "ann", "--json", "queue"], env=surroundings, capture_output=True, text=True, check=False)
     assert (ran.returncode, ran.stdout) == (0, '{"queue":[]}\n')
-
-
-def is_open_to_others(file: str) -> bool:
-    """Whether any account gets to a file."""
-    parents = pathlib.Path(os.path.realpath(file)).parents
-    return all(it.stat().st_mode & 0o001 for it in parents)
 
 
 @pytest.mark.parametrize("words, status", [

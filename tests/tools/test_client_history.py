@@ -10,8 +10,8 @@ from typing import Any, Dict, List, Sequence, Tuple
 
 import pytest
 from answering import Answering
-from desks import GROUP, JOB, desk, passes, prints, waiting_tool, write
-from served import Farm, wait_until
+from desks import GROUP, JOB, desk, passes, prints, write
+from served import Farm
 
 NOW = int(time.time())
 HOUR, DAY = 3600, 86400
@@ -94,18 +94,17 @@ def test_some_jobs_are_shown_with_their_past(farm: Farm, folder: str) -> None:
     farm.tell("dispatcher", "/jobs/1/finish", {"outcome": "Infra"})
     prints(farm, "2\n", "submit", "-", given=JOB)
     line = job_line(1, name="boot", outcome="Infra", reason="status 75", held=3723)
-    rows = [job_line(place) for place in range(1000, 1400)]
+    past = past_of(folder, line, *(job_line(place) for place in range(1000, 1400)))
     began = time.strftime("%Y-%m-%d %H:%M", time.localtime(line["began"])).split()
-    for past in (past_of(folder, line), past_of(folder, line, *rows)):
-        status, said, errors = desk(farm, "--history", past, "jobs", "1", "2")
-        assert (status, errors) == (0, "")
-        head, first, second = cells(said)
-        assert head[-5:] == ["TAGS", "BEGAN", "TOOK", "NAME", "REASON"]
-        assert first[:6] == ["1", "1", "ordinary", "Finished", "Infra", "b1"]
-        assert first[-6:] == [*began, "1:02:03", "boot", "status", "75"]
-        assert second[-10:] == ["-", "-", "one", "place", "1", "of", "1", "in", "the", "queue"]
-        found = json.loads(desk(farm, "--history", past, "jobs", "1", "--json")[1])
-        assert found == {"jobs": [farm.job(1)], "ended": [line]}
+    status, said, errors = desk(farm, "--history", past, "jobs", "1", "2")
+    assert (status, errors) == (0, "")
+    head, first, second = cells(said)
+    assert head[-5:] == ["TAGS", "BEGAN", "TOOK", "NAME", "REASON"]
+    assert first == ["1", "1", "ordinary", "Finished", "Infra", "b1", "bbb", "-", "50", "ann", "-", *began, "1:02:03", "boot",
+                     "status", "75"]
+    assert second[-10:] == ["-", "-", "one", "place", "1", "of", "1", "in", "the", "queue"]
+    found = json.loads(desk(farm, "--history", past, "jobs", "1", "--json")[1])
+    assert found == {"jobs": [farm.job(1)], "ended": [line]}
     status, said, errors = desk(farm, "jobs", "1")
     assert (status, [it[-1] for it in cells(said)[:6]]) == (0, ["1", "1", "ordinary", "Finished", "Infra", "b1"])
     assert errors.startswith("desk: times and reasons aren't shown: http://127.0.0.1:")
@@ -126,35 +125,6 @@ def test_a_desk_that_serves_no_history_is_told_with_where_to_ask(farm: Farm, fol
 
 
 # ---- logs
-
-
-def test_a_log_is_followed_until_its_job_has_ended_over_a_desk_that_goes_away(farm: Farm, folder: str) -> None:
-    past = {"DESK_HISTORY": past_of(folder)}
-    log = os.path.join(folder, "logs", "1")
-    farm.submit("true")
-    told = "desk: job 1 is Submitted, and has no log yet\n"
-    assert desk(farm, "log", "1", **past) == (3, "", told)
-    tool = waiting_tool(farm, folder, "log", "1", "--follow", "--every", "0.1", **past)
-    wait_until("it waits", lambda: told == tool.errors())
-    passes(farm)
-    farm.tell("dispatcher", "/jobs/1/start")
-    add(log, "first\n")
-    wait_until("its begin", lambda: tool.output() == "first\n")
-    add(log, "a part")
-    wait_until("a part of a line", lambda: tool.output() == "first\na part")
-    farm.kill()
-    wait_until("no answer is told", lambda: "no answer from the desk, which is" in tool.errors())
-    farm.start()
-    add(log, "of it\n")
-    farm.tell("dispatcher", "/jobs/1/finish", {"outcome": "Incomplete"})
-    assert (tool.ends(), tool.output()) == (0, "first\na partof it\n")
-    prints(farm, "first\na partof it\n", "log", "1", **past)
-    prints(farm, "first\na partof it\n", "log", "1", "--follow", **past)
-
-
-def add(file: str, text: str) -> None:
-    with open(file, "a", encoding="utf-8") as opened:
-        opened.write(text)
 
 
 @pytest.mark.parametrize("words", [[], ["--follow"]])
@@ -213,8 +183,7 @@ MOMENT           WHAT              OWNER TOOK    ABOUT
 
 
 def used(folder: str) -> str:
-    """Ten jobs of ann wait 10, 20 .. 100 s; the median by the nearest rank is 50, the ninth of ten 90. zoe held b2 for
-    two hours, as farm-watch says beside the dispatcher's folder."""
+    """Jobs of ann's wait 10, 50 and 100 s; zoe held b2 for two hours, as farm-watch says beside the dispatcher's folder."""
     shown = os.path.join(folder, "farm-watch", "shown")
     os.makedirs(shown)
     hold = {
@@ -227,7 +196,7 @@ def used(folder: str) -> str:
         job_line(1, held=50 * HOUR, ago=31 * DAY),
         job_line(2, "zoe", boards=["b2"], held=3 * HOUR, outcome="Incomplete", ago=2 * DAY),
         job_line(3, "zoe", boards=["c1"], kind="ccc", held=DAY, outcome="Infra", ago=29 * DAY + DAY // 2),
-        *(job_line(10 + it, held=HOUR // 10, waited=10 * it, ago=DAY) for it in range(10, 0, -1)),
+        *(job_line(10 + it, held=HOUR, waited=it, ago=DAY) for it in (100, 10, 50)),
         job_line(30, boards=["b1", "b2"], held=HOUR, outcome="Canceled", ago=DAY),
         health_line("b1", "Good", "Bad", ""),
     )
@@ -238,22 +207,16 @@ def test_usage_by_board_by_type_and_as_json(farm: Farm, folder: str) -> None:
     prints(farm, """\
 BOARD JOBS COMPLETE INCOMPLETE INFRA CANCELED HOURS HOLDS HELD WAITED  NINTH
 b2       2        0          1     0        1 4.0       1 2.0  -       -
-b1      11       10          0     0        1 2.0       0 0.0  0:00:50 0:01:30
+b1       4        3          0     0        1 4.0       0 0.0  0:00:50 0:01:40
 """, "--history", past, "usage", "--by", "board", "--since", "3d")
     said = json.loads(desk(farm, "--history", past, "usage", "--json")[1])
     assert said["by"] == "owner" and 0 <= said["until"] - said["since"] - 30 * DAY <= 1
     ann = next(it for it in said["usage"] if it["name"] == "ann")
-    assert [ann[it] for it in ("jobs", "canceled", "waited_median", "waited_ninth")] == [11, 1, 50, 90]
-    types = cells(desk(farm, "--history", past, "usage", "--by", "type", "--since", "2020-01-01")[1])
-    assert [[it[0], it[1], it[6]] for it in types[1:]] == [["bbb", "13", "56.0"], ["ccc", "1", "24.0"]]
+    assert [ann[it] for it in ("jobs", "canceled", "waited_median", "waited_ninth")] == [4, 1, 50, 100]
+    aside = shutil.copy(os.path.join(past, "history.jsonl"), os.path.join(past, "older.jsonl"))
+    types = cells(desk(farm, "--history", aside, "usage", "--by", "type", "--since", "2020-01-01")[1])
+    assert [[it[0], it[1], it[6]] for it in types[1:]] == [["bbb", "6", "58.0"], ["ccc", "1", "24.0"]]
     assert len(cells(desk(farm, "--history", past, "usage", "--since", "1m")[1])) == 1
-
-
-def test_usage_of_a_file_that_was_put_aside(farm: Farm, folder: str) -> None:
-    past = used(folder)
-    kept = shutil.copy(os.path.join(past, "history.jsonl"), os.path.join(past, "older.jsonl"))
-    both = [desk(farm, "--history", it, "usage", "--by", "board", "--since", "2020-01-01") for it in (past, kept)]
-    assert both[0] == both[1] and len(cells(both[0][1])) == 4
 
 
 # ---- resubmitting

@@ -13,7 +13,6 @@ from desks import (
     GROUP, JOB, Ran, at_a_terminal, at_ease, desk, number_of, passes, prints, read_until, tell_at, waiting_tool,
     waits, write,
 )
-from fizgruk import job_file
 from served import PATIENCE, Farm, Tool, read, wait_until
 
 SIGNALS = (signal.SIGINT, signal.SIGTERM, signal.SIGHUP, signal.SIGQUIT)
@@ -21,11 +20,6 @@ EACH_SIGNAL = pytest.mark.parametrize("number", SIGNALS, ids=[it.name for it in 
 
 
 # ---- the desk's clock (tests/unit/test_clocks.py has more of it, without a server)
-
-
-def test_a_new_farm_had_no_pass_yet(make_farm: Callable[..., Farm]) -> None:
-    told = "desk: no pass yet: is farm-dispatch running?\n"
-    assert telling(make_farm(), "--json", "queue") == (0, '{"queue":[]}\n', told)
 
 
 def telling(farm: Farm, *words: str) -> Ran:
@@ -48,16 +42,10 @@ def test_a_clock_that_stands_still_is_a_dispatcher_that_doesnt_pass(make_farm: C
     prints(farm, '{"queue":[]}\n', "--json", "queue")
 
 
-def test_a_farms_clock_that_is_ahead_is_told_once_a_command(farm: Farm, folder: str) -> None:
+def test_a_farms_clock_that_is_ahead_is_told(farm: Farm) -> None:
     tell_at(farm, time.time() + 3 * 86400 + 7200, "dispatcher", "/pass")
     told = "desk: the farm's clock is 3 days 1 hour ahead of this machine's: leases won't end until then\n"
     assert telling(farm, "--json", "queue") == (0, '{"queue":[]}\n', told)
-    assert desk(farm, "reserve", "--any")[:2] == (0, "1\n")
-    tool = waiting_tool(farm, folder, "wait", "1", "--every", "0.1")
-    place = "reservation 1 is waiting, place 1 of 1 in the queue\n"
-    wait_until("it waits", lambda: place in tool.errors())
-    passes(farm)
-    assert (tool.ends(), tool.errors().count(told)) == (0, 1)
 
 
 # ---- signals
@@ -70,6 +58,12 @@ def with_hdmi(farm: Farm, folder: str, *command: str) -> Tool:
     passes(farm)
     wait_until("it runs", lambda: "begun" in tool.output())
     return tool
+
+
+def test_a_command_runs_with_a_board_that_is_given_back(farm: Farm, folder: str) -> None:
+    tool = with_hdmi(farm, folder, "sh", "-c", 'echo begun $BOARD $BOARD_TYPE "$BOARD_TAGS" $RESERVATION; exit 7')
+    assert (tool.ends(), tool.output()) == (7, "begun b1 bbb hdmi serial 1\n")
+    assert (farm.board("b1")["holder"], farm.reservation(1)["state"]) == ("none", "canceled")
 
 
 @EACH_SIGNAL
@@ -215,28 +209,6 @@ def test_while_the_desk_is_away_no_board_is_lost(farm: Farm, folder: str) -> Non
 # ---- why it waits (tests/unit/test_wants.py has more reasons, without a server)
 
 
-def says(tool: Tool, text: str) -> None:
-    """Waits until a client that waits at the head of the queue says why."""
-    begin = f"reservation {number_of(tool)} is waiting, place 1 of "
-    told = re.compile(rf"^{begin}\d in the queue: {re.escape(text)}$", re.MULTILINE)
-    wait_until(text, lambda: told.search(tool.errors()))
-
-
-def test_why_no_board_comes_that_has_a_name(farm: Farm, folder: str) -> None:
-    farm.tell("admin", "/boards/b2/health", {"health": "Maintenance"})
-    tool = waiting_tool(farm, folder, "reserve", "name=b2", "--wait", "--every", "0.1")
-    says(tool, "1 board fits, in Maintenance; none can come")
-    farm.tell("admin", "/boards/b2/health", {"health": "Bad"})
-    says(tool, "1 board fits, Bad; none can come")
-    other = farm.tell("bob", "/reservations", {"tags": ["name=b2"], "priority": "high"})["number"]
-    farm.tell("admin", "/boards/b2/health", {"health": "Good"})
-    passes(farm)
-    says(tool, f"1 board fits, held by reservation {other} of bob")
-    farm.tell("bob", f"/reservations/{other}/cancel")
-    passes(farm)
-    assert tool.ends() == 0
-
-
 def test_what_goes_over_several_lines_of_a_terminal_is_erased_whole(farm: Farm) -> None:
     farm.tell("admin", "/boards/b2/health", {"health": "Maintenance"})
     process, line = at_a_terminal(farm, "reserve", "name=b2", "--wait", "--every", "0.2", width=40)
@@ -279,7 +251,6 @@ PRIORITIES = "is none of low, medium, high and 0 to 100"
 @pytest.mark.parametrize("text, code, why", [
     ("x", 70, "no TOML"),
     (KIND, 70, "there is no job_name, or it is empty"),
-    (f"job_name = 1\n{KIND}", 70, "job_name isn't a text"),
     (ONE, 70, "it has neither device_type nor roles"),
     (f"{ONE}{KIND}[roles.a]", 70, "it has both device_type and roles"),
     (f"{ONE}device_type = 'b b'", 5, "device_type 'b b' isn't a name of 1 to 48 letters, digits, '-', '_', '.'"),
@@ -287,8 +258,6 @@ PRIORITIES = "is none of low, medium, high and 0 to 100"
     (f"{ONE}{KIND}tags = ['=x']", 6, "'=x' isn't a tag"),
     (f"{ONE}{KIND}tags = {['a'] * 17}", 7, "there are 17 tags, and 16 at most are taken"),
     (f"{ONE}{KIND}priority = 101", 23, f"priority 101 {PRIORITIES}"),
-    (f"{ONE}{KIND}priority = 'urgent'", 23, f"priority 'urgent' {PRIORITIES}"),
-    (f"{ONE}{KIND}priority = []", 70, "priority is neither a whole number nor a text"),
     (f"{ONE}tags = []\n[roles.a]", 70, "tags stand beside roles, and belong into each role"),
     (f"{MANY}{KIND}", 70, "role a: there is no count"),
     (f"{MANY}count = 1", 70, "role a: there is no device_type"),
@@ -345,18 +314,13 @@ def test_a_time_limit_is_submitted(farm: Farm, text: str) -> None:
     prints(farm, "1\n", "submit", "-", given=f"{JOB}{text}\n")
 
 
-@pytest.mark.parametrize("text", [JOB, GROUP, JOB.replace("bbb", "ccc") + "priority = 0\ntags = []\n"])
-def test_no_fault_is_found_in_a_job_file_that_the_desk_takes(farm: Farm, text: str) -> None:
-    prints(farm, "1\n", "submit", "-", given=text)
-    assert job_file.fault_of(text.encode()) is None
-
-
 def test_a_command_in_the_wrong_state_says_which_and_a_forbidden_one_who_asked(farm: Farm) -> None:
     prints(farm, "1\n", "submit", "-", given=JOB)
     assert desk(farm, "cancel", "1", user="bob") == (3, "", "desk: refused: 3 forbidden: asked as bob\n")
     prints(farm, "", "cancel", "1")
     told = "desk: refused: 21 wrong job state: job 1 is Finished (Canceled)\n"
     assert desk(farm, "cancel", "1") == (3, "", told)
+    assert desk(farm, "wait", "1") == (1, "1 Canceled -\n", ""), "which had no board"
     prints(farm, "2\n", "reserve", "hdmi")
     assert desk(farm, "cancel-reservation", "2", user="bob") == (
         3, "", "desk: refused: 3 forbidden: asked as bob: reservation 2 is ann's\n"

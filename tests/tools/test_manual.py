@@ -8,6 +8,7 @@ from __future__ import annotations
 
 import functools
 import os
+import pathlib
 import re
 import shutil
 import subprocess
@@ -53,16 +54,6 @@ def run(*words: str, **more: str) -> "subprocess.CompletedProcess[str]":
 
 def name_of(page: str) -> str:
     return page.rsplit(".", 1)[0]
-
-
-def read(*names: str) -> str:
-    with open(os.path.join(*names), encoding="utf-8") as text:
-        return text.read()
-
-
-def write(text: str, *names: str) -> None:
-    with open(os.path.join(*names), "w", encoding="utf-8") as file:
-        file.write(text)
 
 
 # ---- help
@@ -124,7 +115,7 @@ def about_of_help(said: str) -> List[str]:
 
 def section_of(page: str, head: str) -> str:
     """A section of a man page, as it is read."""
-    text = re.sub(r'\\f[BIRP]|^\.\\".*\n', "", read(DOCS, page), flags=re.MULTILINE)
+    text = re.sub(r'\\f[BIRP]|^\.\\".*\n', "", pathlib.Path(DOCS, page).read_text("utf-8"), flags=re.MULTILINE)
     for written, meant in (("\\-", "-"), ("\\(ti", "~"), ("\\&", ""), ("\\~", " ")):
         text = text.replace(written, meant)
     found = re.search(rf"^\.SH {head}\n((?:(?!\.SH ).*\n)*)", text, re.MULTILINE)
@@ -163,21 +154,17 @@ def test_help_of_tools_and_of_commands_fits_the_terminal(page: str) -> None:
 
 
 @EACH_PAGE
-def test_each_option_and_argument_has_a_text_of_its_own_the_same_in_the_man_page(page: str) -> None:
+def test_each_option_argument_and_status_has_a_text_of_its_own_the_same_in_the_man_page(page: str) -> None:
     said = items_of_help(help_of(page))
+    statuses = {head: it for head, it in said.items() if head[0].isdigit()}
+    assert {"0", "2", "4"} <= set(statuses)
+    assert items_of_page(section_of(page, "EXIT STATUS")) == statuses
     wanted = {head: it for head, it in said.items() if re.match(r"-|[A-Z]", head)}
     if PAGES[page]:
         wanted.pop("COMMAND")
     assert [head for head, it in wanted.items() if len(it) < 8] == []
     assert len(wanted) == len(set(wanted.values())) > 2
     assert items_of_page(section_of(page, "OPTIONS")) == wanted
-
-
-@EACH_PAGE
-def test_exit_statuses_are_the_same_in_help_and_the_man_page(page: str) -> None:
-    wanted = {head: it for head, it in items_of_help(help_of(page)).items() if head[0].isdigit()}
-    assert {"0", "2", "4"} <= set(wanted)
-    assert items_of_page(section_of(page, "EXIT STATUS")) == wanted
 
 
 @EACH_PAGE
@@ -240,12 +227,13 @@ def checks(copy: str, wanted: int, *told: str) -> None:
 
 def test_pages_that_arent_as_the_tools_say_are_found_and_written(copy: str) -> None:
     checks(copy, 0)
-    texts = {page: read(copy, "docs", page) for page in PAGES}
-    for page, text in texts.items():
-        write(text.replace("Bad words", "Odd words"), copy, "docs", page)
+    pages = {it: pathlib.Path(copy, "docs", it) for it in PAGES}
+    texts = {it: page.read_text("utf-8") for it, page in pages.items()}
+    for it, page in pages.items():
+        page.write_text(texts[it].replace("Bad words", "Odd words"), "utf-8")
     checks(copy, 1, *(f"{page}: line " for page in PAGES))
     assert run(sys.executable, os.path.join(copy, "docs", "manual.py")).returncode == 0
-    assert {page: read(copy, "docs", page) for page in PAGES} == texts
+    assert {it: page.read_text("utf-8") for it, page in pages.items()} == texts
 
 
 @pytest.mark.parametrize("file, old, new, told", [
@@ -255,9 +243,10 @@ def test_pages_that_arent_as_the_tools_say_are_found_and_written(copy: str) -> N
     ("tools/farm_import/from_lava.py", '"The server\'s dispatcher-config."', '""', ["FOLDER\\fP has no text"]),
 ])
 def test_what_is_told_of_a_change(copy: str, file: str, old: str, new: str, told: Sequence[str]) -> None:
-    text = read(copy, file)
+    changed = pathlib.Path(copy, file)
+    text = changed.read_text("utf-8")
     assert old in text
-    write(text.replace(old, new), copy, file)
+    changed.write_text(text.replace(old, new), "utf-8")
     checks(copy, 1 if told else 0, *told)
 
 
@@ -267,10 +256,10 @@ def test_what_is_told_of_a_change(copy: str, file: str, old: str, new: str, told
 @pytest.fixture(scope="module")
 def warner(tmp_path_factory: pytest.TempPathFactory) -> List[str]:
     """What man or groff is called by that tells of faults."""
-    bad = str(tmp_path_factory.mktemp("page") / "bad.1")
-    write(".TH BAD 1\n.SH NAME\nbad \\- has a fault\n.FAULT\n\\[fault]\n", bad)
+    bad = tmp_path_factory.mktemp("page") / "bad.1"
+    bad.write_text(".TH BAD 1\n.SH NAME\nbad \\- has a fault\n.FAULT\n\\[fault]\n", "utf-8")
     for words in (["man", "--warnings", "-l"], ["groff", "-t", "-man", "-ww", "-Tutf8"]):
-        if shutil.which(words[0]) and run(*words, bad, LC_ALL="C.UTF-8").stderr:
+        if shutil.which(words[0]) and run(*words, str(bad), LC_ALL="C.UTF-8").stderr:
             return words
     pytest.skip("neither man nor groff tells of a page's faults")
 

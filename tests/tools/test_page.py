@@ -9,6 +9,7 @@ from typing import Callable, List, Set, Tuple
 
 import pytest
 
+import desks
 from browser import Page
 from pages import (
     BOARDS, HOUR, PHONE, SHOWN, STATE, Lab, Shown, choose, names, seen, tell_at, until,
@@ -40,7 +41,8 @@ def starts(shown: Shown) -> List[List[str]]:
 
 def test_boards_queue_and_reservations_with_the_time_left(lab: Lab) -> None:
     use(lab)
-    shown = lab.look()
+    opened = lab.opened()
+    shown = opened.ask(SHOWN)
     assert shown["boards"] == [
         ["b1", "bbb", "Good", "Offered", "bob reservation 2", "", "hdmi serial", ""],
         ["b2", "bbb", "Bad", "Idle", "", "", "serial", ""],
@@ -54,6 +56,7 @@ def test_boards_queue_and_reservations_with_the_time_left(lab: Lab) -> None:
     ]
     counted = {it: shown["counts"][it] for it in ("boards", "queue", "reservations", "ended")}
     assert counted == {"boards": "(3)", "queue": "(1)", "reservations": "(2)", "ended": ""}
+    assert opened.poor_texts() == set()
     lab.farm.tell("bob", "/reservations/2/acquire")
     assert lab.look()["reservations"][0][:5] == ["2", "acquired", "", "b1", "bob"]
 
@@ -84,13 +87,6 @@ def test_one_filter_looks_at_the_words_of_all_tables_part_or_whole(lab: Lab) -> 
     for address in ("/?q={}", "/#{}"):
         shown = lab.look(address.format(urllib.parse.quote("serial bad")))
         assert names(shown) == ["b2"], "by its address, also by one of before"
-
-
-def test_a_click_on_a_tag_adds_it_to_the_filter(lab: Lab) -> None:
-    opened = lab.opened("/?q=hd")
-    opened.ask("document.querySelector('#boards .tag').click()")
-    assert opened.ask("filter.value") == 'hd "hdmi"'
-    assert opened.ask("location.search") == "?q=hd%20%22hdmi%22"
 
 
 def test_news_leave_focus_and_selection_where_they_are(lab: Lab) -> None:
@@ -168,17 +164,22 @@ def test_it_asks_for_reservations_only_where_there_is_news_of_them(lab: Lab) -> 
 
 
 def test_it_says_that_no_answer_comes_and_as_of_when_it_is(lab: Lab) -> None:
+    """An old page is left without live buttons."""
     opened = lab.opened()
+    live = "[...document.querySelectorAll('main .actions button, #reserve button')].filter(it => !it.disabled).length"
+    assert opened.ask(live) > 2
     lab.farm.kill()
     shown = until(opened, "no answer", lambda it: it["said"].startswith("no answer"))
     wanted = r"no answer from the desk \(502 Bad Gateway\); this is as of \d+:\d\d:\d\d.[AP]M"
     assert re.fullmatch(wanted, shown["said"]), shown["said"]
-    assert len(shown["boards"]) == 3
-    opened = lab.open()
+    assert (len(shown["boards"]), opened.ask(live), opened.poor_texts()) == (3, 0, set())
+    assert opened.ask("document.body.classList.contains('stale')")
+    old, opened = opened, lab.open()
     shown = until(opened, "no answer at first", lambda it: "502" in it["said"])
     assert shown["said"] == "the desk can't be reached (502 Bad Gateway)"
     lab.farm.start()
     assert len(seen(opened)["boards"]) == 3, "it comes back"
+    until(old, "the old one too", lambda _: old.ask(live) > 2)
     lab.may_answer.clear()
     opened = lab.open()
     assert opened.ask(SHOWN)["said"] == "loading"
@@ -209,9 +210,7 @@ def test_a_lease_runs_on_while_no_pass_comes_and_is_over_unless_refreshed(make_l
     assert times <= {f"{it} s" for it in range(56)}, times
     first, second = [int(it.split()[0]) for it in others]
     assert abs(first - second) <= 1, "they are drawn one after the other"
-    lab.farm.kill()
-    tell_at(lab.farm, now + 45, "eve", "/reservations/3/refresh")
-    lab.farm.start()
+    desks.tell_at(lab.farm, now + 45, "eve", "/reservations/3/refresh")
     lab.date = now + 60
     shown = until(opened, "the second is over too", lambda it: it["reservations"][1][2] == OVER)
     left = re.fullmatch(r"(\d+) s", shown["reservations"][2][2])
@@ -221,9 +220,7 @@ def test_a_lease_runs_on_while_no_pass_comes_and_is_over_unless_refreshed(make_l
 def test_a_farm_whose_clock_is_half_a_minute_old_is_told(make_lab: Callable[..., Lab]) -> None:
     lab, now = make_lab([]), int(time.time())
     assert lab.look()["warned"] == "no pass yet: is farm-dispatch running?"
-    lab.farm.kill()
-    tell_at(lab.farm, now, "dispatcher", "/pass")
-    lab.farm.start()
+    desks.tell_at(lab.farm, now, "dispatcher", "/pass")
     lab.date = now + 28
     assert lab.look()["warned"] == ""
     lab.date = now + 32
@@ -242,9 +239,7 @@ def test_a_farm_whose_clock_is_half_a_minute_old_is_told(make_lab: Callable[...,
 ])
 def test_a_farm_whose_clock_is_a_minute_ahead_is_told(make_lab: Callable[..., Lab], ahead: int, wanted: str) -> None:
     lab = make_lab([])
-    lab.farm.kill()
-    tell_at(lab.farm, time.time() + ahead, "dispatcher", "/pass")
-    lab.farm.start()
+    desks.tell_at(lab.farm, time.time() + ahead, "dispatcher", "/pass")
     assert lab.look()["warned"] == wanted
 
 
@@ -346,11 +341,6 @@ def test_a_phone_shows_all_without_moving_aside_long_words_too(lab: Lab) -> None
         opened.resize(wide, 800)
         shown, needed = opened.ask("[innerWidth, document.documentElement.scrollWidth]")
         assert shown == wide and needed <= wide
-    small = """[...document.querySelectorAll("button")].filter(
-      it => it.checkVisibility() && it.getBoundingClientRect().height < 24).length"""
-    assert opened.ask(small) == 0, "buttons that are too small for a finger"
-    opened.ask("document.querySelectorAll('nav button')[2].click()")
-    assert opened.ask("document.activeElement.id") == "boards-title", "a jump"
 
 
 def all_are_reached(opened: Page) -> None:
@@ -368,12 +358,6 @@ def all_are_reached(opened: Page) -> None:
     assert missed == [], "what Tab doesn't reach"
 
 
-def accessible(opened: Page) -> Set[Tuple[str, str]]:
-    """The roles and names that a reader of the screen is told."""
-    tree = opened.do("Accessibility.getFullAXTree")["nodes"]
-    return {(it["role"]["value"], it.get("name", {}).get("value", "")) for it in tree if "role" in it}
-
-
 def test_tables_and_fields_have_names_and_the_keyboard_reaches_all(lab: Lab) -> None:
     opened = lab.opened()
     wanted = {
@@ -385,16 +369,12 @@ def test_tables_and_fields_have_names_and_the_keyboard_reaches_all(lab: Lab) -> 
         ("navigation", "Parts of this page"),
         ("status", ""),
     }
-    wait_until(f"there are {wanted}", lambda: accessible(opened) >= wanted)
+    wait_until(f"there are {wanted}", lambda: opened.accessible() >= wanted)
     fields = ("button", "textbox", "searchbox")
-    assert [it for it in accessible(opened) if it[0] in fields and not it[1]] == [], "what has no name"
+    assert [it for it in opened.accessible() if it[0] in fields and not it[1]] == [], "what has no name"
     all_are_reached(opened)
+    choose(opened, "hd")
     opened.ask("document.querySelector('#boards .tag').focus()")
     opened.key(" ", 32)
-    assert opened.ask("filter.value") == '"hdmi"'
+    assert opened.ask("[filter.value, location.search]") == ['hd "hdmi"', "?q=hd%20%22hdmi%22"]
     assert opened.ask("document.activeElement.textContent") == "hdmi", "the focus stays"
-
-
-def test_all_texts_have_contrast(lab: Lab) -> None:
-    use(lab)
-    assert lab.opened().poor_texts() == set()

@@ -109,6 +109,10 @@ def test_usage_counts_holds_of_people_where_they_are_kept(lab: Lab) -> None:
     wait_until("with holds", lambda: bool(opened.ask(sums) == ["bob: 3.0 hours, 3.0 held", "ann: 2.0 hours"]))
     assert text_of(opened, "#usage-said") == ""
     assert opened.ask("document.querySelector('#usage h3').innerText") == "Hours of boards in jobs and held by people, a day"
+    opened.ask("void (it => { it.value = 'board'; it.dispatchEvent(new Event('change')); })(document.getElementById('usage-by'))")
+    assert opened.ask(sums) == ["b2: 3.0 hours, 3.0 held", "b1: 2.0 hours"]
+    drawn = "document.querySelector('#usage-days svg').getAttribute('aria-label')"
+    assert opened.ask(drawn).startswith("hours by day: ")
     opened.ask("void (location.hash = '#/boards/b2')")
     row = ["held", "bob", "", "reservation 7: 3 hours"]
     until(opened, "its history", lambda it: [line[1:] for line in it["board-history"]] == [row])
@@ -127,13 +131,15 @@ def test_a_reservation_that_comes_is_told_out_of_sight_and_in_the_title(lab: Lab
 
     def comes(number: int, board: str) -> None:
         opened.ask(reserves.format(f"name={board}"))
-        wait_until("it is reserved", lambda: len(lab.farm.look("/reservations")["reservations"]) == number)
+        until(opened, "it waits", lambda it: len(it["reservations"]) == number)
         lab.passes()
         wait_until("it is taken", lambda: bool(lab.farm.reservation(number)["state"] == "acquired"))
 
     boards: List[str] = [name for name, _, _ in BOARDS]
     comes(1, boards[0])
     until(opened, "it is told", lambda it: it["news"] == f"{boards[0]} is yours")
+    lab.looks_twice()
+    assert opened.ask(SHOWN)["news"] == f"{boards[0]} is yours", "a look that finds it offered doesn't say that it is to be taken"
     assert opened.ask("noted") == [], "in sight"
     opened.ask(SIGHT.format("true"))
     comes(2, boards[1])

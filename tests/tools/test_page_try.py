@@ -1,6 +1,7 @@
 """farm-page, the status page of a desk on one's own machine: what a newcomer sees, and what it refuses."""
 from __future__ import annotations
 
+import contextlib
 import http.client
 import json
 import os
@@ -48,13 +49,10 @@ def ask(
     port: int, method: str, path: str, body: Optional[str] = None, **fields: str
 ) -> Tuple[int, Dict[str, str], bytes]:
     """The status, the fields and the body of an answer."""
-    line = http.client.HTTPConnection("127.0.0.1", port, timeout=60)
-    try:
+    with contextlib.closing(http.client.HTTPConnection("127.0.0.1", port, timeout=60)) as line:
         line.request(method, path, body=body, headers={name.replace("_", "-"): it for name, it in fields.items()})
         answer = line.getresponse()
         return answer.status, {name.lower(): it for name, it in answer.getheaders()}, answer.read()
-    finally:
-        line.close()
 
 
 def test_a_newcomer_sees_the_boards_and_reserves_one(farm: Farm, port: int, browser: Browser) -> None:

@@ -14,8 +14,8 @@ import pytest
 from browser import Visit
 from nginx_site import WORDS, Site
 from pages import (
-    BUTTON, HEAD, HOUR, SHOWN, STATE, Lab, Shown, answer, begin_at, buttons, choose, click, facts_of, names, seen, sort_by,
-    tell_at, text_of, until,
+    BOARDS, BUTTON, HEAD, SHOWN, STATE, Lab, Shown, answer, buttons, choose, click, facts_of, names, seen, sort_by, tell_at,
+    text_of, until,
 )
 from served import Farm, wait_until
 
@@ -119,6 +119,18 @@ def test_an_unknown_board_of_a_type_with_a_check_isnt_free(lab: Lab) -> None:
     assert opened.ask("fits.textContent") == "3 boards fit, 2 free"
 
 
+def test_keys_go_from_row_to_row_and_open_dialogs(lab: Lab) -> None:
+    opened = lab.opened()
+    for key, focused in (("j", "bbb"), ("j", "b1"), ("k", "bbb"), ("j", "b1")):
+        opened.key(key, ord(key.upper()), key)
+        assert focused in opened.ask("document.activeElement.textContent")
+    for key, number, text, title in (("Enter", 13, "\r", "b1"), ("?", 191, "?", "Keys"), ("n", 78, "n", "Submit a job")):
+        opened.key(key, number, text)
+        wait_until(title, lambda: text_of(opened, "dialog:modal h2") == title)  # noqa: B023
+        opened.key("Escape", 27)
+        wait_until("closed", lambda: text_of(opened, "dialog:modal h2") is None)
+
+
 def test_slash_goes_to_the_search_and_escape_leaves_search_and_dialogs(lab: Lab) -> None:
     opened = lab.opened("/?q=b1")
     opened.key("/", 191, "/")
@@ -155,6 +167,7 @@ def test_a_click_beside_a_dialog_closes_it_and_one_within_does_not(lab: Lab) -> 
 def test_a_board_is_reserved_by_tags_which_are_offered_and_counted(lab: Lab) -> None:
     opened = lab.opened()
     assert buttons(opened.ask(SHOWN), "boards", "b2") == "Reserve"
+    assert opened.ask(BUTTON.format(table="boards", row="b2", text="Reserve") + ".ariaLabel") == "Reserve b2"
     opened.ask("tags.focus()")
     opened.do("Input.insertText", text="serial hd")
     assert opened.ask("[...completions.children].map(it => it.value)") == ["serial hdmi"]
@@ -181,6 +194,7 @@ def test_a_board_is_taken_extended_and_given_back_by_keys(lab: Lab) -> None:
     told = f"reservation {number} has b1: take it within a minute"
     until(opened, "the change is told", lambda it: it["news"] == told)
     opened.ask(BUTTON.format(table="boards", row="b1", text="Take") + ".focus()")
+    assert opened.ask("document.activeElement.ariaLabel") == f"Take reservation {number}"
     opened.key("Enter", 13, "\r")
     until(opened, "it is acquired", lambda it: it["reservations"][0][1] == "acquired" and (
         buttons(it, "boards", "b1") == "Extend Give back"))
@@ -354,9 +368,7 @@ def test_the_dispatcher_and_who_isnt_known_only_look(lab: Lab, user: Optional[st
 def test_behind_nginx_the_page_knows_who_logged_in_and_its_commands_are_taken(
     make_farm: Callable[..., Farm], make_site: Callable[..., Site], visit: Visit
 ) -> None:
-    farm = make_farm()
-    begin_at(farm, time.time() + HOUR)
-    farm.start()
+    farm = make_farm(BOARDS)
     site = make_site(farm)
     assert site.curl("-f", "/whoami") == 22, "without a password"
     assert site.curl("-f", "-u", "ann:pass on", "/whoami") == 22, "with another's"
@@ -367,10 +379,3 @@ def test_behind_nginx_the_page_knows_who_logged_in_and_its_commands_are_taken(
     until(opened, "it is reserved", lambda it: it["reservations"])
     found = farm.reservation(1)
     assert (found["owner"], found["tags"]) == ("ann", ["name=b2"])
-    farm.tell("dispatcher", "/pass")
-    until(opened, "it is taken when it comes", lambda it: it["reservations"][0][1] == "acquired")
-    assert farm.reservation(1)["state"] == "acquired"
-    click(opened, "boards", "b2", "Give back")
-    answer(opened, "Give back")
-    until(opened, "it is given back", lambda it: not it["reservations"])
-    assert farm.reservation(1)["state"] == "canceled"

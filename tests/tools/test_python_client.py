@@ -4,7 +4,6 @@ happens."""
 from __future__ import annotations
 
 import datetime
-import http.client
 import json
 import os
 import re
@@ -14,12 +13,12 @@ import subprocess
 import sys
 import threading
 import time
-from typing import Any, Callable, Dict, Iterator, List, Optional, Tuple, Type, cast
+from typing import Any, Callable, Dict, Iterator, List, Optional, Tuple, Type
 
 import pytest
 
 import fizgruk
-from desks import JOB
+from desks import JOB, write
 from fizgruk import __version__, holding
 from nginx_site import Site
 from python_front import (  # noqa: F401
@@ -83,9 +82,7 @@ def test_pip_installs_it(folder: str) -> None:
 def test_types(version: str, folder: str) -> None:
     """A program that uses the package is typed by it, for the oldest Python that it takes too."""
     wants("mypy")
-    used = os.path.join(folder, "used.py")
-    with open(used, "w", encoding="utf-8") as text:
-        text.write(USED)
+    used = write(folder, "used.py", USED)
     ran = subprocess.run(
         ["mypy", "--strict", "--python-version", version, "--cache-dir", os.path.join(folder, "types"), used],
         cwd=folder, capture_output=True, text=True, check=False, env={**os.environ, "MYPYPATH": SRC},
@@ -169,8 +166,7 @@ def hold_a_board(own: Farm, ann: fizgruk.Client, runner: fizgruk.Client) -> int:
 
 def demand_all_asked(front: Front, held: int) -> None:
     """Each route of docs/openapi.json was asked; each command but two had a key, and none another's."""
-    with open(os.path.join(TOP, "docs", "openapi.json"), encoding="utf-8") as opened:
-        paths = json.load(opened)["paths"]
+    paths = json.loads(read(os.path.join(TOP, "docs", "openapi.json")))["paths"]
     routes = {f"{method.upper()} {path}" for path, it in paths.items() for method in it}
     asked = {re.sub(r"/\d+", "/{n}", it.replace("/b1/", "/{name}/")) for it in front.paths()}
     assert asked - {"GET /workers.json"} == routes, "what the site has beside the desk's aside"
@@ -229,21 +225,14 @@ def test_fork(front: Front, folder: str) -> None:
 
 
 def test_command_whose_answer_is_lost(farm: Farm, front: Front) -> None:
-    """It is sent again under its key, and done once."""
+    """It is sent again under its key, and done once; so is one under a key of one's own, however often it is given."""
     front.trouble("lost", "502", "lost", "503", "lost", "504", path="/jobs")
-    assert client_of(front.url, patience=300).submit(JOB) == 1
-    assert farm.look("/status")["jobs"] == 1
+    ann = client_of(front.url, patience=300)
+    assert ann.submit(JOB) == 1
     assert len(front.keys("/jobs")) == 7
     assert len(set(front.keys("/jobs"))) == 1
-
-
-def test_key_of_ones_own(farm: Farm, front: Front) -> None:
-    """A command under a key of one's own is done once, however often it is given."""
-    ann = client_of(front.url)
-    front.trouble("lost", path="/jobs")
-    assert [ann.submit(JOB, key="nightly") for _ in range(2)] == [1, 1]
-    assert set(front.keys("/jobs")) == {"nightly"}
-    assert farm.look("/status")["jobs"] == 1
+    assert [ann.submit(JOB, key="nightly") for _ in range(2)] == [2, 2]
+    assert front.keys("/jobs")[7:] == ["nightly"] * 2 and farm.look("/status")["jobs"] == 2
 
 
 @pytest.fixture
@@ -252,24 +241,12 @@ def site(farm: Farm, folder: str) -> Site:
     return Site(farm, folder)
 
 
-def test_behind_nginx(site: Site, farm: Farm, monkeypatch: pytest.MonkeyPatch) -> None:
-    """Through nginx, over TLS and by a password, ten boards take one connection, and are the user's."""
-    password = os.path.join(site.folder, "ann")
-    ann = client_of(site.server, password_file=password, ca_file=site.certificate)
-    opened: List[object] = []
-    opens = ann._desk._opened
-
-    def counted() -> http.client.HTTPConnection:
-        opened.append(opens())
-        return cast(http.client.HTTPConnection, opened[-1])
-
-    monkeypatch.setattr(ann._desk, "_opened", counted)
-    monkeypatch.setattr(holding, "EVERY", 3600.0)  # (a hold's own looks have a connection of their own)
-    with Passer(farm):
-        for _ in range(10):
-            with ann.board("hdmi", every=0.1):
-                assert rows(farm)[-1]["owner"] == "ann"
-    assert (states(farm), len(opened)) == (["canceled"] * 10, 1)
+def test_behind_nginx(site: Site, farm: Farm) -> None:
+    """Through nginx, over TLS and by a password, a board is the user's."""
+    ann = client_of(site.server, password_file=os.path.join(site.folder, "ann"), ca_file=site.certificate)
+    with Passer(farm), ann.board("hdmi", every=0.1):
+        assert [(it["owner"], it["state"]) for it in rows(farm)] == [("ann", "acquired")]
+    assert states(farm) == ["canceled"]
 
 
 def test_certificate_that_nobody_knows(site: Site, monkeypatch: pytest.MonkeyPatch) -> None:
@@ -283,13 +260,15 @@ def test_certificate_that_nobody_knows(site: Site, monkeypatch: pytest.MonkeyPat
 
 
 def test_board(farm: Farm) -> None:
-    """A board is acquired within its `with`, and given back at its end."""
-    ann = client_of(farm.server)
-    with Passer(farm), ann.board("hdmi", "serial", name="b1", priority="high", every=0.1) as board:
+    """A board is acquired within its `with`, and given back at its end; each `with` wants a call of board() of its own."""
+    hold = client_of(farm.server).board("hdmi", "serial", name="b1", priority="high", every=0.1)
+    with Passer(farm), hold as board:
         row = rows(farm)[-1]
         assert (row["state"], row["board"], row["priority"]) == ("acquired", "b1", 100)
         assert row["tags"] == ["hdmi", "name=b1", "serial"]
         assert board == fizgruk.Board("b1", "bbb", ("hdmi", "serial"), row["number"])
+    with pytest.raises(fizgruk.FizgrukError, match="call board"):
+        hold.__enter__()
     assert states(farm) == ["canceled"]
 
 
@@ -314,29 +293,6 @@ def test_end_by_what_is_raised(kind: Type[BaseException], farm: Farm) -> None:
     assert states(farm) == ["canceled"]
 
 
-def test_wait_that_is_interrupted(farm: Farm) -> None:
-    """A reservation that waits is canceled where the wait is interrupted."""
-
-    def interrupt(_: str) -> None:
-        raise KeyboardInterrupt
-
-    farm.tell("admin", "/boards/b1/health", {"health": "Bad"})
-    with pytest.raises(KeyboardInterrupt):
-        client_of(farm.server).board("hdmi", tell=interrupt).__enter__()
-    assert states(farm) == ["canceled"]
-
-
-def test_board_is_held_once(farm: Farm) -> None:
-    """Each `with` wants a call of board() of its own."""
-    with Passer(farm):
-        hold = client_of(farm.server).board("hdmi", every=0.1)
-        with hold:
-            pass
-    with pytest.raises(fizgruk.FizgrukError, match="call board"):
-        hold.__enter__()
-    assert states(farm) == ["canceled"]
-
-
 @pytest.mark.parametrize("path", ["/reservations", "/acquire", "/cancel"])
 def test_lost_answers_of_a_hold(path: str, farm: Farm, front: Front) -> None:
     """No board is left where answers are lost on the way to it, or on the way back."""
@@ -344,27 +300,6 @@ def test_lost_answers_of_a_hold(path: str, farm: Farm, front: Front) -> None:
     with Passer(farm), client_of(front.url).board("hdmi", every=0.1) as board:
         assert board.name == "b1"
     assert states(farm) == ["canceled"]
-
-
-def test_desk_that_is_killed(farm: Farm) -> None:
-    """A desk that is killed, and serves again, loses no board, waited for or held."""
-    ann = client_of(farm.server)
-    with Passer(farm):
-        with ann.board("hdmi", every=0.1):
-            waits: List[str] = []
-            thread = threading.Thread(target=lambda: waits.append(held_once(ann)))
-            thread.start()
-            wait_until("the second one waits", lambda: len(farm.look("/queue")["queue"]) == 1)
-            farm.kill()
-            threading.Timer(2, farm.start).start()
-        thread.join(300)
-    assert waits == ["b1"]
-    assert states(farm) == ["canceled", "canceled"]
-
-
-def held_once(client: fizgruk.Client) -> str:
-    with client.board("hdmi", every=0.1) as board:
-        return board.name
 
 
 # ---- boards that are lost

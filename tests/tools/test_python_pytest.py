@@ -3,7 +3,6 @@ from __future__ import annotations
 
 import os
 import pathlib
-import re
 import signal
 import subprocess
 import sys
@@ -12,6 +11,7 @@ from typing import Callable, Dict
 
 import pytest
 
+from desks import write
 from python_front import PATH, Passer, rows, states
 from served import STARTED, TOOLS, TOP, Farm, environment, read, wait_until
 from wants import wants_modules
@@ -22,24 +22,18 @@ def demand_held(board, client):
     assert [it.state for it in rows] == ["acquired"]
     assert [it.name for it in client.boards("hdmi")] == [board.name]
 """
-PASSES = f"""{HOLDS}
-def test_one(board, farm_client):
-    demand_held(board, farm_client)
-def test_two(board, farm_client):
-    demand_held(board, farm_client)
-"""
-FAILS = f"""{HOLDS}
-def test_one(board, farm_client):
-    demand_held(board, farm_client)
-    assert board.name == "another"
-"""
-FIXTURE = f"""import pytest
+TESTS = f"""import pytest
 {HOLDS}
 @pytest.fixture
 def console(board, farm_client):
     demand_held(board, farm_client)
     raise OSError("no console")
-def test_one(console):
+def test_one(board, farm_client):
+    demand_held(board, farm_client)
+def test_two(board, farm_client):
+    demand_held(board, farm_client)
+    assert board.name == "another"
+def test_three(console):
     pass
 """
 SLEEPS = """import time
@@ -61,17 +55,12 @@ class Session:
 
     def __init__(self, farm: Farm, folder: str, text: str, *words: str, **more: str):
         self.folder, self.file = folder, os.path.join(folder, "output")
-        with open(os.path.join(folder, "test_it.py"), "w", encoding="utf-8") as opened:
-            opened.write(text)
-        around = {"DESK_SERVER": farm.server, "DESK_USER": "ann", **more}
+        write(folder, "test_it.py", text)
+        env = environment(PYTHONPATH=PATH, **{"DESK_SERVER": farm.server, "DESK_USER": "ann", **more})
         with open(self.file, "wb") as output:
             self.process = subprocess.Popen(
-                [sys.executable, "-m", "pytest", *PLUGINS, *words],
-                cwd=folder,
-                stdin=subprocess.DEVNULL,
-                stdout=output,
-                stderr=subprocess.STDOUT,
-                env=environment(PYTHONPATH=PATH, **around),
+                [sys.executable, "-m", "pytest", *PLUGINS, *words], cwd=folder, env=env,
+                stdin=subprocess.DEVNULL, stdout=output, stderr=subprocess.STDOUT,
             )
         STARTED.append(self.process)
 
@@ -103,19 +92,17 @@ def start(farm: Farm, tmp_path_factory: pytest.TempPathFactory) -> Start:
     return started
 
 
-@pytest.mark.parametrize(
-    "text, status, said", [(PASSES, 0, "2 passed"), (FAILS, 1, "1 failed"), (FIXTURE, 1, "1 error")]
-)
-def test_session(text: str, status: int, said: str, farm: Farm, start: Start) -> None:
+def test_session(farm: Farm, start: Start) -> None:
     """pytest --farm holds one board a session, given back after tests that pass, fail or err."""
     with Passer(farm):
-        start(text, "--farm", "hdmi").ends(status, said, "farm: b1 is held by reservation 1\n")
+        start(TESTS, "--farm", "hdmi").ends(1, "1 failed, 1 passed, 1 error", "farm: b1 is held by reservation 1\n")
     assert states(farm) == ["canceled"]
 
 
 def test_without_farm(farm: Farm, start: Start) -> None:
     """Tests that ask for a board are skipped without --farm, and nothing is reserved where none asks."""
-    start(PASSES).ends(0, "2 skipped")
+    start(TESTS).ends(0, "3 skipped")
+    start(MARKS).ends(0, "4 skipped")
     start("def test_one():\n    pass\n", "--farm", "hdmi").ends(0, "1 passed")
     assert not rows(farm)
 
@@ -123,7 +110,8 @@ def test_without_farm(farm: Farm, start: Start) -> None:
 def test_several_tags(farm: Farm, start: Start) -> None:
     """The board has the tags of all options --farm."""
     with Passer(farm):
-        start(PASSES, "--farm", "serial name=b1", "--farm=hdmi").ends(0, "2 passed", "farm: a board with serial ")
+        words = ["-k", "one", "--farm", "serial name=b1", "--farm=hdmi"]
+        start(TESTS, *words).ends(0, "1 passed", "farm: a board with serial ")
     assert rows(farm)[-1]["tags"] == ["hdmi", "name=b1", "serial"]
 
 
@@ -134,7 +122,7 @@ LATE = "no board with hdmi within 1 s: reservation 1 is waiting, place 1 of 1 in
 def test_no_board_in_time(word: str, priority: int, farm: Farm, start: Start) -> None:
     """Where no board comes in time pytest says why, without a trace; the reservation has its priority."""
     farm.tell("admin", "/boards/b1/health", {"health": "Bad"})
-    session = start(FAILS, "--farm", "hdmi", "--farm-timeout", "1", "--farm-priority", word)
+    session = start(TESTS, "-k", "one", "--farm", "hdmi", "--farm-timeout", "1", "--farm-priority", word)
     session.ends(1, "1 error", LATE)
     assert "holding.py" not in session.output()
     assert (states(farm), rows(farm)[0]["priority"]) == (["canceled"], priority)
@@ -145,7 +133,7 @@ def test_no_board_in_time(word: str, priority: int, farm: Farm, start: Start) ->
 )
 def test_refused(tags: str, around: Dict[str, str], said: str, start: Start) -> None:
     """What the desk refuses, or what settings can't be used, pytest says without a trace."""
-    session = start(FAILS, "--farm", tags, **around)
+    session = start(TESTS, "-k", "one", "--farm", tags, **around)
     session.ends(1, "1 error", said)
     assert "holding.py" not in session.output()
 
@@ -241,31 +229,17 @@ def test_board_that_is_lost_at_the_end(farm: Farm, start: Start) -> None:
 
 def test_shell_example(farm: Farm, folder: str) -> None:
     """examples/with-board.sh tests on a board, and gives it back also after SIGTERM."""
-    starter = os.path.join(folder, "desk")
-    with open(starter, "w", encoding="utf-8") as text:
-        text.write(f"#!/bin/sh\nexec {sys.executable} {TOOLS}/desk \"$@\"\n")
-    os.chmod(starter, 0o755)
+    write(folder, "desk", f"#!/bin/sh\nexec {sys.executable} {TOOLS}/desk \"$@\"\n", 0o755)
     env = environment(PATH=f"{folder}:{os.environ['PATH']}", DESK_SERVER=farm.server, DESK_USER="ann")
-    script = os.path.join(TOP, "examples", "with-board.sh")
+    long = write(folder, "long.sh", read(os.path.join(TOP, "examples", "with-board.sh")) + "exec sleep 300\n")
     with Passer(farm):
-        ran = subprocess.run(
-            ["sh", script, "hdmi"], env=env, capture_output=True, text=True, timeout=300, check=False
-        )
-        assert (ran.returncode, ran.stdout) == (0, "testing b1, a bbb, under reservation 1\n"), ran.stderr
-        assert states(farm) == ["canceled"]
-        long = os.path.join(folder, "long.sh")
-        with open(long, "w", encoding="utf-8") as text:
-            text.write(read(script) + "exec sleep 300\n")
-        with open(os.path.join(folder, "said"), "wb") as said:
-            process = subprocess.Popen(
-                ["sh", long, "hdmi"], env=env, stdin=subprocess.DEVNULL, stdout=said, stderr=said
-            )
+        process = subprocess.Popen(["sh", long, "hdmi"], env=env, stdin=subprocess.DEVNULL, stdout=subprocess.PIPE)
         STARTED.append(process)
-        wait_until("it tests", lambda: re.search(r"reservation 2\n", read(str(said.name))))
-        assert states(farm) == ["canceled", "acquired"]
+        assert process.stdout and process.stdout.readline() == b"testing b1, a bbb, under reservation 1\n"
+        assert states(farm) == ["acquired"]
         process.send_signal(signal.SIGTERM)
         assert process.wait(300) == 143
-    assert states(farm) == ["canceled", "canceled"]
+    assert states(farm) == ["canceled"]
 
 
 # ---- the mark `farm`
@@ -317,11 +291,6 @@ def test_marks_of_a_session_want_its_tags_too(farm: Farm, start: Start) -> None:
     with Passer(farm):
         text = "import pytest\n@pytest.mark.farm('serial')\ndef test_it(boards):\n    assert boards[0].name == 'b1'\n"
         start(text, "--farm", "hdmi").ends(0, "1 passed")
-
-
-def test_marked_tests_are_skipped_without_a_farm(farm: Farm, start: Start) -> None:
-    start(MARKS).ends(0, "4 skipped")
-    assert states(farm) == []
 
 
 @pytest.mark.parametrize("mark", ["board=2", "scope='module'"])

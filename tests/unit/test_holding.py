@@ -111,9 +111,11 @@ def test_a_board_that_was_taken_back_meanwhile_is_gone(fault: Exception, kind: T
 # ---- a hold
 
 
-@pytest.mark.parametrize("fault, kind", [(EXPIRED, ReservationEnded), (OVER, ReservationEnded), (NO, Refused)])
+@pytest.mark.parametrize("fault, kind", [
+    (EXPIRED, ReservationEnded), (OVER, ReservationEnded), (NO, Refused), (KeyboardInterrupt(), KeyboardInterrupt),
+])
 def test_a_board_that_comes_too_late_is_given_back(
-    fault: Exception, kind: Type[Exception], monkeypatch: pytest.MonkeyPatch
+    fault: BaseException, kind: Type[BaseException], monkeypatch: pytest.MonkeyPatch
 ) -> None:
     desk: Any = FakeDesk()
 

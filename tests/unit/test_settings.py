@@ -122,11 +122,6 @@ def test_a_file_that_is_no_file_of_settings(around: Around, text: str) -> None:
         around.reads()
 
 
-def test_a_named_file_that_isnt_there(around: Around) -> None:
-    with pytest.raises(BadSettings, match="^/none/desk.ini can't be read$"):
-        around.reads(config="/none/desk.ini")
-
-
 @pytest.mark.parametrize("server, told", [
     *((it, "") for it in ("http://farm", "https://farm.example:8443/desk", "http://[::1]:8080", "http://127.0.0.1:65535")),
     *((it, f"{it} is no address of a server, as {settings.SERVER} is one") for it in (
@@ -144,21 +139,20 @@ def test_an_address(server: str, told: str) -> None:
     assert str(fault.value) == told
 
 
-@pytest.mark.parametrize("user", ["a b", "n" * 49, "é", "a\n"])
-def test_no_name_of_a_user(around: Around, user: str) -> None:
-    with pytest.raises(BadSettings, match="is no name of a user"):
-        around.reads(user)
+@pytest.mark.parametrize("given, told", [
+    *(({"user": it}, "is no name of a user") for it in ("a b", "n" * 49, "é", "a\n")),
+    *(({"timeout": it}, "is no number of seconds from 0 to 3600") for it in ("0", "-1", "3601", "x", "nan", "inf")),
+    ({"config": "/none/desk.ini"}, "^/none/desk.ini can't be read$"),
+    ({"server": "https://farm.example", "password_file": "/none"}, "^/none can't be read: "),
+])
+def test_settings_that_cant_be_used(around: Around, given: Any, told: str) -> None:
+    with pytest.raises(BadSettings, match=told):
+        around.reads(**given)
 
 
 @pytest.mark.parametrize("text, seconds", [("0.5", 0.5), ("3600", 3600)])
 def test_a_timeout(around: Around, text: str, seconds: float) -> None:
     assert around.reads(timeout=text).timeout == seconds
-
-
-@pytest.mark.parametrize("text", ["0", "-1", "3601", "x", "nan", "inf"])
-def test_no_timeout(around: Around, text: str) -> None:
-    with pytest.raises(BadSettings, match="is no number of seconds from 0 to 3600"):
-        around.reads(timeout=text)
 
 
 # ---- passwords
@@ -202,11 +196,6 @@ def test_netrc_names_the_user_and_the_password_of_a_server(around: Around, given
     around.writes("password", "other\n", 0o600)
     found = around.reads(**{"server": "https://farm.example", **given})
     assert (found.user, found.password) == (user, password)
-
-
-def test_a_passwords_file_that_isnt_there(around: Around) -> None:
-    with pytest.raises(BadSettings, match="^/none can't be read: "):
-        around.reads(server="https://farm.example", password_file="/none")
 
 
 @pytest.mark.parametrize("host, is_told", [("127.0.0.1", True), ("other.example", False)])

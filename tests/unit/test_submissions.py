@@ -6,21 +6,13 @@ import pathlib
 import pytest
 from fizgruk import submissions
 from fizgruk.submissions import NumberLook, Submissions
-
-NOW = 1_800_000_000
-
-
-class Clock:
-    def __init__(self) -> None:
-        self.at = NOW
-
-    def time(self) -> float:
-        return self.at + 0.9
+from hand_clock import NOW, Clock
 
 
 @pytest.fixture
 def clock(monkeypatch: pytest.MonkeyPatch) -> Clock:
     set_by_hand = Clock()
+    set_by_hand.at += 0.9
     monkeypatch.setattr(submissions, "time", set_by_hand)
     return set_by_hand
 

@@ -2,6 +2,7 @@
 from __future__ import annotations
 
 import argparse
+import contextlib
 import os
 import signal
 import subprocess
@@ -46,12 +47,16 @@ class Held:
 
 @pytest.mark.parametrize("comes, number, status, back", [
     (3, 7, 3, 1), (125, None, 125, 0), (service.Interrupted(2), None, 130, 1), (service.Interrupted(15), 7, 143, 1),
+    (ValueError(), 7, None, 1), (ValueError(), None, None, 0),
 ])
 def test_a_board_is_given_back_whatever_comes(
-    monkeypatch: pytest.MonkeyPatch, comes: Any, number: Optional[int], status: int, back: int
+    monkeypatch: pytest.MonkeyPatch, comes: Any, number: Optional[int], status: Optional[int], back: int
 ) -> None:
+    """A fault of the client's own too, which is raised."""
     held = Held(monkeypatch)
-    assert held.runs(comes, number) == status
+    raised: Any = pytest.raises(ValueError) if status is None else contextlib.nullcontext()
+    with raised:
+        assert held.runs(comes, number) == status
     assert len(held.back) == back
 
 
@@ -63,14 +68,6 @@ def test_a_process_that_has_the_number_of_one_that_ended_is_left_alone() -> None
     finally:
         child.kill()
         child.wait()
-
-
-@pytest.mark.parametrize("number, back", [(7, 1), (None, 0)])
-def test_a_fault_of_the_client_itself_keeps_no_board(monkeypatch: pytest.MonkeyPatch, number: Optional[int], back: int) -> None:
-    held = Held(monkeypatch)
-    with pytest.raises(ValueError):
-        held.runs(ValueError(), number)
-    assert len(held.back) == back
 
 
 def test_a_board_that_isnt_given_back_is_the_clients_own_fault(monkeypatch: pytest.MonkeyPatch) -> None:
