@@ -96,6 +96,8 @@ sys.path[:0] = ["/opt/farm/tools", "/opt/farm/src"]
 from farm_dispatch import main
 sys.exit(main.main())
 """
+# (or DRBD takes what is emulated for a slow cable that others need)
+HURRIES = "c-plan-ahead 0; resync-rate 400M; c-min-rate 0;"
 RELAY_PORT = 16421  # pdudaemon's
 DISK = 64 << 20
 BODY, JOB = {"tags": ["hdmi"]}, "job_name = 'short'\ndevice_type = 'real'\n"
@@ -169,6 +171,7 @@ def ramdisk(program: str, folder: str) -> str:
     write(root, "etc/drbd.conf", 'include "drbd.d/*.res";\n')
     with open(f"{TOP}/examples/farm.res", encoding="utf-8") as file:
         text = file.read().replace("/dev/VOLUME_GROUP/farm-rest", "/dev/vdb").replace("/dev/VOLUME_GROUP/farm", "/dev/vda")
+    text = text.replace("disk {", f"disk {{ {HURRIES}", 1)
     write(root, "etc/drbd.d/farm.res", text)
     write(root, "init", INIT, 0o755)
     image = os.path.join(folder, "image.gz")
