@@ -17,7 +17,7 @@ What isn't tried: a disk that tears a sector, or forgets what it said is synced,
 a file's name once it is synced.
 
 CUTS different pairs are tried, 10,000 where no number is given: some 20 minutes on four processors. SEED is where
-chance begins. test_by_chance.py tries 200. Wants what tests/shared/libraries.py wants.
+chance begins. test_by_chance.py tries 100, and fewer large jobs. Wants what tests/shared/libraries.py wants.
 """
 from __future__ import annotations
 
@@ -471,8 +471,8 @@ def tried(life: Life, number: int, chance: random.Random, folder: str) -> int:
     return count
 
 
-def main(farm: str, recorder: str, number: int, seed: int) -> int:
-    """Tries so many pairs of files. Returns how many there were."""
+def main(farm: str, recorder: str, number: int, seed: int, jobs: int = 24) -> int:
+    """Tries so many pairs of files, of a farm that had so many large jobs among others. Returns how many there were."""
     global FARM, RECORDER
     FARM, RECORDER = farm, recorder
     chance = random.Random(seed)
@@ -481,11 +481,11 @@ def main(farm: str, recorder: str, number: int, seed: int) -> int:
         empty = life_of_init(folder)
         lab = life_of_import(folder, empty.db)
         busy = life_of_serving("a day", folder, lab.db, day())
-        full = life_of_serving("large jobs", folder, busy.db, large_jobs(24))
+        full = life_of_serving("large jobs", folder, busy.db, large_jobs(jobs))
         assert full.carried() >= 2, f"the log was carried into the file {full.carried()} times"
         parts = ((empty, 1), (lab, 4), (busy, 7), (full, 4))
         sums = [tried(life, number * part // 20, chance, folder) for life, part in parts]
-        left = next(cut for cut in cuts(full, chance, 0.05) if cut[2] > 60)[1]
+        left = next(cut for cut in cuts(full, chance, 0.05) if cut[2] > 3 * jobs)[1]
         again = f"{tempfile.mkdtemp(dir=folder)}/farm.db"
         for end, held in left.items():
             write(again + end, held)

@@ -17,8 +17,8 @@ def test_kills(program: str, folder: str) -> None:
     kills.main(program, 100, folder)
 
 
-@pytest.mark.slow(60)
+@pytest.mark.slow(30)
 def test_power_cuts(program: str, library: Callable[[str], str]) -> None:
     """The power is cut at places by chance: each farm that is left is the one after some command, no fewer than
     had been answered."""
-    assert power_cuts.main(program, library("record"), 200, 20261124) >= 200
+    assert power_cuts.main(program, library("record"), 100, 20261124, 10) >= 100

@@ -1,6 +1,6 @@
 """Growths of memory of the program are refused (refuse.c, preloaded), one in each run, counting upwards until a run
-meets no refusal: every eighth, or sixteenth where the player plays, of which the first is taken by chance; or each
-one, where FARM_TEST_FULL=1.
+meets no refusal: every thirty-second, or sixteenth where the player plays, or eighth where it serves, of which the first is
+taken by chance; or each one, where FARM_TEST_FULL=1.
 
 Each run answers as it would with ample memory, or with 503 and code 1 (60 where the store's own growth was refused),
 or ends with the line of that fault; and whatever was answered 200 is in the file. The Rattle program asks the C
@@ -24,7 +24,7 @@ from served import TOP, read
 pytestmark = pytest.mark.timeout(1200)  # (a loaded machine takes many times as long)
 
 IS_FULL = os.environ.get("FARM_TEST_FULL") == "1"
-EVERY, OF_ROWS = (1, 1) if IS_FULL else (8, 16)
+EVERY, OF_ROWS, OF_SERVED = (1, 1, 1) if IS_FULL else (32, 16, 8)
 FIRST_EDITION = os.path.join(TOP, "tests", "shared", "first_edition")
 ADD_TYPE = request("POST", "/types", {"x-user": "admin", "x-key": "k1", "content-length": "14"}, b'{"name":"bbb"}')
 STATUS = request("GET", "/status", {})
@@ -120,7 +120,7 @@ def test_farm_in_memory(refuser: Refuser) -> None:
     refuser.runs("once --memory --at 1700000000", ADD_TYPE, demand_answer, lambda: None)
 
 
-@pytest.mark.slow(15)
+@pytest.mark.slow(5)
 def test_farm_in_a_file(refuser: Refuser) -> None:
     """A request over a farm in a file: afterwards the command is in it or it isn't, and it is where that was
     answered. Sent again under its key, and once more, it is answered as if nothing had happened."""
@@ -141,7 +141,7 @@ def test_farm_in_a_file(refuser: Refuser) -> None:
         assert orders.run("once", "--db", "lab.db", "--at", moment, given=ADD_TYPE) == Ran(0, DONE, "")
 
 
-@pytest.mark.slow(20)
+@pytest.mark.slow(5)
 def test_upgrade(refuser: Refuser) -> None:
     """An upgrade of a farm of the first edition is done, or ends with a fault's line; it is then done again, unless
     it was done, and shows what the first edition's program showed."""
@@ -170,7 +170,7 @@ def test_upgrade(refuser: Refuser) -> None:
 def test_served(path: str, program: str, folder: str, library: Callable[[str], str]) -> None:
     """A program that serves: the client of a command hears what it would with ample memory, or the answer of code 1
     or 60; a refusal in the middle of the change ends the program, and nothing of the command is in the file."""
-    refused_serving.try_command(path, refused_serving.Served(program, library("refuse"), folder), EVERY)
+    refused_serving.try_command(path, refused_serving.Served(program, library("refuse"), folder), OF_SERVED)
 
 
 @pytest.mark.slow(20)
