@@ -16,7 +16,6 @@ import tempfile
 import termios
 from typing import Dict, List, Sequence, Tuple, Union
 
-import pages
 from served import LASTING, PATIENCE, STARTED, TOOLS, Board, Farm, Tool, environment, read, wait_until
 
 SHARED = os.path.dirname(os.path.abspath(__file__))
