@@ -138,26 +138,22 @@ def test_refused(tags: str, around: Dict[str, str], said: str, start: Start) -> 
     assert "holding.py" not in session.output()
 
 
-@pytest.mark.parametrize("number", [signal.SIGINT, signal.SIGTERM, signal.SIGHUP])
-def test_signal_while_it_holds(number: signal.Signals, farm: Farm, start: Start) -> None:
-    """A session that is ended by Ctrl-C, SIGTERM or SIGHUP gives its board back."""
+@pytest.mark.parametrize("number, health, state", [
+    *((it, "Good", "acquired") for it in (signal.SIGINT, signal.SIGTERM, signal.SIGHUP)),
+    *((it, "Bad", "waiting") for it in (signal.SIGINT, signal.SIGTERM)),
+])
+def test_signal(number: signal.Signals, health: str, state: str, farm: Farm, start: Start) -> None:
+    """A session that is ended by Ctrl-C, SIGTERM or SIGHUP gives back the board that it holds or waits for."""
+    farm.tell("admin", "/boards/b1/health", {"health": health})
     with Passer(farm):
         session = start(SLEEPS, "--farm", "hdmi")
-        session.holds()
-        assert states(farm) == ["acquired"]
+        if health == "Good":
+            session.holds()
+        else:
+            wait_until("it waits", lambda: "1 board fits, Bad; none can come" in session.output(), 300)
+        assert states(farm) == [state]
         session.process.send_signal(number)
         session.ends(2)
-    assert states(farm) == ["canceled"]
-
-
-@pytest.mark.parametrize("number", [signal.SIGINT, signal.SIGTERM])
-def test_signal_while_it_waits(number: signal.Signals, farm: Farm, start: Start) -> None:
-    """So does one that waits for its board."""
-    farm.tell("admin", "/boards/b1/health", {"health": "Bad"})
-    session = start(SLEEPS, "--farm", "hdmi")
-    wait_until("it waits", lambda: "1 board fits, Bad; none can come" in session.output(), 300)
-    session.process.send_signal(number)
-    session.ends(2)
     assert states(farm) == ["canceled"]
 
 
