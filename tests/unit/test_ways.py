@@ -127,7 +127,7 @@ def test_without_ssh_there_is_no_way(monkeypatch: pytest.MonkeyPatch) -> None:
 
 
 def test_a_command_on_the_board_has_a_time(ssh: Callable[[str], ways.Ways]) -> None:
-    ran = ssh('shift 11; echo "$*"; exit 3').ssh("uname", "-a")
+    ran = ssh('shift 13; echo "$*"; exit 3').ssh("uname", "-a")
     assert (ran.returncode, ran.stdout) == (3, "root@b1 uname -a\n")
     with pytest.raises(TimedOut, match="^uname: not within 0.1 s$"):
         ssh("exec sleep 60").ssh("uname", timeout=0.1)

@@ -4,11 +4,12 @@ from __future__ import annotations
 import http.client
 import http.server
 import json
+import threading
 import time
 from typing import List, NamedTuple, Sequence, Tuple
 
 from served import Farm
-from watched import Door, reply
+from watched import reply
 
 GONE = 0  # the status of what got no answer
 
@@ -22,12 +23,25 @@ class Asked(NamedTuple):
     status: int
 
 
-class Looks(Door):
+class Looks:
     """Stands before the desk, and notes what is asked."""
 
     def __init__(self, farm: Farm):
-        super().__init__(farm)
         self.noted: List[Asked] = []
+        looks = self
+
+        class Handler(http.server.BaseHTTPRequestHandler):
+            def do_GET(self) -> None:
+                looks.pass_on(self, farm)
+
+            do_POST = do_GET
+
+            def log_message(self, *_: object) -> None:
+                pass
+
+        self.served = http.server.ThreadingHTTPServer(("127.0.0.1", 0), Handler)
+        threading.Thread(target=self.served.serve_forever, daemon=True).start()
+        self.address = f"http://127.0.0.1:{self.served.server_port}"
 
     def pass_on(self, handler: http.server.BaseHTTPRequestHandler, farm: Farm) -> None:
         begin = time.time()
