@@ -99,7 +99,7 @@ sys.exit(main.main())
 # (or DRBD takes what is emulated for a slow cable that others need)
 HURRIES = "c-plan-ahead 0; resync-rate 400M; c-min-rate 0;"
 RELAY_PORT = 16421  # pdudaemon's
-DISK = 64 << 20
+DISK = 24 << 20  # (most of which is copied once a machine comes back)
 BODY, JOB = {"tags": ["hdmi"]}, "job_name = 'short'\ndevice_type = 'real'\n"
 LAB = (
     ("/types", {"name": "virtual"}), ("/types", {"name": "real"}), ("/boards", {"name": "v1", "type": "virtual", "tags": ["hdmi"]}),

@@ -88,14 +88,19 @@ new_farm() {
     expect 0 migrated '' migrate --db lab.db
 }
 
-# Demands that the farm shows what the first edition's program printed, in a copy.
+# Demands that the farm shows what the first edition's program printed, in a copy; once where its bytes are the same, but the
+# head of its log.
 shows_all() {
+    state=$(cksum lab.db && find . -name lab.db-wal -size +41c -exec cksum {} +)
+    [ "$state" != "$seen" ] || return 0
     cp lab.db* ../away
     sh "$first/show.sh" "$farm" ../away/lab.db > ../found
     rm ../away/lab.db*
     python3 "$first/same.py" ../shown ../found || fail "after $1 the farm shows something else"
+    seen=$state
 }
 
+seen=
 : > ../request
 sed 's/\("clock":[0-9]*\),/\1,"collector":0,/' "$first/shown.txt" > ../shown
 printf '[types.new]\n' > ../more.toml

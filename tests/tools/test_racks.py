@@ -153,7 +153,7 @@ def test_an_older_farm(lab: Racks) -> None:
 
 
 def test_kills_of_everything(lab: Racks) -> None:
-    assert over_kills(lab, 18, random.randrange(10**6), 200)
+    assert over_kills(lab, 12, random.randrange(10**6), 200)
 
 
 @pytest.mark.parametrize("line, wanted", [
@@ -163,7 +163,8 @@ def test_kills_of_everything(lab: Racks) -> None:
     ("begin farm-job-$(id) none job 1 1 1 1", ""), ("pre farm-job-x", ""),
 ])
 def test_a_stolen_key_has_the_scripts_words_alone(lab: Racks, line: str, wanted: str) -> None:
-    for words in ("farm-worker", f"'{line}'", ""):
+    """Whatever ssh is told to run."""
+    for words in ("farm-worker", "id", "") if line == "id" else (f"'{line}'",):
         said = lab.desk.run("sh", "-c", f"echo '{line}' | timeout 120 {STOLEN} -T {THERE} {words}", user="farm-dispatch", check=False)
         assert said.stdout == wanted, words
     assert lab.racks["rack1"].status("lab-sshd") == "active"
