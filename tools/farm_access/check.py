@@ -71,7 +71,8 @@ def _of_board(site: Site, board: BoardSeen) -> int:
 def _of_way(board: str, name: str, ways: Ways) -> int:
     # (of addresses of `network` no port is known)
     tries: Dict[str, Callable[[Any], List[str]]] = {
-        "console": _console, "power": _power, "tcp": _tcp, DEVICES: _devices, NETWORK: lambda _: [],
+        "console": _console, "power": _power, "tcp": _tcp, NETWORK: lambda _: [],
+        DEVICES: lambda way: [fault for file in way for fault in _others(file, FOR_COMMANDS)],
     }
     way = ways[name]
     if lacks(way):
@@ -92,8 +93,7 @@ def _console(way: Any) -> List[str]:
 
 
 def _tcp(way: Any) -> List[str]:
-    addresses = (f"{whole(way.get('host'), 'host of tcp')}:{port}" for port in way.get("ports", []))
-    return [fault for it in addresses for fault in _address(it)]
+    return [fault for port in way.get("ports", []) for fault in _address(f"{whole(way.get('host'), 'host of tcp')}:{port}")]
 
 
 def _power(way: Any) -> List[str]:
@@ -110,10 +110,6 @@ def _address(address: str, whose: str = "") -> List[str]:
     except OSError as fault:
         return [str(fault)]
     return _open_to_others(address)
-
-
-def _devices(way: Any) -> List[str]:
-    return [fault for file in way for fault in _others(file, FOR_COMMANDS)]
 
 
 def _command(way: Any) -> List[str]:
@@ -140,8 +136,7 @@ def who_else(file: str) -> str:
         return "everybody"
     ours = (0, grp.getgrnam(GROUP).gr_gid)
     if about.st_mode & stat.S_IRWXG and about.st_gid not in ours and _leads(found, about.st_gid):
-        names = [it.gr_name for it in grp.getgrall() if it.gr_gid == about.st_gid]
-        return f"the group {names[0] if names else about.st_gid}"
+        return "the group " + next((it.gr_name for it in grp.getgrall() if it.gr_gid == about.st_gid), str(about.st_gid))
     return ""
 
 

@@ -129,7 +129,7 @@ class WayUse:
 
     def person_now(self) -> str:
         person = sites.person_of(self.site.keys, self.auth)
-        if not person:
+        if not (person or self.job):  # (a job comes by no key)
             raise NotYours("your key is nobody's any more, or of two")
         return person
 
@@ -254,8 +254,7 @@ class WayUse:
                 self.unit.hand(json.dumps(told).encode(), [*self.fds, *opened])
             except OSError:
                 look()  # (where the hold has ended, or the key is away, the guard ends the unit before it has begun)
-                if not self.job:
-                    self.person_now()
+                self.person_now()
                 raise
         for it in (*self.fds, *opened):
             os.close(it)
@@ -297,8 +296,7 @@ class WayUse:
             seen = self.lookout.boards().get(self.board)
         if seen is None or not seen.is_held_by(self.hold):
             raise Lost(f"{self.board}: {self.hold} has ended")
-        if not self.job:
-            self.person_now()
+        self.person_now()
         raise Refusal(f"{self.board}: the way was killed")
 
     def tidy(self, board: BoardSeen, wanted: Wanted) -> int:
@@ -307,8 +305,7 @@ class WayUse:
             raise BadWay("root says: BOARD tidy")
         with holds.locked(board.name):
             seen = asked_again(self.lookout.boards)[board.name]
-            last = holds.last_of(board.name)
-            if last != holds.UNKNOWN:  # (an admin may have come to the board since, which is free)
+            if (last := holds.last_of(board.name)) != holds.UNKNOWN:  # (an admin may have come to the board since, which is free)
                 holds.clean(seen, last if seen.is_held_by(last) else seen.hold, self.between)
         return 0
 
