@@ -30,7 +30,6 @@ import itertools
 import json
 import os
 import random
-import secrets
 import shutil
 import socket
 import subprocess
@@ -56,19 +55,14 @@ export PATH=/bin:/sbin:/usr/bin:/usr/sbin
 /bin/busybox --install -s
 mount -t proc proc /proc; mount -t sysfs sys /sys; mount -t devtmpfs dev /dev
 for module in /modules/*.ko; do insmod "$module"; done 2> /dev/null
+name=$(sed 's/.*machine=\\([a-z]*\\).*/\\1/' /proc/cmdline)
+hostname "$name"
 ip link set lo up
+ip addr add "$(sed -n "s/.*on $name .*address \\([0-9.]*\\):.*/\\1/p" /etc/drbd.d/farm.res)/24" dev eth0; ip link set eth0 up
 ip addr add 10.0.2.15/24 dev eth1; ip link set eth1 up
 stty -F /dev/ttyS0 -echo
 exec < /dev/ttyS0 > /dev/ttyS0 2>&1
-# (until here all machines are the same; the kernel has no news of being another one than it was)
-while echo READY; ! read -r -t 1 name now seed; do :; done
-date -s "@$now"
-echo "$seed" > /dev/urandom
-python3 -IS -c 'import fcntl; fcntl.ioctl(open("/dev/urandom"), 0x5207)'  # RNDRESEEDCRNG
-hostname "$name"
-address=$(sed -n "s/.*on $name .*address \\([0-9.]*\\):.*/\\1/p" /etc/drbd.d/farm.res)
-ip link set eth0 address "52:54:00:00:00:0${address##*.}"; ip addr add "$address/24" dev eth0; ip link set eth0 up
-echo "DONE $?"
+echo "READY $name"
 while read -r line; do
     eval "$line" < /dev/null
     echo "DONE $?"
@@ -96,10 +90,8 @@ sys.path[:0] = ["/opt/farm/tools", "/opt/farm/src"]
 from farm_dispatch import main
 sys.exit(main.main())
 """
-# (or DRBD takes what is emulated for a slow cable that others need)
-HURRIES = "c-plan-ahead 0; resync-rate 400M; c-min-rate 0;"
 RELAY_PORT = 16421  # pdudaemon's
-DISK = 24 << 20  # (most of which is copied once a machine comes back)
+DISK = 64 << 20
 BODY, JOB = {"tags": ["hdmi"]}, "job_name = 'short'\ndevice_type = 'real'\n"
 LAB = (
     ("/types", {"name": "virtual"}), ("/types", {"name": "real"}), ("/boards", {"name": "v1", "type": "virtual", "tags": ["hdmi"]}),
@@ -171,7 +163,6 @@ def ramdisk(program: str, folder: str) -> str:
     write(root, "etc/drbd.conf", 'include "drbd.d/*.res";\n')
     with open(f"{TOP}/examples/farm.res", encoding="utf-8") as file:
         text = file.read().replace("/dev/VOLUME_GROUP/farm-rest", "/dev/vdb").replace("/dev/VOLUME_GROUP/farm", "/dev/vda")
-    text = text.replace("disk {", f"disk {{ {HURRIES}", 1)
     write(root, "etc/drbd.d/farm.res", text)
     write(root, "init", INIT, 0o755)
     image = os.path.join(folder, "image.gz")
@@ -192,7 +183,6 @@ def put_dispatcher(root: str) -> None:
     for name, to in (("tools/farm_dispatch", "tools/farm_dispatch"), ("python/src/fizgruk", "src/fizgruk")):
         shutil.copytree(f"{TOP}/{name}", f"{root}/opt/farm/{to}", ignore=shutil.ignore_patterns("__pycache__"))
     put(root, "opt/farm/tools/farm-worker", f"{TOP}/tools/farm-worker")
-    subprocess.run(["/usr/bin/python3", "-m", "compileall", "-q", f"{root}/opt/farm"], check=True)
     write(root, "opt/farm/dispatch.py", DISPATCH)
     write(root, "bin/begins", BEGINS, 0o755)
 
@@ -256,19 +246,13 @@ class Machine:
     def serial(self) -> str:
         return f"{self.folder}/{self.name}.serial"
 
-    @property
-    def booted(self) -> str:
-        """What keep_booted kept, if it did."""
-        return f"{os.path.dirname(self.image)}/booted"
-
     def words(self) -> List[str]:
         """What QEMU is started with."""
         mac = f"52:54:00:00:00:0{list(OTHER).index(self.name)}"
         words = [
             *"qemu-system-x86_64 -accel tcg,tb-size=64 -cpu max -M pc -m 384 -display none -no-reboot -serial chardev:s".split(),
             "-kernel", kernel(), "-initrd", self.image,
-            "-append", "console=ttyS1 panic=-1 quiet no_timer_check",
-            "-monitor", f"unix:{self.folder}/{self.name}.monitor,server=on,wait=off",
+            "-append", f"console=ttyS1 panic=-1 quiet no_timer_check machine={self.name}",
             "-chardev", f"socket,id=s,path={self.serial},server=on,wait=off", "-serial", f"file:{self.folder}/{self.name}.console",
             # (a cable that outlives either end)
             "-netdev", f"socket,id=n,mcast=230.0.0.1:{self.cable},localaddr=127.0.0.1",
@@ -286,8 +270,7 @@ class Machine:
     def boot(self) -> None:
         with contextlib.suppress(FileNotFoundError):
             os.unlink(self.serial)
-        kept = ["-incoming", f"exec:cat {self.booted}"] if os.path.exists(self.booted) else []
-        self.process = subprocess.Popen(self.words() + kept, stdin=subprocess.DEVNULL, start_new_session=True)
+        self.process = subprocess.Popen(self.words(), stdin=subprocess.DEVNULL, start_new_session=True)
         write(self.folder, f"{self.name}.on", "")
         self.line = socket.socket(socket.AF_UNIX)
         until = time.monotonic() + PATIENCE
@@ -297,16 +280,6 @@ class Machine:
             time.sleep(0.1)
         self.read = self.line.makefile("r", errors="replace")
         self._until("READY")
-
-    def keep_booted(self) -> None:
-        """Boots it, and keeps what it then is, with which each later boot begins: one that is emulated takes 15 seconds."""
-        self.boot()
-        with socket.socket(socket.AF_UNIX) as monitor:
-            monitor.connect(f"{self.folder}/{self.name}.monitor")
-            monitor.sendall(f'migrate "exec:cat > {self.booted}"\nquit\n'.encode())
-            assert self.process
-            self.process.wait(PATIENCE)
-        self.kill()
 
     def _until(self, word: str) -> Tuple[str, List[str]]:
         self.line.settimeout(PATIENCE)
@@ -359,7 +332,6 @@ class Machine:
 
     def comes_back(self) -> None:
         self.boot()
-        self.do(f"{self.name} {time.time():.0f} {secrets.token_hex(32)}")
         self.do(f"echo 'http://10.0.2.9:16421/off?port={OTHER[self.name]} 0' > /etc/farm/fence.conf")
 
     def is_primary(self) -> bool:
@@ -369,7 +341,7 @@ class Machine:
         """Runs what is given its boards, as a try by hand: there is no systemd."""
         self.do("mount /dev/drbd1 /rest && mkdir -p /rest/dispatch")
         words = "--server http://127.0.0.1:9080 --folder /rest/dispatch --every 1 --clock any begins"
-        self.do(f"python3 /opt/farm/dispatch.py {words} > /tmp/dispatch 2>&1 &")
+        self.do(f"PYTHONDONTWRITEBYTECODE=1 python3 /opt/farm/dispatch.py {words} > /tmp/dispatch 2>&1 &")
 
     def serves(self) -> None:
         """Serves the farm, which is mounted where it isn't yet."""
@@ -479,9 +451,9 @@ class Found:
 class Trial:
     """Two machines and their people."""
 
-    def __init__(self, image: str, folder: str, seed: int, form: str, tell: Callable[[str], None]):
+    def __init__(self, program: str, folder: str, seed: int, form: str, tell: Callable[[str], None]):
         self.form, self.folder, self.tell, self.dice, self.found = form, folder, tell, random.Random(seed), Found()
-        cable = free_port()
+        image, cable = ramdisk(os.path.realpath(program), folder), free_port()
         self.machines = {name: Machine(name, image, folder, cable) for name in OTHER}
 
     def begin(self) -> None:
@@ -654,30 +626,18 @@ class Trial:
                 machine.kill()
 
 
-def prepare(program: str, folder: str) -> str:
-    """The ramdisk of machines in a folder, where beside it is what they are once they have booted."""
-    image = ramdisk(os.path.realpath(program), folder)
-    Machine("alpha", image, folder, free_port()).keep_booted()
-    return image
-
-
-def tries(image: str, rounds: int, seed: int, form: str, tell: Callable[[str], None] = print) -> Found:
-    with tempfile.TemporaryDirectory() as folder:
-        return Trial(image, folder, seed, form, tell).run(rounds)
-
-
-def main(program: str, rounds: int = 20, seed: int = 1, form: str = "plain") -> Found:
+def main(program: str, rounds: int = 20, seed: int = 1, form: str = "plain", tell: Callable[[str], None] = print) -> Found:
     why = lacking()
     if why:
         raise Wrong(why)
     with tempfile.TemporaryDirectory() as folder:
-        return tries(prepare(program, folder), rounds, seed, form, lambda text: print(text, flush=True))
+        return Trial(program, folder, seed, form, tell).run(rounds)
 
 
 if __name__ == "__main__":
     given = sys.argv[1:]
     if not given:
         sys.exit(__doc__)
-    came = main(given[0], *map(int, given[1:3]), *given[3:])
+    came = main(given[0], *map(int, given[1:3]), *given[3:], tell=lambda text: print(text, flush=True))
     is_well = not (came.twice or came.otherwise or came.begun_twice) and bool(came.lost) == (given[3:] == ["cut"])
     sys.exit(not is_well)

@@ -347,4 +347,4 @@ def test_who_may_reach_the_boards_addresses_is_said_without_a_desk_too(lab: Lab)
         lab.machine.run("systemctl", "restart", "farm-access-guard")
         assert "reject" in lab.machine.run("nft", "list", "table", "inet", "farm").stdout
     finally:
-        lab.machine.run("systemctl", "start", "farm")
+        lab.machine.serve()

@@ -185,7 +185,7 @@ health = "Bad"
 def test_what_the_desk_ignores_of_a_lab_file_is_told(lab: Farm, text: str, accepted: int, warnings: List[str]) -> None:
     status, said, errors = desk(lab, "import", "-", given=text, user="")
     assert (status, said) == (0, f"accepted {accepted}, kept 0\n")
-    assert errors.splitlines() == [f"desk: -: {it}" for it in warnings]
+    assert [it for it in errors.splitlines() if it.startswith("desk: -: ")] == [f"desk: -: {it}" for it in warnings]
 
 
 # ---- version, completion
