@@ -140,8 +140,7 @@ class Collection:
         options, bytes_in_all = self.options, self.bytes + size
         reasons = (
             (kind == "l", "a link"), (kind == "x", "it can't be read"), (kind != "f", "no file"),
-            (not is_name(name), "its name is too long, or no text"),
-            (name.count("/") > DEEPEST, f"more than {DEEPEST} folders deep"),
+            (not is_name(name), "its name is too long, or no text"), (name.count("/") > DEEPEST, f"more than {DEEPEST} folders deep"),
             (not 0 <= size <= options.artifact_limit, f"larger than {limits.size_words(options.artifact_limit)}"),
             (len(self.wanted) >= options.artifact_count, f"beyond {options.artifact_count:,} files"),
             (bytes_in_all > options.artifacts_limit, f"beyond {limits.size_words(options.artifacts_limit)} in all"),

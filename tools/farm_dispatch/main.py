@@ -21,15 +21,11 @@ seconds, count_of = parsers.decimal(0.001, 1e9), parsers.whole(1, 10**9 - 1)
 tell = Teller("farm-dispatch")
 AWAY, NOT_STARTED = 1, 5
 STANDS = "a command can't be started ({}): until it can, nothing is started, no pass made, and no job finished by it"
-UNSYNCHRONIZED = (
-    "this machine's time service runs and hasn't set the clock yet: nothing is asked of the desk until it has, since a "
-    "farm's clock never falls back (--clock any: ask all the same)"
-)
+UNSYNCHRONIZED = """this machine's time service runs and hasn't set the clock yet: nothing is asked of the desk until it has, \
+since a farm's clock never falls back (--clock any: ask all the same)"""
 LOCK, LOCKED_WITHIN, SET, BOOT = "lock", 2.0, "synchronized", "/proc/sys/kernel/random/boot_id"
-BY_HAND = (
-    "by hand: jobs are plain processes of this account, are ended with farm-dispatch, and what leaves its process group "
-    "lives on"
-)
+BY_HAND = """by hand: jobs are plain processes of this account, are ended with farm-dispatch, and what leaves its process \
+group lives on"""
 
 
 def time_of(text: str) -> float:
@@ -61,8 +57,7 @@ its log: a file that is beyond them isn't kept"""),
     "artifact_count": ("COUNT", "1000", "The most files of these, 10,000 at most"),
     "workers": ("FILE", "/etc/farm/workers.toml", """The machines beside this one that run jobs: its table [workers] has of \
 each its name, as in the tag worker=NAME of boards, and where ssh(1) goes for it, as 'root@rack2.lab.example'"""),
-    "notes": ("FILE", "/etc/farm/notes.toml", """The lab's notes of boards, which DIR/notes.json shows, where the file is \
-there"""),
+    "notes": ("FILE", "/etc/farm/notes.toml", "The lab's notes of boards, which DIR/notes.json shows, where the file is there"),
     "clock": ("WORD", "synchronized", """'synchronized': where timedatectl(1) says that a time service runs, the desk is asked \
 once it has set this machine's clock; 'any': at once, as where that reaches no server, or the desk is on another machine"""),
 }
@@ -80,8 +75,7 @@ All that it says goes to DIR/logs/NUMBER, and what it leaves in the folder 'out'
 With COMMAND it is a try by hand, without systemd and other machines: jobs are plain children, and are ended with it."""
 STATUSES = (
     ("0", "It was ended by SIGTERM or SIGINT; with --check: each machine answers."),
-    ("1", "With --check: one doesn't, or can't run jobs."),
-    ("2", "Bad words, or a setting that there isn't."),
+    ("1", "With --check: one doesn't, or can't run jobs."), ("2", "Bad words, or a setting that there isn't."),
     ("4", "Bad settings, or DIR can't be used, or it is another dispatcher's."),
     ("5", "It was ended by SIGTERM or SIGINT while no command could be started."),
 )

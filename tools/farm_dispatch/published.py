@@ -181,8 +181,7 @@ def about(members: List[Dict[str, Any]]) -> Dict[str, Any]:
     """What the history will say of a group that got its boards, by its members' views."""
     first = members[0]
     return {
-        "owner": first["owner"],
-        "name": records.CHECK if first["kind"] == "check" else job_file.name_of(first["text"])[:LONGEST_NAME],
+        "owner": first["owner"], "name": records.CHECK if first["kind"] == "check" else job_file.name_of(first["text"])[:LONGEST_NAME],
         "members": [{"job": it["number"], "board": it["board"], "type": it["type"]} for it in members],
     }
 

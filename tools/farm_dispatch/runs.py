@@ -395,8 +395,6 @@ def files_of(views: Rows, rows: Rows, folder: str) -> Dict[str, str]:
         "FARM_FOLDER": folder,
     }
     return {
-        "job.toml": first["text"],
-        "boards": "".join(f"{it['name']} {it['type']} {it['role'] or '-'} {it['job']}\n" for it in rows),
-        "boards.json": json.dumps(rows, indent=1) + "\n",
-        "env": "".join(f'{name}="{text}"\n' for name, text in pairs.items()),
+        "job.toml": first["text"], "boards": "".join(f"{it['name']} {it['type']} {it['role'] or '-'} {it['job']}\n" for it in rows),
+        "boards.json": json.dumps(rows, indent=1) + "\n", "env": "".join(f'{name}="{text}"\n' for name, text in pairs.items()),
     }

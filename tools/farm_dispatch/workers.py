@@ -29,9 +29,8 @@ LOG_PART = 8_000_000  # bytes that one call gives of a log, at most
 MOST_ROWS = 600_000  # that are read of a look: farm-worker's own have 30 bytes at least
 # (What a worker says to stderr goes into a file: who writes more there is ended, ssh or the master that it left.)
 SSH = (
-    "prlimit", "--fsize=1000000", "--core=0",
-    "ssh", "-T", "-o", "BatchMode=yes", "-o", "ConnectTimeout=5", "-o", "ServerAliveInterval=3",
-    "-o", "ServerAliveCountMax=3", "-o", "ControlMaster=auto", "-o", "ControlPersist=60",
+    "prlimit", "--fsize=1000000", "--core=0", "ssh", "-T", "-o", "BatchMode=yes", "-o", "ConnectTimeout=5",
+    "-o", "ServerAliveInterval=3", "-o", "ServerAliveCountMax=3", "-o", "ControlMaster=auto", "-o", "ControlPersist=60",
 )
 
 
